@@ -1,0 +1,2 @@
+-- One file for each notion of specs/.
+pub mod Marked

@@ -1,0 +1,29 @@
+-- Terms and formulas. Cells, locals and arrays stand by their numbers in the sheet; a formula that can end in an error leaf carries
+-- the number of its token first. Assumes nothing.
+use Prim.Native.Nat.{ℕ}
+use lib.IntN.{ℤ}
+
+-- `add`, `sub`, `mul`, `div`, `mod`
+pub data Op : Type 0 where
+  add sub mul div modulo : Op
+
+-- the atoms that compare and never assign
+pub data Rel : Type 0 where
+  ne lt le gt ge : Rel
+
+pub data Term : Type 0 where
+  constant : ℤ → Term
+  scalarAt : ℕ → Term
+  localAt : ℕ → Term
+  elementAt : ℕ → Term → Term
+  apply : Op → Term → Term → Term
+
+pub data Formula : Type 0 where
+  truth : Formula
+  and or : Formula → Formula → Formula
+  imp : ℕ → Formula → Formula → Formula
+  neg : ℕ → Formula → Formula
+  eq : ℕ → Term → Term → Formula
+  compare : ℕ → Rel → Term → Term → Formula
+  ex : ℕ → Formula → Formula
+  some all : ℕ → ℕ → Term → Term → Formula → Formula

@@ -1,0 +1,30 @@
+-- To unfold one of these is to unfold all the definitions that it stands for: a table's theorem names the three. Assumes nothing.
+use Rattle.specification.specs.Bytes.{classOf, classNumber, isIn, inNumber, inToken, run, same, begins}
+use Rattle.specification.specs.Number.{allDigits, decimal, wellFormed, natural, integer, digits, printℕ, printℤ}
+use Rattle.specification.specs.Parser.{mark, exactly, taken}
+use Rattle.specification.specs.Lines.{index, count, value, line, lengths, arraysLine, sum, cells, firstOf, lengthOf, isDeclared, cellOf}
+use Rattle.specification.specs.Given.{scalarName, elementName, name, item, items, givenLine}
+use Rattle.specification.specs.Words.{words, nameOf, find, wordOf}
+use Rattle.specification.specs.Formula.{token, has, binder, term, formula}
+use Rattle.specification.specs.Sheet.{sheet, read}
+use Rattle.specification.specs.Place.{put}
+use Rattle.specification.specs.Arithmetic.{fit, compute, test}
+use Rattle.specification.specs.Value.{pairOf, elementSide, side}
+use Rattle.specification.specs.Inner.{joined, verdict, closedTerm, closedFormula, closed}
+use Rattle.specification.specs.Tree.{equate, compared, bounded, sons, rounds, enquire, grow, treeOf}
+use Rattle.specification.specs.Visits.{_then_, each, inside, visits}
+use Rattle.specification.specs.Listing.{scalarNames, elementNames, arrayNames, cellNames, valued, blockOf, headLines, cellLines, blockLines, labelText, linesText, blockText, listingText}
+use Rattle.specification.specs.Run.{block, arrive, visit, scan}
+use Rattle.specification.specs.Outcome.{start, visitsOf, runOf, call}
+
+unfoldable pub read-defs : Type 0
+unfolding classOf classNumber isIn inNumber inToken run same begins allDigits decimal wellFormed natural integer mark exactly taken index count value line lengths arraysLine sum cells firstOf lengthOf isDeclared cellOf scalarName elementName name item items givenLine words nameOf find wordOf token has binder term formula sheet read
+read-defs = Unit {0}
+
+unfoldable pub tree-defs : Type 0
+unfolding put fit compute test pairOf elementSide side joined verdict closedTerm closedFormula closed equate compared bounded sons rounds enquire grow treeOf
+tree-defs = Unit {0}
+
+unfoldable pub run-defs : Type 0
+unfolding _then_ each inside visits digits printℕ printℤ scalarNames elementNames arrayNames cellNames valued blockOf headLines cellLines blockLines labelText linesText blockText listingText block arrive visit scan start visitsOf runOf call
+run-defs = Unit {0}

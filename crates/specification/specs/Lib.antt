@@ -1,0 +1,23 @@
+-- What a reader must believe, in the order of document 01. The laws are under proofs/.
+pub mod Bytes
+pub mod Number
+pub mod Parser
+pub mod Lines
+pub mod Given
+pub mod Ast
+pub mod Words
+pub mod Formula
+pub mod Sheet
+pub mod Place
+pub mod Arithmetic
+pub mod Value
+pub mod Inner
+pub mod Tree
+pub mod Visits
+pub mod Listing
+pub mod Run
+pub mod Outcome
+pub mod Plain
+pub mod Demand3
+pub mod Marked
+pub mod Bundles

@@ -1,0 +1,103 @@
+-- The lines with one number, and the line of arrays: what a sheet declares. In the first five lines a number is the longest run of
+-- digits and minus signs. Assumes nothing.
+use Prim.Native.Nat.{ℕ, zero, suc, _+_, _-_}
+use mathlib.Core.Bool.{Bool}
+use mathlib.Core.List.{List, [], _∷_}
+use lib.ListN.{take, getD}
+use lib.Dec.{ltb}
+use lib.IntN.{ℤ}
+use Rattle.specification.specs.Bytes.{Bytes, bytes, pick, between, feed, comma, inNumber}
+use Rattle.specification.specs.Number.{natural, integer, in32}
+use Rattle.specification.specs.Parser.{Parser, give, refuse, require, present, _>>=_, _>>_, here, sees, mark, taken, key}
+
+-- ---- numbers
+
+-- a number without a minus, however large
+unfoldable pub index : Parser ℕ
+index = do
+  p ← here
+  bs ← taken inNumber
+  present 4 p (natural bs)
+
+-- a number within its limits
+unfoldable pub count : ℕ → ℕ → Parser ℕ
+count lo hi = do
+  p ← here
+  n ← index
+  require (between lo hi n) 4 p (give n)
+
+-- a value in 32 bits
+unfoldable pub value : Parser ℤ
+value = do
+  p ← here
+  bs ← taken inNumber
+  z ← present 4 p (integer bs)
+  require (in32 z) 4 p (give z)
+
+-- ---- a line with one number
+
+unfoldable pub line : Bytes → ℕ → ℕ → Parser ℕ
+line k lo hi = do
+  key k
+  n ← count lo hi
+  mark feed
+  give n
+
+-- ---- arrays
+
+-- what a sheet declares: its edition, how many scalars and locals there are, and the length of each array
+pub record Declared : Type 0 where
+  pub edition : ℕ
+  pub scalars : ℕ
+  pub locals : ℕ
+  pub arrays : List ℕ
+
+-- lengths with commas between, where k more arrays may follow and so many cells are left
+unfoldable pub lengths : ℕ → ℕ → Parser (List ℕ)
+lengths zero left = here >>= refuse 4
+lengths (suc k) left = do
+  n ← count 1 left
+  more ← sees comma
+  ns ← (let r = mark comma >> lengths k (left - n) in pick more r (give []))
+  give (n ∷ ns)
+
+-- empty, or up to 16 lengths; scalars and elements together are at most 512
+unfoldable pub arraysLine : ℕ → Parser (List ℕ)
+arraysLine scalars = do
+  key (bytes "arrays=")
+  none ← sees feed
+  ns ← pick none (give []) (lengths 16 (512 - scalars))
+  mark feed
+  give ns
+
+-- ---- cells: the scalars, then the elements of the arrays in order
+
+unfoldable pub sum : List ℕ → ℕ
+sum [] = 0
+sum (n ∷ ns) = n + sum ns
+
+-- `v0` or `a0.2`
+pub data CellName : Type 0 where
+  scalar : ℕ → CellName
+  element : ℕ → ℕ → CellName
+
+module _ (D : Declared) where
+  unfoldable pub cells : ℕ
+  cells = D .scalars + sum (D .arrays)
+
+  -- the first cell of an array
+  unfoldable pub firstOf : ℕ → ℕ
+  firstOf a = D .scalars + sum (take a (D .arrays))
+
+  -- 0 where the array is not declared
+  unfoldable pub lengthOf : ℕ → ℕ
+  lengthOf a = getD (D .arrays) a 0
+
+  unfoldable pub isDeclared : CellName → Bool
+  isDeclared (scalar n) = ltb n (D .scalars)
+  isDeclared (element a e) = ltb e (lengthOf a)
+
+  -- the number of a cell by its name
+  unfoldable pub cellOf : CellName → ℕ
+  cellOf (scalar n) = n
+  cellOf (element a e) = firstOf a + e

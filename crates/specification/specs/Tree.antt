@@ -1,0 +1,117 @@
+-- The computation tree (source document 001, Definition 4, with bounded quantifiers of 1.4.4): one clause for each case of document 01,
+-- "The tree". A node is a list of formulas still to hold and a valuation; the first formula decides. `grow F k α` is the tree of a list
+-- that begins with F, where k gives the tree of the rest, so the definition is structural in F. Assumes nothing.
+use Prim.Native.Nat.{ℕ, zero, suc}
+use mathlib.Core.Bool.{Bool, true, false, _&&_}
+use mathlib.Core.List.{List, [], _∷_}
+use lib.Dec.{leb}
+use lib.IntN.{ℤ, pos, _+ℤ_}
+use Rattle.specification.specs.Bytes.{pick}
+use Rattle.specification.specs.Lines.{Declared}
+use Rattle.specification.specs.Ast.{Rel, Formula, truth, and, or, imp, neg, eq, compare, ex, some, all}
+use Rattle.specification.specs.Arithmetic.{noValue, openVariable, undecidedInside, eqZ, test, count}
+use Rattle.specification.specs.Place.{Place, cell, local, put}
+use Rattle.specification.specs.Value.{Slot, empty, full, Valuation, Side, val, bare, err, Pair, values, faulty, pairOf, side}
+use Rattle.specification.specs.Inner.{Tree, successLeaf, failureLeaf, errorLeaf, step, fork, fan, ask, Verdict, succeeds, fails, undecided, verdict, closed}
+
+-- the tree of the rest of a list, from a valuation
+abbrev pub Rest : Type 0
+Rest = Valuation → Tree
+
+-- ---- atoms
+
+-- go on, or a failure leaf
+abbrev pub check : Bool → Rest → Rest
+check true k α = k α
+check false k α = failureLeaf
+
+module _ (D : Declared) where
+  abbrev pub isElement : Place → Bool
+  isElement (cell c) = leb (D .scalars) c
+  isElement (local l) = false
+
+  -- in an inner tree `eq` never assigns an array element
+  abbrev pub assignUnless : Bool → ℕ → Place → ℤ → Rest → Rest
+  assignUnless true tok p v k α = errorLeaf noValue tok α
+  assignUnless false tok p v k α = k (put α p (full v))
+
+  abbrev pub assign : Bool → ℕ → Place → ℤ → Rest → Rest
+  assign inner tok p v k α = assignUnless (inner && isElement p) tok p v k α
+
+  -- `eq`: a bare side raises nothing if the other side has an error of its own; two bare sides are kind 1
+  unfoldable pub equate : Bool → ℕ → Side → Side → Rest → Rest
+  equate inner tok (val x) (val y) k α = check (eqZ x y) k α
+  equate inner tok (val x) (bare q) k α = assign inner tok q x k α
+  equate inner tok (bare p) (val y) k α = assign inner tok p y k α
+  equate inner tok (bare p) (bare q) k α = errorLeaf noValue tok α
+  equate inner tok (bare p) (err κ) k α = errorLeaf κ tok α
+  equate inner tok (val x) (err κ) k α = errorLeaf κ tok α
+  equate inner tok (err κ) y k α = errorLeaf κ tok α
+
+-- the atoms that compare
+unfoldable pub compared : ℕ → Rel → Pair → Rest → Rest
+compared tok r (values x y) k α = check (test r x y) k α
+compared tok r (faulty κ) k α = errorLeaf κ tok α
+
+-- ---- bounded quantifiers
+
+-- bounds with values, or the quantifier's node with an error leaf as its son
+unfoldable pub bounded : ℕ → Pair → (ℤ → ℤ → Rest) → Rest
+bounded tok (values x y) k α = k x y α
+bounded tok (faulty κ) k α = step (errorLeaf κ tok α)
+
+-- `some`: a son for each of n values; an empty range gives a failure leaf
+unfoldable pub sons : ℕ → (ℕ → Tree) → Tree
+sons zero f = step failureLeaf
+sons (suc n) f = fan (suc n) f
+
+-- `all` with n values left, the lowest v: a son that begins with F for v, then the same `all` over the values left, then the rest
+unfoldable pub rounds : (Rest → Rest) → ℕ → Rest → ℕ → ℤ → Rest
+rounds F l k zero v α = let T = k α in step T
+rounds F l k (suc n) v α =
+    let T = F (λ β. rounds F l k n (v +ℤ pos 1) β) (put α (local l) (full v)) in step T
+
+-- ---- `not` and `imp`
+
+abbrev pub denied : ℕ → Verdict → Rest → Rest
+denied tok succeeds k α = failureLeaf
+denied tok fails k α = k α
+denied tok undecided k α = errorLeaf undecidedInside tok α
+
+abbrev pub implied : ℕ → Verdict → Rest → Rest → Rest
+implied tok succeeds g k α = g α
+implied tok fails g k α = k α
+implied tok undecided g k α = errorLeaf undecidedInside tok α
+
+-- a node with an inner tree, and the son that the verdict on it leads to; where a variable is open, an error leaf
+unfoldable pub enquire : ℕ → Bool → Rest → (Verdict → Rest) → Rest
+enquire tok true inner next α = let I = inner α in let T = next (verdict I) α in ask I T
+enquire tok false inner next α = step (errorLeaf openVariable tok α)
+
+-- ---- the tree
+
+-- the empty list: one son, a success leaf
+abbrev pub done : Rest
+done α = step (successLeaf α)
+
+module _ (D : Declared) where
+  -- the Bool: whether the tree is an inner one
+  unfoldable pub grow : Bool → Formula → Rest → Rest
+  grow m truth k α = let T = k α in step T
+  grow m (eq tok s t) k α = let T = equate D m tok (side D α s) (side D α t) k α in step T
+  grow m (compare tok r s t) k α = let T = compared tok r (pairOf (side D α s) (side D α t)) k α in step T
+  grow m (or F G) k α = let T = grow m F k α in let U = grow m G k α in fork T U
+  grow m (and F G) k α = let T = grow m F (λ β. grow m G k β) α in step T
+  grow m (imp tok F G) k α =
+      enquire tok (closed α F) (λ β. grow true F done β) (λ v. implied tok v (λ β. grow m G k β) k) α
+  grow m (neg tok F) k α = enquire tok (closed α F) (λ β. grow true F done β) (λ v. denied tok v k) α
+  grow m (ex l F) k α = let T = grow m F k (put α (local l) empty) in step T
+  grow m (some tok l a b F) k α =
+      bounded tok (pairOf (side D α a) (side D α b))
+      (λ x y β. sons (count x y) (λ i. grow m F k (put β (local l) (full (x +ℤ pos i))))) α
+  grow m (all tok l a b F) k α =
+      bounded tok (pairOf (side D α a) (side D α b)) (λ x y. rounds (λ k′ β. grow m F k′ β) l k (count x y) x) α
+
+  unfoldable pub treeOf : List Formula → Rest
+  treeOf [] α = done α
+  treeOf (F ∷ Fs) α = grow false F (λ β. treeOf Fs β) α

@@ -1,0 +1,69 @@
+-- Valuations, and what a term is under one (source document 001, Definition 1): a value, a bare cell or local without value, or an
+-- error kind. Operands go left to right, the operation last. Assumes nothing.
+use Prim.Native.Nat.{ℕ, _+_}
+use mathlib.Core.Bool.{Bool, true, false}
+use lib.Dec.{ltb}
+use lib.IntN.{ℤ, pos, negsuc}
+use Rattle.specification.specs.Lines.{Declared, firstOf, lengthOf}
+use Rattle.specification.specs.Ast.{Op, Term, constant, scalarAt, localAt, elementAt, apply}
+use Rattle.specification.specs.Place.{Place, cell, local}
+use Rattle.specification.specs.Arithmetic.{noValue, outsideArray, Computed, value, fault, compute}
+
+-- ---- valuations
+
+pub data Slot : Type 0 where
+  empty : Slot
+  full : ℤ → Slot
+
+abbrev pub Valuation : Type 0
+Valuation = Place → Slot
+
+-- ---- terms
+
+pub data Side : Type 0 where
+  val : ℤ → Side
+  bare : Place → Side
+  err : ℕ → Side
+
+abbrev pub look : Slot → Place → Side
+look empty p = bare p
+look (full v) p = val v
+
+-- two values, or the error of the first side that has none
+pub data Pair : Type 0 where
+  values : ℤ → ℤ → Pair
+  faulty : ℕ → Pair
+
+unfoldable pub pairOf : Side → Side → Pair
+pairOf (val x) (val y) = values x y
+pairOf (val x) (bare q) = faulty noValue
+pairOf (val x) (err κ) = faulty κ
+pairOf (bare p) y = faulty noValue
+pairOf (err κ) y = faulty κ
+
+abbrev pub sideOf : Computed → Side
+sideOf (value z) = val z
+sideOf (fault κ) = err κ
+
+module _ (D : Declared) (α : Valuation) where
+  abbrev pub operate : Op → Pair → Side
+  operate o (values x y) = sideOf (compute (D .edition) o x y)
+  operate o (faulty κ) = err κ
+
+  abbrev pub inArray : Bool → ℕ → Side
+  inArray true c = look (α (cell c)) (cell c)
+  inArray false c = err outsideArray
+
+  -- an element is bare if its index has a value inside the array; another index raises its error
+  unfoldable pub elementSide : ℕ → Side → Side
+  elementSide a (val (pos i)) = inArray (ltb i (lengthOf D a)) (firstOf D a + i)
+  elementSide a (val (negsuc i)) = err outsideArray
+  elementSide a (bare p) = err noValue
+  elementSide a (err κ) = err κ
+
+  unfoldable pub side : Term → Side
+  side (constant z) = val z
+  side (scalarAt c) = look (α (cell c)) (cell c)
+  side (localAt l) = look (α (local l)) (local l)
+  side (elementAt a t) = elementSide a (side t)
+  side (apply o s t) = operate o (pairOf (side s) (side t))
