@@ -20,4 +20,5 @@ pub mod Outcome
 pub mod Plain
 pub mod Demand3
 pub mod Marked
+pub mod Decided
 pub mod Bundles
