@@ -61,14 +61,14 @@ pub record Agreement (s : Sheet) (listed : List Block) : Type 0 where
   pub complete : (φ : Filling) → Such s φ → True s φ → Some (Agrees (s .declared) φ) listed
   -- where no error block is listed, it makes the formula true exactly when it agrees with some listed answer
   pub exactly-when :
-    Each IsAnswer listed → (φ : Filling) → Such s φ →
-    (True s φ → Some (λ b. IsAnswer b × Agrees (s .declared) φ b) listed) ×
-    (Some (λ b. IsAnswer b × Agrees (s .declared) φ b) listed → True s φ)
+      Each IsAnswer listed → (φ : Filling) → Such s φ →
+      (True s φ → Some (λ b. IsAnswer b × Agrees (s .declared) φ b) listed) ×
+      (Some (λ b. IsAnswer b × Agrees (s .declared) φ b) listed → True s φ)
   -- and no answer is listed exactly when no such filling makes the formula true
   pub none-exactly-when :
-    Each IsAnswer listed →
-    (Each IsError listed → (φ : Filling) → Such s φ → ¬ True s φ) ×
-    (((φ : Filling) → Such s φ → ¬ True s φ) → Each IsError listed)
+      Each IsAnswer listed →
+      (Each IsError listed → (φ : Filling) → Such s φ → ¬ True s φ) ×
+      (((φ : Filling) → Such s φ → ¬ True s φ) → Each IsError listed)
 
 -- of the sheet's bytes and the bytes written: the sheet that is read, and the blocks that stand there, which are the only ones that can
 pub record Demand3 (sheet written : Bytes) : Type 0 where

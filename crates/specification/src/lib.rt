@@ -26,6 +26,13 @@ pub struct Tallies {
 
 // What a call returns: a refusal's number and byte place, or how the run ended and the bytes written.
 pub enum Outcome {
-    Refused { number: u32, place: usize },
-    Ran { end: End, tallies: Tallies, written: usize },
+    Refused {
+        number: u32,
+        place: usize,
+    },
+    Ran {
+        end: End,
+        tallies: Tallies,
+        written: usize,
+    },
 }
