@@ -1,3 +1,9 @@
 -- One file for each notion of specs/.
 pub mod Marked
 pub mod Scope
+pub mod Lists
+pub mod Print
+pub mod Text
+pub mod Blocks
+pub mod Names
+pub mod Cells
