@@ -7,3 +7,9 @@ pub mod Text
 pub mod Blocks
 pub mod Names
 pub mod Cells
+pub mod Stops
+pub mod Run
+pub mod Budget
+pub mod Leaves
+pub mod Cut
+pub mod Done

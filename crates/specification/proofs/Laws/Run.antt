@@ -1,0 +1,108 @@
+-- Laws of a run: a list of visits is read part by part, each visit that is passed adds one to the nodes, and bytes are only added. What
+-- comes of one visit is in Stops.antt. Assumes nothing.
+use Prim.Native.Nat.{ℕ, _+_}
+use native.Mathlib.Omega.{arith}
+use mathlib.Core.Path.{_≡_, refl, sym, _∙_, ap}
+use mathlib.Core.List.{List, [], _∷_, _++_, append-assoc, append-nil}
+use lib.ListN.{length}
+use Rattle.specification.specs.declared.Setting.{Setting}
+use Rattle.specification.specs.declared.Tallies.{Tallies}
+use Rattle.specification.specs.Bytes.{Bytes}
+use Rattle.specification.specs.Lines.{Declared}
+use Rattle.specification.specs.Visits.{Visit, _then_}
+use Rattle.specification.specs.Run.{Stop, Run, going, stopped, visit, scan}
+use Rattle.specification.specs.Outcome.{resultOf, written}
+use Rattle.specification.proofs.Laws.Stops.{added, counted, counted-nodes, atStop, Meets, Passes, visit-stops, visit-passes, Comes, stops, passes, comes}
+
+-- ---- bytes written
+
+abbrev pub writtenBy : Run → Bytes
+writtenBy r = written (resultOf r)
+
+abbrev pub Prefix : Bytes → Bytes → Type 0
+Prefix xs ys = (zs : Bytes) × (xs ++ zs ≡ ys)
+
+prefix-refl : (xs : Bytes) → Prefix xs xs
+prefix-refl xs = ([], append-nil xs)
+
+prefix-trans : (xs ys zs : Bytes) → Prefix xs ys → Prefix ys zs → Prefix xs zs
+prefix-trans xs ys zs p q = (p .0 ++ q .0, sym (append-assoc xs (p .0) (q .0)) ∙ ap (_++ q .0) (p .1) ∙ q .1)
+
+-- ---- a list of visits
+
+pub then-is-++ : (xs ys : List Visit) → xs then ys ≡ xs ++ ys
+unfolding _then_
+then-is-++ [] ys = refl
+then-is-++ (x ∷ xs) ys = ap (x ∷_) (then-is-++ xs ys)
+
+module _ (D : Declared) (S : Setting) (size : ℕ) where
+  pub scan-stopped : (e : Stop) (t : Tallies) (w : Bytes) (vs : List Visit) → scan D S size (stopped e t w) vs ≡ stopped e t w
+  unfolding scan
+  scan-stopped e t w [] = refl
+  scan-stopped e t w (v ∷ vs) = refl
+
+  pub scan-append : (s : Run) (xs ys : List Visit) → scan D S size s (xs then ys) ≡ scan D S size (scan D S size s xs) ys
+  unfolding scan _then_
+  scan-append s [] ys = refl
+  scan-append (going t w) (x ∷ xs) ys = scan-append (visit D S size x t w) xs ys
+  scan-append (stopped e t w) (x ∷ xs) ys = sym (scan-stopped e t w ys)
+
+  -- a visit that meets a stop is the last, and one that passes is followed by the others
+  module _ (v : Visit) (vs : List Visit) (t : Tallies) (w : Bytes) where
+    pub scan-stops : (e : Stop) → Meets D S size e v t w → scan D S size (going t w) (v ∷ vs) ≡ stopped e (atStop e t) w
+    unfolding scan
+    scan-stops e m = rw (visit-stops D S size e v t w m, scan-stopped e (atStop e t) w vs)
+
+    pub scan-passes : Passes D S size v t w →
+        scan D S size (going t w) (v ∷ vs) ≡ scan D S size (going (counted (v .event) t) (w ++ added D (S .skip) t (v .event))) vs
+    unfolding scan
+    scan-passes m = rw (visit-passes D S size v t w m)
+
+    -- a run that is still going has passed the first visit
+    pub scan-going : (t′ : Tallies) (w′ : Bytes) → scan D S size (going t w) (v ∷ vs) ≡ going t′ w′ →
+        Passes D S size v t w × (scan D S size (going (counted (v .event) t) (w ++ added D (S .skip) t (v .event))) vs ≡ going t′ w′)
+    scan-going t′ w′ h = go (comes D S size v t w)
+      where
+        go : Comes D S size v t w →
+            Passes D S size v t w × (scan D S size (going (counted (v .event) t) (w ++ added D (S .skip) t (v .event))) vs ≡ going t′ w′)
+        go (stops e m) = let q = scan-stops e m in let z : _≡_ {A = ℕ} 0 1 = cc in absurd (omega arith)
+        go (passes m) = (m, sym (scan-passes m) ∙ h)
+
+  -- what holds at the end of the visits, at each stop, and before a visit that is passed if it holds after it, holds of every run
+  pub scan-induction : (P : Tallies → Bytes → List Visit → Run → Type 0) →
+      ((t : Tallies) (w : Bytes) → P t w [] (going t w)) →
+      ((v : Visit) (vs : List Visit) (t : Tallies) (w : Bytes) (e : Stop) → Meets D S size e v t w → P t w (v ∷ vs) (stopped e (atStop e t) w)) →
+      ((v : Visit) (vs : List Visit) (t : Tallies) (w : Bytes) (r : Run) → Passes D S size v t w →
+      P (counted (v .event) t) (w ++ added D (S .skip) t (v .event)) vs r → P t w (v ∷ vs) r) →
+      (vs : List Visit) (t : Tallies) (w : Bytes) → P t w vs (scan D S size (going t w) vs)
+  unfolding scan
+  scan-induction P f g k [] t w = f t w
+  scan-induction P f g k (v ∷ vs) t w =
+      go (comes D S size v t w) (scan-induction P f g k vs (counted (v .event) t) (w ++ added D (S .skip) t (v .event)))
+    where
+      r : Run
+      r = scan D S size (going (counted (v .event) t) (w ++ added D (S .skip) t (v .event))) vs
+
+      go : Comes D S size v t w → P (counted (v .event) t) (w ++ added D (S .skip) t (v .event)) vs r →
+          P t w (v ∷ vs) (scan D S size (going t w) (v ∷ vs))
+      go (stops e m) ih = rw (scan-stops v vs t w e m) (g v vs t w e m)
+      go (passes m) ih = rw (scan-passes v vs t w m) (k v vs t w r m ih)
+
+  -- each visit that is passed adds one to the nodes
+  pub scan-nodes : (xs : List Visit) (t t′ : Tallies) (w w′ : Bytes) →
+      scan D S size (going t w) xs ≡ going t′ w′ → t′ .nodes ≡ t .nodes + length xs
+  unfolding scan
+  scan-nodes [] t t′ w w′ h =
+      let q : t ≡ t′ = cc in
+      let k : t .nodes ≡ t′ .nodes = ap (λ u. u .nodes) q in
+      omega arith
+  scan-nodes (x ∷ xs) t t′ w w′ h =
+      let k = scan-nodes xs (counted (x .event) t) t′ (w ++ added D (S .skip) t (x .event)) w′ (scan-going x xs t w t′ w′ h .1) in
+      omega (arith, counted-nodes (x .event) t)
+
+  -- bytes are only added
+  pub scan-grows : (s : Run) (vs : List Visit) → Prefix (writtenBy s) (writtenBy (scan D S size s vs))
+  scan-grows (going t w) vs =
+      scan-induction (λ t w vs r. Prefix w (writtenBy r)) (λ t w. prefix-refl w) (λ v vs t w e m. prefix-refl w)
+      (λ v vs t w r m p. prefix-trans w (w ++ added D (S .skip) t (v .event)) (writtenBy r) (added D (S .skip) t (v .event), refl) p) vs t w
+  scan-grows (stopped e t w) vs = rw (scan-stopped e t w vs) (prefix-refl w)
