@@ -1,15 +1,47 @@
--- One file for each notion of specs/.
-pub mod Marked
-pub mod Scope
+-- The laws of the specification, in the order in which they lean on each other.
+-- of lists, numbers and blocks
 pub mod Lists
 pub mod Print
 pub mod Text
 pub mod Blocks
 pub mod Names
 pub mod Cells
+-- of the reading
+pub mod Scope
+pub mod Elements
+pub mod Parser
+pub mod ReadLines
+pub mod ReadGiven
+pub mod Start
+pub mod ReadWords
+pub mod ReadTerm
+pub mod ReadFormula
+pub mod ReadSheet
+pub mod Bounds
+pub mod BoundsLines
+pub mod ReadBounds
+-- of the tree and the plain reading
+pub mod Place
+pub mod Range
+pub mod Value
+pub mod Inner
+pub mod Every
+pub mod Quiet
+pub mod Correct
+pub mod Atoms
+pub mod Quantifiers
+pub mod Truth
+pub mod SheetTree
+pub mod Decide
+pub mod Clauses
+-- of the run
 pub mod Stops
 pub mod Run
 pub mod Budget
 pub mod Leaves
 pub mod Cut
 pub mod Done
+-- the tables of cases
+pub mod Marked
+-- the third demand
+pub mod Demand3

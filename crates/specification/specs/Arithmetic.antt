@@ -1,7 +1,7 @@
 -- The arithmetic that both readings of a sheet share: mathematical integers, each operation exact and then held to 32 bits, division
 -- toward zero (source document 000, 2.2). Assumes nothing.
 use Prim.Native.Nat.{ℕ, zero, suc, _+_, _-_}
-use mathlib.Core.Bool.{Bool, true, false, not}
+use mathlib.Core.Bool.{Bool, false, not}
 use lib.Dec.{eqb}
 use lib.IntN.{ℤ, pos, negsuc, _+ℤ_, _-ℤ_, _*ℤ_}
 use lib.Signed.{ltZ, leZ, quotZ}

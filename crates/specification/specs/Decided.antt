@@ -1,6 +1,6 @@
 -- The telling cases of docs/DECISIONS.md, as one table: where document 01 can be read two ways, a sheet that tells the readings apart, and
 -- sheets at its limits. The theorem over it is in proofs/Laws/Marked.antt. Assumes nothing.
-use Prim.Native.Nat.{ℕ, zero, suc, _+_, _*_}
+use Prim.Native.Nat.{ℕ, zero, suc, _+_}
 use Prim.Native.String.{String}
 use mathlib.Core.List.{List, [], _∷_, _++_}
 use lib.ListN.{replicate}

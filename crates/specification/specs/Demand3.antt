@@ -1,30 +1,17 @@
 -- The third demand, as a statement over the bytes that a run wrote (../shared/00-demands.md, 3, sentence by sentence). Listed is what stands
 -- in the bytes written. The theorem is in proofs/Laws/Demand3.antt. Assumes nothing.
-use Prim.Native.Nat.{ℕ}
 use mathlib.Core.Path.{_≡_}
 use mathlib.Core.Bool.{Bool, true, false, not}
-use mathlib.Core.Logic.{_⊎_}
-use mathlib.Core.List.{List, [], _∷_}
+use mathlib.Core.List.{List}
 use lib.Dec.{T}
-use lib.IntN.{ℤ}
+use Rattle.specification.specs.Lists.{Each, Some}
 use Rattle.specification.specs.Bytes.{Bytes}
 use Rattle.specification.specs.Parser.{Reader, found}
 use Rattle.specification.specs.Lines.{Declared, cellOf}
 use Rattle.specification.specs.Given.{Item}
 use Rattle.specification.specs.Sheet.{Sheet, read}
-use Rattle.specification.specs.Listing.{Head, answerHead, errorHead, Named, Block, listingText}
+use Rattle.specification.specs.Listing.{Head, answerHead, errorHead, Block, listingText}
 use Rattle.specification.specs.Plain.{Filling, Fills, Keeps, True}
-
--- ---- of lists
-
-module _ {A : Type 0} where
-  unfoldable pub Each : (A → Type 0) → List A → Type 0
-  Each P [] = Unit {0}
-  Each P (x ∷ xs) = P x × Each P xs
-
-  unfoldable pub Some : (A → Type 0) → List A → Type 0
-  Some P [] = ⊥
-  Some P (x ∷ xs) = P x ⊎ Some P xs
 
 -- ---- of blocks
 

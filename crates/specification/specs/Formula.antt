@@ -1,7 +1,7 @@
 -- The formula: tokens in prefix order, one space between, at most 1,024 of them, nested at most 64 deep. At one token come 9, then 4 for
 -- a constant in bad form, then 6, then 7, then 8; the byte after it is looked at only after these. Assumes nothing.
 use Prim.Native.Nat.{ℕ, zero, suc}
-use mathlib.Core.Bool.{Bool, true, false, _||_}
+use mathlib.Core.Bool.{Bool, false, _||_}
 use mathlib.Core.List.{List, [], _∷_}
 use lib.ListN.{length}
 use lib.Dec.{ltb, eqb}

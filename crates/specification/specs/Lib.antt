@@ -1,4 +1,5 @@
 -- What a reader must believe, in the order of document 01. The laws are under proofs/.
+pub mod Lists
 pub mod Bytes
 pub mod Number
 pub mod Parser

@@ -1,7 +1,6 @@
 -- A run: the visits read from the left, under path limit, budget, skip and output size (document 01, "The walk and the listing").
 -- Assumes nothing.
 use Prim.Native.Nat.{ℕ, suc, _+_}
-use mathlib.Core.Bool.{Bool}
 use mathlib.Core.List.{List, [], _∷_, _++_}
 use lib.ListN.{length}
 use lib.Dec.{leb, ltb, eqb}
@@ -10,8 +9,7 @@ use Rattle.specification.specs.declared.Tallies.{Tallies}
 use Rattle.specification.specs.Bytes.{Bytes, pick}
 use Rattle.specification.specs.Lines.{Declared}
 use Rattle.specification.specs.Visits.{Event, node, fail, answer, error, Visit}
-use Rattle.specification.specs.Listing.{Head, answerHead, errorHead, blockOf, blockText}
-
+use Rattle.specification.specs.Listing.{answerHead, errorHead, blockOf, blockText}
 -- ---- tallies
 
 abbrev pub tallies : ℕ → ℕ → ℕ → ℕ → Tallies

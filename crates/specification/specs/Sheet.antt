@@ -1,5 +1,4 @@
 -- The whole sheet: six lines in order, each ended by a line feed, the last line feed being the last byte. Assumes nothing.
-use Prim.Native.Nat.{ℕ}
 use mathlib.Core.List.{List, []}
 use Rattle.specification.specs.Bytes.{Bytes, bytes, feed}
 use Rattle.specification.specs.Parser.{Reader, Read, Parser, give, _>>=_, _>>_, mark, key, finish}

@@ -6,12 +6,11 @@ use mathlib.Core.Bool.{Bool, true, false, _&&_}
 use mathlib.Core.List.{List, [], _∷_}
 use lib.Dec.{leb}
 use lib.IntN.{ℤ, pos, _+ℤ_}
-use Rattle.specification.specs.Bytes.{pick}
 use Rattle.specification.specs.Lines.{Declared}
 use Rattle.specification.specs.Ast.{Rel, Formula, truth, and, or, imp, neg, eq, compare, ex, some, all}
 use Rattle.specification.specs.Arithmetic.{noValue, openVariable, undecidedInside, eqZ, test, count}
 use Rattle.specification.specs.Place.{Place, cell, local, put}
-use Rattle.specification.specs.Value.{Slot, empty, full, Valuation, Side, val, bare, err, Pair, values, faulty, pairOf, side}
+use Rattle.specification.specs.Value.{empty, full, Valuation, Side, val, bare, err, Pair, values, faulty, pairOf, side}
 use Rattle.specification.specs.Inner.{Tree, successLeaf, failureLeaf, errorLeaf, step, fork, fan, ask, Verdict, succeeds, fails, undecided, verdict, closed}
 
 -- the tree of the rest of a list, from a valuation

@@ -1,7 +1,6 @@
 -- The token words, a closed set, and the word that a token's bytes spell. Which words there are is the edition's to say.
 -- Assumes nothing.
 use Prim.Native.Nat.{ℕ}
-use mathlib.Core.Bool.{Bool}
 use mathlib.Core.List.{List, [], _∷_}
 use mathlib.Core.Option.{Option, none, some as just}
 use lib.IntN.{ℤ}

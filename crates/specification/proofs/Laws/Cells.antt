@@ -12,7 +12,7 @@ use Rattle.specification.specs.Place.{cell}
 use Rattle.specification.specs.Value.{Slot, empty, full, Valuation}
 use Rattle.specification.specs.Listing.{Named, cellNames, namedIf, valued}
 use Rattle.specification.specs.Plain.{Filling}
-use Rattle.specification.specs.Demand3.{Each, Some}
+use Rattle.specification.specs.Lists.{Each, Some}
 use Rattle.specification.proofs.Laws.Lists.{each-map, some-elim, some-and-each, each-of-map, some-of-map}
 use Rattle.specification.proofs.Laws.Names.{from, each-from, some-from, name-cells, Known, names-declared, names-below}
 

@@ -14,7 +14,7 @@ use Rattle.specification.specs.Lines.{Declared}
 use Rattle.specification.specs.Visits.{Event, node, fail, answer, error, Visit}
 use Rattle.specification.specs.Listing.{answerHead, errorHead, Block, blockOf, blockText, listingText}
 use Rattle.specification.specs.Run.{tallies, Stop, spent, path, output, Run, going, stopped, scan}
-use Rattle.specification.specs.Demand3.{Each}
+use Rattle.specification.specs.Lists.{Each}
 use Rattle.specification.proofs.Laws.Stops.{unless, dueText, added, counted, counted-nodes, atStop, Meets, Passes}
 use Rattle.specification.proofs.Laws.Run.{writtenBy, Prefix, then-is-++, scan-append, scan-stops, scan-passes, scan-going, scan-induction, scan-nodes, scan-grows}
 use Rattle.specification.proofs.Laws.Leaves.{listed, blocksOf}

@@ -16,7 +16,8 @@ use Rattle.specification.specs.Inner.{Tree, successLeaf, failureLeaf, er
 use Rattle.specification.specs.Visits.{Event, node, fail, answer, error, Visit, _then_, each, insideThen, inside, visits}
 use Rattle.specification.specs.Listing.{answerHead, errorHead, Block, cellNames, valued, blockOf, listingText}
 use Rattle.specification.specs.Run.{going, scan}
-use Rattle.specification.specs.Demand3.{Each, Some, IsAnswer}
+use Rattle.specification.specs.Lists.{Each, Some}
+use Rattle.specification.specs.Demand3.{IsAnswer}
 use Rattle.specification.proofs.Laws.Scope.{Every, Any}
 use Rattle.specification.proofs.Laws.Stops.{added, counted}
 use Rattle.specification.proofs.Laws.Run.{scan-going}

@@ -1,7 +1,7 @@
 -- Laws of Each and Some: over predicates, over lists joined and mapped, and of a member that has both. Assumes nothing.
 use mathlib.Core.Logic.{_⊎_, inl, inr}
 use mathlib.Core.List.{List, [], _∷_, _++_, map}
-use Rattle.specification.specs.Demand3.{Each, Some}
+use Rattle.specification.specs.Lists.{Each, Some}
 
 -- ---- from one predicate to another
 
@@ -16,6 +16,19 @@ module _ {A : Type 0} {P Q : A → Type 0} where
   some-map f [] h = absurd h
   some-map f (x ∷ xs) (inl h) = inl (f x h)
   some-map f (x ∷ xs) (inr h) = inr (some-map f xs h)
+
+module _ {A : Type 0} {P Q : A → Type 0} where
+  pub each-both : {R : A → Type 0} (xs : List A) → ((x : A) → P x → Q x → R x) → Each P xs → Each Q xs → Each R xs
+  unfolding Each
+  each-both [] f h k = tt
+  each-both (x ∷ xs) f h k = (f x (h .0) (k .0), each-both xs f (h .1) (k .1))
+
+  -- what follows from both properties of one of the list
+  pub each-some : {C : Type 0} (xs : List A) → ((x : A) → P x → Q x → C) → Each P xs → Some Q xs → C
+  unfolding Each Some
+  each-some [] f h k = absurd k
+  each-some (x ∷ xs) f h (inl k) = f x (h .0) k
+  each-some (x ∷ xs) f h (inr k) = each-some xs f (h .1) k
 
 -- what follows from any member that has it
 pub some-elim : {A : Type 0} {P : A → Type 0} {C : Type 0} → ((x : A) → P x → C) → (xs : List A) → Some P xs → C

@@ -10,7 +10,7 @@ use lib.ListN.{take, drop, getD}
 use borrow.Author.Tests.{lt-ltb}
 use Rattle.specification.specs.Lines.{Declared, CellName, sum, cells, firstOf, lengthOf, isDeclared, cellOf}
 use Rattle.specification.specs.Listing.{scalarNames, elementNames, arrayNames, cellNames}
-use Rattle.specification.specs.Demand3.{Each, Some}
+use Rattle.specification.specs.Lists.{Each, Some}
 use Rattle.specification.proofs.Laws.Lists.{each-map, each-++, each-of-map}
 
 -- ---- numbers in a row

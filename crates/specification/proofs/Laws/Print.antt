@@ -11,7 +11,7 @@ use lib.IntN.{ℤ, pos, negsuc}
 use borrow.Author.Tests.{ltb-true, ltb-false, le-leb, lt-leb, ne-eqb}
 use Rattle.specification.specs.Bytes.{Bytes, pick, digit, classOf, classNumber, isIn}
 use Rattle.specification.specs.Number.{allDigits, decimal, wellFormed, natural, integer, digits, printℕ, printℤ}
-use Rattle.specification.specs.Demand3.{Each}
+use Rattle.specification.specs.Lists.{Each}
 use Rattle.specification.proofs.Laws.Lists.{each-map, each-++}
 
 -- ---- digits

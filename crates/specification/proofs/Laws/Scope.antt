@@ -1,20 +1,19 @@
 -- The leaves of a tree, well-scoped formulas, and valuations: the words in which demand 3 over the tree is put. A place is in scope if it is
 -- a declared cell or a local bound around the formula; of any other place nothing is said, since a local may keep a value from an earlier
 -- round of `all`. Assumes nothing.
-use Prim.Native.Nat.{ℕ, zero, suc, _+_, _<_}
-use native.Mathlib.Omega.{arith}
-use mathlib.Core.Path.{_≡_, refl, sym, _∙_, ap, subst}
+use Prim.Native.Nat.{ℕ, _<_}
+use mathlib.Core.Path.{_≡_}
 use mathlib.Core.Bool.{Bool, true, false, not}
-use mathlib.Core.Logic.{_⊎_, inl, inr}
+use mathlib.Core.Logic.{_⊎_}
 use lib.ListN.{length}
-use lib.Dec.{T, T-not, eqb, eqb→eq, eqb-refl}
+use lib.Dec.{T, eqb}
 use lib.IntN.{ℤ}
 use Rattle.specification.specs.Bytes.{pick}
 use Rattle.specification.specs.Number.{in32}
 use Rattle.specification.specs.Lines.{Declared, cells}
 use Rattle.specification.specs.Ast.{Term, constant, scalarAt, localAt, elementAt, apply, Formula, truth, and, or, imp, neg, eq, compare, ex, some, all}
-use Rattle.specification.specs.Place.{Place, cell, local, samePlace, put}
-use Rattle.specification.specs.Value.{Slot, empty, full, Valuation}
+use Rattle.specification.specs.Place.{Place, cell, local}
+use Rattle.specification.specs.Value.{full, Valuation}
 use Rattle.specification.specs.Inner.{Tree, successLeaf, failureLeaf, errorLeaf, step, fork, fan, ask}
 use Rattle.specification.specs.Plain.{Env}
 

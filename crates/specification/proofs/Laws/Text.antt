@@ -14,7 +14,7 @@ use Rattle.specification.specs.Bytes.{Bytes, pick}
 use Rattle.specification.specs.Number.{decimal, integer, printℕ, printℤ}
 use Rattle.specification.specs.Lines.{scalar, element}
 use Rattle.specification.specs.Listing.{Label, answerLabel, errorLabel, kindLabel, tokenLabel, cellLabel, Line, _is_, labelText, linesText}
-use Rattle.specification.specs.Demand3.{Each}
+use Rattle.specification.specs.Lists.{Each}
 use Rattle.specification.proofs.Laws.Lists.{each-++}
 use Rattle.specification.proofs.Laws.Print.{IsDigit, Lacks, printℕ-numeral, printℕ-lacks, printℤ-lacks, integer-printℤ}
 

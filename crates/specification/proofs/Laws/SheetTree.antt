@@ -1,0 +1,40 @@
+-- Demand 3 over the leaves of a sheet's tree: no local is bound at its root, and a filling stands for the environment. Assumes nothing.
+use Prim.Native.Nat.{ℕ, _<_}
+use mathlib.Core.Path.{_≡_}
+use mathlib.Core.Bool.{false}
+use mathlib.Core.List.{[], _∷_}
+use lib.IntN.{ℤ}
+use Rattle.specification.specs.Lines.{Declared, cells}
+use Rattle.specification.specs.Ast.{Formula}
+use Rattle.specification.specs.Place.{cell, local}
+use Rattle.specification.specs.Value.{full, Valuation}
+use Rattle.specification.specs.Tree.{treeOf}
+use Rattle.specification.specs.Plain.{Truth, Filling, env}
+use Rattle.specification.proofs.Laws.Scope.{Every, Any, nowhere, Ok, Agree, Valid}
+use Rattle.specification.proofs.Laws.Truth.{laws}
+
+-- a filling agrees with the declared cells that have a value
+abbrev pub Matches : Declared → Filling → Valuation → Type 0
+Matches D φ β = (c : ℕ) → c < cells D → (v : ℤ) → β (cell c) ≡ full v → φ c ≡ v
+
+-- β at a success leaf of the tree from α
+pub record Answer (D : Declared) (F : Formula) (α β : Valuation) : Type 0 where
+  pub keeps : (c : ℕ) → c < cells D → (v : ℤ) → α (cell c) ≡ full v → β (cell c) ≡ full v
+  pub valid : Valid β
+  pub proves : (φ : Filling) → Matches D φ β → Truth D (env φ) F
+
+matches-agree : (D : Declared) (φ : Filling) (β : Valuation) → Matches D φ β → Agree D nowhere (env φ) β
+matches-agree D φ β m (cell c) i = m c i
+matches-agree D φ β m (local l) i = absurd i
+
+module _ (D : Declared) (F : Formula) (o : Ok D nowhere F) (α : Valuation) (v : Valid α) where
+  pub sound : Every (Answer D F α) (treeOf D (F ∷ []) α)
+  unfolding treeOf Every
+  sound =
+      (laws D F) .0 nowhere o false (treeOf D []) α v (Answer D F α) (λ β e vb pr.
+      record { keeps = λ c. e (cell c); valid = vb; proves = λ φ m. pr (env φ) (matches-agree D φ β m) })
+
+  pub complete : (φ : Filling) → Matches D φ α → Truth D (env φ) F → Any (Matches D φ) (treeOf D (F ∷ []) α)
+  unfolding treeOf Any
+  complete φ m t =
+      (laws D F) .1 nowhere o false (treeOf D []) α v (env φ) (matches-agree D φ α m) t (Matches D φ) (λ β a c. a (cell c)) (λ β vb a c. a (cell c))

@@ -1,0 +1,191 @@
+-- What the side of an atom says under a valuation: of the term's value in an environment that agrees, of its being in 32 bits, and of
+-- the bare place, which is in scope and empty, and in a closed term known if it is no element. Assumes nothing.
+use Prim.Native.Nat.{ℕ, zero, suc, _+_, _<_}
+use mathlib.Core.Path.{_≡_, refl, ap, subst}
+use mathlib.Core.Bool.{Bool, true, false, not}
+use mathlib.Core.Option.{Option, none, some as just}
+use lib.Dec.{T, T-not, ltb, ltb→lt}
+use lib.IntN.{ℤ, pos, negsuc, _+ℤ_, _-ℤ_, _*ℤ_}
+use lib.Signed.{quotZ}
+use Rattle.specification.specs.Bytes.{pick}
+use Rattle.specification.specs.Number.{in32}
+use Rattle.specification.specs.Lines.{Declared, cells, firstOf, lengthOf}
+use Rattle.specification.specs.Ast.{Op, add, sub, mul, div, modulo, Term, constant, scalarAt, localAt, elementAt, apply}
+use Rattle.specification.specs.Arithmetic.{noValue, outsideArray, outside32, Computed, value, fault, fit, divided, compute}
+use Rattle.specification.specs.Place.{Place, cell, local}
+use Rattle.specification.specs.Value.{Slot, empty, full, Valuation, Side, val, bare, err, look, Pair, values, faulty, pairOf, sideOf, operate, inArray, elementSide, side}
+use Rattle.specification.specs.Inner.{Known, closedTerm}
+use Rattle.specification.specs.Tree.{isElement}
+use Rattle.specification.specs.Plain.{Env, kept, applied, elementValue, valueOf, Has}
+use Rattle.specification.proofs.Laws.Scope.{Scope, In, OkTerm, Agree, Valid}
+use Rattle.specification.proofs.Laws.Elements.{scalar-declared, element-declared, element-is}
+
+-- ---- the value in an environment that agrees
+
+abbrev pub Tells : Env → Side → Option ℤ → Type 0
+Tells ρ (val x) o = o ≡ just x
+Tells ρ (bare p) o = o ≡ just (ρ p)
+Tells ρ (err κ) o = Unit {0}
+
+look-tells : (ρ : Env) (p : Place) (s : Slot) → ((v : ℤ) → s ≡ full v → ρ p ≡ v) → Tells ρ (look s p) (just (ρ p))
+look-tells ρ p empty h = refl
+look-tells ρ p (full v) h = ap just (h v refl)
+
+computed-tells : (ρ : Env) (c : Computed) → Tells ρ (sideOf c) (kept c)
+computed-tells ρ (value z) = refl
+computed-tells ρ (fault κ) = tt
+
+module _ (D : Declared) (S : Scope) (ρ : Env) (α : Valuation) (a : Agree D S ρ α) where
+  inArray-tells : (b : Bool) (c : ℕ) → (T b → c < cells D) → Tells ρ (inArray D α b c) (pick b (just (ρ (cell c))) none)
+  inArray-tells true c h = look-tells ρ (cell c) (α (cell c)) (a (cell c) (h tt))
+  inArray-tells false c h = tt
+
+  element-tells :
+      (n : ℕ) (s : Side) (o : Option ℤ) → Tells ρ s o →
+      Tells ρ (elementSide D α n s) (elementValue D ρ n o)
+  unfolding elementSide
+  element-tells n (val (pos i)) o e =
+      rw e (inArray-tells (ltb i (lengthOf D n)) (firstOf D n + i) (λ t. element-declared D n i (ltb→lt i (lengthOf D n) t)))
+  element-tells n (val (negsuc i)) o e = tt
+  element-tells n (bare p) o e = tt
+  element-tells n (err κ) o e = tt
+
+  operate-tells :
+      (o : Op) (s t : Side) (x y : Option ℤ) → Tells ρ s x → Tells ρ t y →
+      Tells ρ (operate D α o (pairOf s t)) (applied D ρ o x y)
+  unfolding pairOf
+  operate-tells o (val x) (val y) x′ y′ e f = rw (e, f) (computed-tells ρ (compute (D .edition) o x y))
+  operate-tells o (val x) (bare q) x′ y′ e f = tt
+  operate-tells o (val x) (err κ) x′ y′ e f = tt
+  operate-tells o (bare p) t x′ y′ e f = tt
+  operate-tells o (err κ) t x′ y′ e f = tt
+
+  side-tells : (t : Term) → OkTerm D S t → Tells ρ (side D α t) (valueOf D ρ t)
+  unfolding side valueOf OkTerm
+  side-tells (constant z) h = refl
+  side-tells (scalarAt c) h = look-tells ρ (cell c) (α (cell c)) (a (cell c) (scalar-declared D c h))
+  side-tells (localAt l) h = look-tells ρ (local l) (α (local l)) (a (local l) h)
+  side-tells (elementAt n t) h = element-tells n (side D α t) (valueOf D ρ t) (side-tells t (h .1))
+  side-tells (apply o s t) h =
+      operate-tells o (side D α s) (side D α t) (valueOf D ρ s) (valueOf D ρ t) (side-tells s (h .0)) (side-tells t (h .1))
+
+  -- a value under the valuation is the value in the environment, and a bare place has the value there
+  pub has-val : (t : Term) → OkTerm D S t → (x : ℤ) → side D α t ≡ val x → Has D ρ t x
+  has-val t h x e = rw e at (side-tells t h)
+
+  pub has-bare : (t : Term) → OkTerm D S t → (p : Place) → side D α t ≡ bare p → Has D ρ t (ρ p)
+  has-bare t h p e = rw e at (side-tells t h)
+
+  pub same-val : (t : Term) → OkTerm D S t → (x y : ℤ) → side D α t ≡ val x → Has D ρ t y → y ≡ x
+  same-val t h x y e f = let g = has-val t h x e in cc
+
+-- ---- results of operations: in 32 bits, and never a place
+
+abbrev Firm : Side → Type 0
+Firm (val x) = T (in32 x)
+Firm (bare p) = ⊥
+Firm (err κ) = Unit {0}
+
+fit-firm : (z : ℤ) → Firm (sideOf (fit z))
+unfolding fit
+fit-firm z = go (in32 z) (λ t. t)
+  where
+    go : (b : Bool) → (T b → T (in32 z)) → Firm (sideOf (pick b (value z) (fault outside32)))
+    go true h = h tt
+    go false h = tt
+
+divided-firm : (y : ℤ) (c : Computed) → Firm (sideOf c) → Firm (sideOf (divided y c))
+divided-firm (pos zero) c h = tt
+divided-firm (pos (suc n)) c h = h
+divided-firm (negsuc n) c h = h
+
+compute-firm : (e : ℕ) (o : Op) (x y : ℤ) → Firm (sideOf (compute e o x y))
+unfolding compute
+compute-firm e add x y = fit-firm (x +ℤ y)
+compute-firm e sub x y = fit-firm (x -ℤ y)
+compute-firm e mul x y = fit-firm (x *ℤ y)
+compute-firm e div x y = divided-firm y (fit (quotZ x y)) (fit-firm (quotZ x y))
+compute-firm e modulo x y = divided-firm y (fit (x -ℤ y *ℤ quotZ x y)) (fit-firm (x -ℤ y *ℤ quotZ x y))
+
+-- what holds of firm sides holds of operations, and of elements if it holds of the elements inside the array
+module _ (D : Declared) (α : Valuation) (G : Side → Type 0) (firm : (s : Side) → Firm s → G s) where
+  operate-firm : (o : Op) (p : Pair) → G (operate D α o p)
+  operate-firm o (values x y) = firm (sideOf (compute (D .edition) o x y)) (compute-firm (D .edition) o x y)
+  operate-firm o (faulty κ) = firm (err κ) tt
+
+  inArray-firm : (b : Bool) (c : ℕ) → (T b → G (look (α (cell c)) (cell c))) → G (inArray D α b c)
+  inArray-firm true c h = h tt
+  inArray-firm false c h = firm (err outsideArray) tt
+
+  element-firm :
+      (n : ℕ) → ((i : ℕ) → i < lengthOf D n → G (look (α (cell (firstOf D n + i))) (cell (firstOf D n + i)))) →
+      (s : Side) → G (elementSide D α n s)
+  unfolding elementSide
+  element-firm n h (val (pos i)) = inArray-firm (ltb i (lengthOf D n)) (firstOf D n + i) (λ t. h i (ltb→lt i (lengthOf D n) t))
+  element-firm n h (val (negsuc i)) = firm (err outsideArray) tt
+  element-firm n h (bare p) = firm (err noValue) tt
+  element-firm n h (err κ) = firm (err κ) tt
+
+-- ---- a value is in 32 bits, a bare place in scope and empty
+
+module _ (D : Declared) (S : Scope) (α : Valuation) where
+  abbrev pub Sane : Side → Type 0
+  Sane (val x) = T (in32 x)
+  Sane (bare p) = In D S p × (α p ≡ empty)
+  Sane (err κ) = Unit {0}
+
+module _ (D : Declared) (S : Scope) (α : Valuation) (v : Valid α) where
+  firm-sane : (s : Side) → Firm s → Sane D S α s
+  firm-sane (val x) h = h
+  firm-sane (bare p) h = absurd h
+  firm-sane (err κ) h = tt
+
+  look-sane : (p : Place) → In D S p → (s : Slot) → α p ≡ s → Sane D S α (look s p)
+  look-sane p i empty e = (i, e)
+  look-sane p i (full x) e = v p x e
+
+  side-sane : (t : Term) → OkTerm D S t → Sane D S α (side D α t)
+  unfolding side OkTerm
+  side-sane (constant z) h = h
+  side-sane (scalarAt c) h = look-sane (cell c) (scalar-declared D c h) (α (cell c)) refl
+  side-sane (localAt l) h = look-sane (local l) h (α (local l)) refl
+  side-sane (elementAt n t) h =
+      element-firm D α (Sane D S α) firm-sane n (λ i k.
+      let c = cell (firstOf D n + i) in
+      look-sane c (element-declared D n i k) (α c) refl) (side D α t)
+  side-sane (apply o s t) h = operate-firm D α (Sane D S α) firm-sane o (pairOf (side D α s) (side D α t))
+
+  pub sane-val : (t : Term) → OkTerm D S t → (x : ℤ) → side D α t ≡ val x → T (in32 x)
+  sane-val t h x e = subst (Sane D S α) e (side-sane t h)
+
+  pub sane-bare : (t : Term) → OkTerm D S t → (p : Place) → side D α t ≡ bare p → In D S p × (α p ≡ empty)
+  sane-bare t h p e = subst (Sane D S α) e (side-sane t h)
+
+-- ---- in a closed term a bare place that is no element is known
+
+module _ (D : Declared) (K : Known) (α : Valuation) where
+  abbrev pub Calm : Side → Type 0
+  Calm (val x) = Unit {0}
+  Calm (bare p) = T (not (isElement D p)) → T (K p) × (α p ≡ empty)
+  Calm (err κ) = Unit {0}
+
+module _ (D : Declared) (K : Known) (α : Valuation) where
+  firm-calm : (s : Side) → Firm s → Calm D K α s
+  firm-calm (val x) h = tt
+  firm-calm (bare p) h = absurd h
+  firm-calm (err κ) h = tt
+
+  look-calm : (p : Place) → (T (not (isElement D p)) → T (K p)) → (s : Slot) → α p ≡ s → Calm D K α (look s p)
+  look-calm p h empty e = λ n. (h n, e)
+  look-calm p h (full x) e = tt
+
+  pub side-calm : (t : Term) → T (closedTerm K t) → Calm D K α (side D α t)
+  unfolding side closedTerm
+  side-calm (constant z) h = tt
+  side-calm (scalarAt c) h = look-calm (cell c) (λ n. h) (α (cell c)) refl
+  side-calm (localAt l) h = look-calm (local l) (λ n. h) (α (local l)) refl
+  side-calm (elementAt n t) h =
+      element-firm D α (Calm D K α) firm-calm n (λ i k.
+      let c = cell (firstOf D n + i) in
+      look-calm c (λ f. absurd (T-not (isElement D c) f (element-is D n i))) (α c) refl) (side D α t)
+  side-calm (apply o s t) h = operate-firm D α (Calm D K α) firm-calm o (pairOf (side D α s) (side D α t))
