@@ -10,6 +10,7 @@ use Rattle.specification.specs.Bytes.{Bytes, pick}
 use Rattle.specification.specs.Lines.{Declared}
 use Rattle.specification.specs.Visits.{Event, node, fail, answer, error, Visit}
 use Rattle.specification.specs.Listing.{answerHead, errorHead, blockOf, blockText}
+
 -- ---- tallies
 
 abbrev pub tallies : ℕ → ℕ → ℕ → ℕ → Tallies
