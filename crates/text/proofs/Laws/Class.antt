@@ -1,0 +1,131 @@
+-- Laws of classes: of a byte, the test `isIn` from its class number; of a place, the specification's tests `next` and `ended`
+-- from the class there; and which bytes are digits. Assumes nothing.
+use Prim.Native.Nat.{ℕ, _<_, _≤_}
+use mathlib.Core.Path.{_≡_, refl, sym, ap, _∙_}
+use mathlib.Core.Bool.{Bool, true, false, _&&_}
+use mathlib.Core.List.{[], _∷_}
+use native.Mathlib.Omega.{arith}
+use lib.Dec.{leb, eqb}
+use lib.ListN.{length, getD, drop, drop-of-length-le, length-drop}
+use lib.Seq.{drop-cons}
+use borrow.Author.Tests.{eq-eqb, ne-eqb, eqb-true, eqb-false, leb-true}
+use Rattle.specification.specs.Bytes.{Bytes, pick, between, classOf, classNumber, isIn}
+use Rattle.specification.specs.Bytes.{Class, letter, digit, space, feed, minus, equals, comma, colon, point, other}
+use Rattle.specification.specs.Parser.{next, ended}
+use Rattle.text.specs.Class.{headClass, classAt}
+
+-- no class has the number of the end
+pub number-lt : (c : Class) → classNumber c < 10
+unfolding classNumber
+number-lt letter = omega arith
+number-lt digit = omega arith
+number-lt space = omega arith
+number-lt feed = omega arith
+number-lt minus = omega arith
+number-lt equals = omega arith
+number-lt comma = omega arith
+number-lt colon = omega arith
+number-lt point = omega arith
+number-lt other = omega arith
+
+-- ---- of a byte, with k what `class` returns
+
+module _ (c : Class) (b k : ℕ) (is : k ≡ classNumber (classOf b)) where
+  pub in-yes : k ≡ classNumber c → isIn c b ≡ true
+  unfolding isIn
+  in-yes e = eq-eqb _ _ (sym e ∙ is)
+
+  pub in-no : (k ≡ classNumber c → ⊥) → isIn c b ≡ false
+  unfolding isIn
+  in-no h = ne-eqb _ _ (λ e. h (is ∙ sym e))
+
+  pub in-test : eqb k (classNumber c) ≡ isIn c b
+  in-test = go (eqb k (classNumber c)) refl
+    where
+      go : (t : Bool) → eqb k (classNumber c) ≡ t → t ≡ isIn c b
+      go true e = sym (in-yes (eqb-true k (classNumber c) e))
+      go false e = sym (in-no (eqb-false k (classNumber c) e))
+
+-- a digit is a byte from 48 to 57
+pub digit-range : (b : ℕ) → isIn digit b ≡ true → (48 ≤ b) × (b ≤ 57)
+unfolding isIn classOf classNumber
+digit-range b e = range (leb 48 b) (leb b 57) refl refl
+    (second (between 97 122 b) (between 48 57 b) (eqb b 32) (eqb b 10) (eqb b 45) (eqb b 61) (eqb b 44) (eqb b 58) (eqb b 46) e)
+  where
+    second : (p q r s t u v w x : Bool)
+        → eqb 2 (classNumber (pick p letter (pick q digit (pick r space (pick s feed (pick t minus
+        (pick u equals (pick v comma (pick w colon (pick x point other)))))))))) ≡ true
+        → q ≡ true
+    second p true r s t u v w x e = refl
+    second true false r s t u v w x e = e
+    second false false true s t u v w x e = e
+    second false false false true t u v w x e = e
+    second false false false false true u v w x e = e
+    second false false false false false true v w x e = e
+    second false false false false false false true w x e = e
+    second false false false false false false false true x e = e
+    second false false false false false false false false true e = e
+    second false false false false false false false false false e = e
+
+    range : (p q : Bool) → leb 48 b ≡ p → leb b 57 ≡ q → (p && q) ≡ true → (48 ≤ b) × (b ≤ 57)
+    range true true l m e = (leb-true _ _ l, leb-true _ _ m)
+    range true false l m e = let z : _≡_ {A = ℕ} 0 1 = cc in absurd (omega arith)
+    range false q l m e = let z : _≡_ {A = ℕ} 0 1 = cc in absurd (omega arith)
+
+-- ---- of a place
+
+next-head : (c : Class) (bs : Bytes) → next c bs ≡ eqb (classNumber c) (headClass bs)
+unfolding isIn
+next-head c [] = sym (ne-eqb (classNumber c) 10 (λ e. omega (arith, number-lt c)))
+next-head c (b ∷ bs) = refl
+
+ended-head : (bs : Bytes) → ended bs ≡ eqb (headClass bs) 10
+ended-head [] = refl
+ended-head (b ∷ bs) = sym (ne-eqb (classNumber (classOf b)) 10 (λ e. omega (arith, number-lt (classOf b))))
+
+head-long : (bs : Bytes) → headClass bs < 10 → 0 < length bs
+head-long [] h = omega arith
+head-long (b ∷ bs) h = omega arith
+
+head-none : (bs : Bytes) → headClass bs ≡ 10 → bs ≡ []
+head-none [] h = refl
+head-none (b ∷ bs) h = absurd (omega (arith, number-lt (classOf b)))
+
+module _ (s : Bytes) (at : ℕ) where
+  -- the class at a place decides each test there
+  pub next-class : (c : Class) → next c (drop at s) ≡ eqb (classNumber c) (classAt s at)
+  unfolding classAt
+  next-class c = next-head c (drop at s)
+
+  pub ended-class : ended (drop at s) ≡ eqb (classAt s at) 10
+  unfolding classAt
+  ended-class = ended-head (drop at s)
+
+  pub class-next : (c : Class) → classAt s at ≡ classNumber c → next c (drop at s) ≡ true
+  class-next c e = next-class c ∙ eq-eqb _ _ (sym e)
+
+  pub class-not-next : (c : Class) → (classAt s at ≡ classNumber c → ⊥) → next c (drop at s) ≡ false
+  class-not-next c h = next-class c ∙ ne-eqb _ _ (λ e. h (sym e))
+
+  pub next-has-class : (c : Class) → next c (drop at s) ≡ true → classAt s at ≡ classNumber c
+  next-has-class c e = sym (eqb-true _ _ (sym (next-class c) ∙ e))
+
+  -- a class that is not the end's stands inside
+  pub class-inside : (c : Class) → classAt s at ≡ classNumber c → at < length s
+  unfolding classAt
+  class-inside c e = omega (arith, head-long (drop at s) (omega (arith, number-lt c)), length-drop at s)
+
+  pub class-end : classAt s at ≡ 10 → drop at s ≡ []
+  unfolding classAt
+  class-end e = head-none (drop at s) e
+
+  pub end-class : drop at s ≡ [] → classAt s at ≡ 10
+  unfolding classAt
+  end-class e = ap headClass e
+
+  pub class-of-byte : at < length s → classAt s at ≡ classNumber (classOf (getD s at 0))
+  unfolding classAt
+  class-of-byte h = ap headClass (drop-cons s at 0 h)
+
+  pub class-beyond : length s ≤ at → classAt s at ≡ 10
+  class-beyond h = end-class (drop-of-length-le s h)

@@ -1,0 +1,139 @@
+-- The machine's 64 bits hold each operation on two values of 32 bits exactly, and what it reads back is the mathematical result.
+-- Assumes nothing.
+use Prim.Native.Nat.{ℕ, zero, suc, _+_, _-_, _*_, _/_, _%_, _<_, _≤_}
+use native.Mathlib.Omega.{arith}
+use native.Mathlib.Nat.{mul-le-mul, div-add-mod}
+use mathlib.Core.Path.{_≡_, refl, _∙_, ap}
+use mathlib.Core.Bool.{true, false}
+use lib.Dec.{T}
+use lib.IntN.{ℤ, pos, negsuc, negℤ, natAbs, _+ℤ_, _-ℤ_, _*ℤ_, negℤ-negℤ, *ℤ-zero, *ℤ-negsuc}
+use lib.Signed.{ltZ, leZ, quotZ, remZ, leZ-yes, ltZ-yes, ltZ-no, clashℤ}
+use mir.Val.{SFits, toZ, ofZ}
+use mir.ValLaws.{toZ-ofZ}
+use mir.Syntax.{w64}
+use Rattle.specification.specs.Number.{in32, least, greatest}
+use Rattle.values.specs.Word.{signed, biased}
+use Rattle.values.proofs.Laws.Test.{is-true, is-false, and-left, and-right, and-both}
+use Rattle.values.proofs.Laws.Difference.{subℕ-ge, subℕ-lt, abs-neg, abs-sum, abs-product, abs-quotient, abs-remainder}
+use Rattle.values.proofs.Laws.Word.{by-sign, abs-signed, biased-word, in32-below}
+
+-- ---- 64 bits are wide enough
+
+-- 4611686018427387904 is 2^62, the greatest magnitude of a product
+pub wide : (z : ℤ) → natAbs z ≤ 4611686018427387904 → SFits w64 z
+wide (pos n) h = record { sfits = omega arith }
+wide (negsuc n) h = record { sfits = omega arith }
+
+signed-fits : (w : ℕ) → w < 4294967296 → SFits w64 (signed w)
+signed-fits w h = wide (signed w) (omega (arith, abs-signed w h))
+
+-- no operands of 32 bits take the operation out of 64
+abbrev pub Exact : (ℤ → ℤ → ℤ) → Type 0
+Exact f = (x y : ℤ) → natAbs x ≤ 2147483648 → natAbs y ≤ 2147483648 → SFits w64 (f x y)
+
+pub exact-sum : Exact _+ℤ_
+exact-sum x y p q = wide (x +ℤ y) (omega (arith, abs-sum x y))
+
+pub exact-difference : Exact _-ℤ_
+exact-difference x y p q = wide (x -ℤ y) (omega (arith, abs-sum x (negℤ y), abs-neg y))
+
+pub exact-product : Exact _*ℤ_
+exact-product x y p q = wide (x *ℤ y) (omega (arith, abs-product x y, mul-le-mul p q))
+
+pub exact-quotient : Exact quotZ
+exact-quotient x y p q = wide (quotZ x y) (omega (arith, abs-quotient x y))
+
+pub exact-remainder : Exact remZ
+exact-remainder x y p q = wide (remZ x y) (omega (arith, abs-remainder x y))
+
+-- ---- what is read back
+
+-- two words, and their values as the machine has them
+pub record Operands (x y : ℕ) (a b : ℤ) : Type 0 where
+  pub left-word : x < 4294967296
+  pub right-word : y < 4294967296
+  pub left : a ≡ signed x
+  pub right : b ≡ signed y
+
+value-read : (w : ℕ) (z : ℤ) → w < 4294967296 → z ≡ signed w → toZ w64 (ofZ w64 z) ≡ signed w
+value-read w z h e = rw e (toZ-ofZ w64 (signed w) (signed-fits w h))
+
+module _ {x y : ℕ} {a b : ℤ} (o : Operands x y a b) (f : ℤ → ℤ → ℤ) (exact : Exact f) where
+  result-exact : SFits w64 (f (signed x) (signed y))
+  result-exact = exact (signed x) (signed y) (abs-signed x (o .left-word)) (abs-signed y (o .right-word))
+
+  pub result-fits : SFits w64 (f (toZ w64 (ofZ w64 a)) (toZ w64 (ofZ w64 b)))
+  result-fits = rw (value-read x a (o .left-word) (o .left), value-read y b (o .right-word) (o .right)) result-exact
+
+  pub result-read : toZ w64 (ofZ w64 (f (toZ w64 (ofZ w64 a)) (toZ w64 (ofZ w64 b)))) ≡ f (signed x) (signed y)
+  result-read =
+      rw (value-read x a (o .left-word) (o .left), value-read y b (o .right-word) (o .right))
+      (toZ-ofZ w64 (f (signed x) (signed y)) result-exact)
+
+-- the machine's divisor is not 0
+pub divisor-nonzero : {x y : ℕ} {a b : ℤ} → Operands x y a b → (y ≡ 2147483648 → ⊥) → 0 < ofZ w64 b
+divisor-nonzero {x} {y} o n =
+    rw (o .right) (by-sign (λ z. 0 < ofZ w64 z) y (λ l. omega arith) (λ h. positive (y - 2147483648) (λ e. n (omega arith))))
+  where
+    positive : (k : ℕ) → (k ≡ 0 → ⊥) → 0 < k
+    positive zero f = absurd (f refl)
+    positive (suc k) f = omega arith
+
+-- ---- a word's value, and a value's word
+
+-- a word on 64 bits, less 2^31
+pub word-fits : (w : ℕ) → w < 4294967296 → SFits w64 (toZ w64 w -ℤ pos 2147483648)
+word-fits w h = rw (toZ-ofZ w64 (pos w) (wide (pos w) (omega arith))) (signed-fits w h)
+
+pub word-read : (w : ℕ) → w < 4294967296 → toZ w64 (ofZ w64 (toZ w64 w -ℤ pos 2147483648)) ≡ signed w
+word-read w h =
+    rw (toZ-ofZ w64 (pos w) (wide (pos w) (omega arith))) (toZ-ofZ w64 (signed w) (signed-fits w h))
+
+-- the tests of a value against the ends of 32 bits
+pub low-out : (z : ℤ) → ltZ z least ≡ true → T (in32 z) → ⊥
+low-out z e t = clashℤ (ltZ-yes {a = z} {b = least} (is-true e)) (leZ-yes {a = least} {b = z} (and-left (leZ least z) (leZ z greatest) t))
+
+pub high-out : (z : ℤ) → ltZ greatest z ≡ true → T (in32 z) → ⊥
+high-out z e t = clashℤ (ltZ-yes {a = greatest} {b = z} (is-true e)) (leZ-yes {a = z} {b = greatest} (and-right (leZ least z) (leZ z greatest) t))
+
+pub tests-in : (z : ℤ) → ltZ z least ≡ false → ltZ greatest z ≡ false → T (in32 z)
+tests-in z lo hi =
+    and-both (leZ least z) (leZ z greatest) ((ltZ-no {a = z} {b = least} (is-false lo)) .le) ((ltZ-no {a = greatest} {b = z} (is-false hi)) .le)
+
+-- a value above the bias is its word
+shifted : (z : ℤ) → T (in32 z) → z +ℤ pos 2147483648 ≡ pos (biased z)
+shifted (pos n) t = ap pos (omega arith)
+shifted (negsuc n) t = let h = in32-below n t in subℕ-ge 2147483648 (suc n) (omega arith) ∙ ap pos (omega arith)
+
+module _ (z : ℤ) (f : SFits w64 z) (t : T (in32 z)) where
+  pub shifted-fits : SFits w64 (toZ w64 (ofZ w64 z) +ℤ pos 2147483648)
+  shifted-fits = rw (toZ-ofZ w64 z f, shifted z t) (wide (pos (biased z)) (omega (arith, biased-word z t)))
+
+  pub shifted-read : toZ w64 (ofZ w64 (toZ w64 (ofZ w64 z) +ℤ pos 2147483648)) ≡ pos (biased z)
+  shifted-read =
+      rw (toZ-ofZ w64 z f, shifted z t) (toZ-ofZ w64 (pos (biased z)) (wide (pos (biased z)) (omega (arith, biased-word z t))))
+
+-- ---- the remainder
+
+-- what is left of a, or of its negation, when the product n is taken off it
+rest : (a n r : ℕ) → n + r ≡ a → pos a +ℤ negℤ (pos n) ≡ pos r
+rest a zero r e = ap pos (omega arith)
+rest a (suc n) r e = subℕ-ge a (suc n) (omega arith) ∙ ap pos {x = a - suc n} {y = r} (omega arith)
+
+rest-neg : (a n r : ℕ) → n + r ≡ suc a → negsuc a +ℤ pos n ≡ negℤ (pos r)
+rest-neg a n zero e = subℕ-ge n (suc a) (omega arith) ∙ ap pos {x = n - suc a} {y = 0} (omega arith)
+rest-neg a n (suc r) e = subℕ-lt n (suc a) (omega arith) ∙ ap negsuc {x = suc a - suc n} {y = r} (omega arith)
+
+product-neg : (y : ℤ) (n : ℕ) → y *ℤ negℤ (pos n) ≡ negℤ (y *ℤ pos n)
+product-neg y zero = rw (*ℤ-zero y)
+product-neg y (suc n) = *ℤ-negsuc y n
+
+-- the machine's remainder is what the exact quotient leaves
+pub remainder-is : (x y : ℤ) → x -ℤ y *ℤ quotZ x y ≡ remZ x y
+remainder-is (pos a) (pos b) = rest a (b * (a / b)) (a % b) (div-add-mod a b)
+remainder-is (pos a) (negsuc b) =
+    rw (product-neg (negsuc b) (a / suc b), negℤ-negℤ) (rest a (suc b * (a / suc b)) (a % suc b) (div-add-mod a (suc b)))
+remainder-is (negsuc a) (pos b) =
+    rw (product-neg (pos b) (suc a / b), negℤ-negℤ) (rest-neg a (b * (suc a / b)) (suc a % b) (div-add-mod (suc a) b))
+remainder-is (negsuc a) (negsuc b) =
+    rw negℤ-negℤ (rest-neg a (suc b * (suc a / suc b)) (suc a % suc b) (div-add-mod (suc a) (suc b)))

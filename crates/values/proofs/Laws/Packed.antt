@@ -1,0 +1,116 @@
+-- What the result of an operation says: whether a value is held to 32 bits, when a divisor is zero, and the way back from the code's
+-- result to the specification's. Assumes nothing.
+use Prim.Native.Nat.{ℕ, zero, suc, _-_}
+use native.Mathlib.Omega.{arith}
+use mathlib.Core.Path.{_≡_, refl, sym, _∙_, ap, subst}
+use mathlib.Core.Bool.{Bool, true, false}
+use lib.Dec.{T}
+use lib.IntN.{ℤ, pos, negsuc, _+ℤ_, _-ℤ_, _*ℤ_}
+use lib.Signed.{quotZ}
+use Rattle.specification.specs.Bytes.{pick}
+use Rattle.specification.specs.Number.{in32, least}
+use Rattle.specification.specs.Ast.{Op, add, sub, mul, div, modulo}
+use Rattle.specification.specs.Arithmetic.{Computed, value, fault, fit, divided, compute, outside32, zeroDivisor}
+use Rattle.values.specs.declared.Computed.the-variants.{Value, Fault}
+use Rattle.values.specs.Word.{signed, biased}
+use Rattle.values.specs.Packed.{packed}
+use Rattle.values.proofs.Laws.Word.{by-sign, signed-biased}
+
+-- ---- 32 bits
+
+pub fit-in : (z : ℤ) → T (in32 z) → fit z ≡ value z
+unfolding fit
+fit-in z t = go (in32 z) t
+  where
+    go : (b : Bool) → T b → pick b (value z) (fault outside32) ≡ value z
+    go true t = refl
+    go false t = absurd t
+
+pub fit-out : (z : ℤ) → (T (in32 z) → ⊥) → fit z ≡ fault outside32
+unfolding fit
+fit-out z f = go (in32 z) f
+  where
+    go : (b : Bool) → (T b → ⊥) → pick b (value z) (fault outside32) ≡ fault outside32
+    go true f = absurd (f tt)
+    go false f = refl
+
+-- what fits is in 32 bits
+fit-value : (u z : ℤ) → fit u ≡ value z → T (in32 z)
+unfolding fit
+fit-value u z e = go (in32 u) (λ t. t) e
+  where
+    go : (b : Bool) → (T b → T (in32 u)) → pick b (value u) (fault outside32) ≡ value z → T (in32 z)
+    go true f e = let same : u ≡ z = cc in subst (λ (v : ℤ). T (in32 v)) same (f tt)
+    go false f e = let z : _≡_ {A = ℕ} 0 1 = cc in absurd (omega arith)
+
+-- ---- division
+
+-- the word of 0 is 2147483648
+pub divided-zero : (y : ℕ) (c : Computed) → y ≡ 2147483648 → divided (signed y) c ≡ fault zeroDivisor
+divided-zero y c e = ap (λ (w : ℕ). divided (signed w) c) e
+
+pub divided-other : (y : ℕ) (c : Computed) → (y ≡ 2147483648 → ⊥) → divided (signed y) c ≡ c
+divided-other y c n = by-sign (λ z. divided z c ≡ c) y (λ l. refl) (λ h. go (y - 2147483648) (λ e. n (omega arith)))
+  where
+    go : (k : ℕ) → (k ≡ 0 → ⊥) → divided (pos k) c ≡ c
+    go zero f = absurd (f refl)
+    go (suc k) f = refl
+
+divided-value : (y : ℤ) (c : Computed) (z : ℤ) → divided y c ≡ value z → c ≡ value z
+divided-value (pos zero) c z e = let n : _≡_ {A = ℕ} 0 1 = cc in absurd (omega arith)
+divided-value (pos (suc n)) c z e = e
+divided-value (negsuc n) c z e = e
+
+-- ---- the operations of a sheet
+
+pub compute-in32 : (edition : ℕ) (op : Op) (x y z : ℤ) → compute edition op x y ≡ value z → T (in32 z)
+unfolding compute
+compute-in32 edition add x y z e = fit-value (x +ℤ y) z e
+compute-in32 edition sub x y z e = fit-value (x -ℤ y) z e
+compute-in32 edition mul x y z e = fit-value (x *ℤ y) z e
+compute-in32 edition div x y z e = fit-value (quotZ x y) z (divided-value y (fit (quotZ x y)) z e)
+compute-in32 edition modulo x y z e =
+    fit-value (x -ℤ y *ℤ quotZ x y) z (divided-value y (fit (x -ℤ y *ℤ quotZ x y)) z e)
+
+-- what the functions of this crate ensure is what `compute` says
+pub compute-add : (edition : ℕ) (x y : ℤ) → compute edition add x y ≡ fit (x +ℤ y)
+unfolding compute
+compute-add edition x y = refl
+
+pub compute-sub : (edition : ℕ) (x y : ℤ) → compute edition sub x y ≡ fit (x -ℤ y)
+unfolding compute
+compute-sub edition x y = refl
+
+pub compute-mul : (edition : ℕ) (x y : ℤ) → compute edition mul x y ≡ fit (x *ℤ y)
+unfolding compute
+compute-mul edition x y = refl
+
+pub compute-div : (edition : ℕ) (x y : ℤ) → compute edition div x y ≡ divided y (fit (quotZ x y))
+unfolding compute
+compute-div edition x y = refl
+
+pub compute-modulo : (edition : ℕ) (x y : ℤ) → compute edition modulo x y ≡ divided y (fit (x -ℤ y *ℤ quotZ x y))
+unfolding compute
+compute-modulo edition x y = refl
+
+-- the one quotient outside 32 bits leaves 0
+pub least-div : (edition : ℕ) → compute edition div least (negsuc 0) ≡ fault outside32
+unfolding compute fit
+least-div edition = refl
+
+pub least-modulo : (edition : ℕ) → compute edition modulo least (negsuc 0) ≡ value (pos 0)
+unfolding compute fit
+least-modulo edition = refl
+
+-- ---- the way back
+
+pub packed-value : (edition : ℕ) (op : Op) (x y : ℤ) (w : ℕ) → packed (compute edition op x y) ≡ Value w → compute edition op x y ≡ value (signed w)
+packed-value edition op x y w e = go (compute edition op x y) (compute-in32 edition op x y) e
+  where
+    go : (c : Computed) → ((z : ℤ) → c ≡ value z → T (in32 z)) → packed c ≡ Value w → c ≡ value (signed w)
+    go (value z) f e = let same : biased z ≡ w = cc in ap value (sym (signed-biased z (f z refl)) ∙ ap signed same)
+    go (fault κ) f e = let n : _≡_ {A = ℕ} 0 1 = cc in absurd (omega arith)
+
+pub packed-fault : (c : Computed) (κ : ℕ) → packed c ≡ Fault κ → c ≡ fault κ
+packed-fault (value z) κ e = let n : _≡_ {A = ℕ} 0 1 = cc in absurd (omega arith)
+packed-fault (fault k) κ e = let same : k ≡ κ = cc in ap fault same

@@ -1,0 +1,33 @@
+-- `values::sub` meets its contract: 64 bits hold the difference exactly. Assumes nothing.
+use mathlib.Core.Path.{_∙_, ap}
+use borrow.Author.Needs.{needs}
+use lib.IntN.{ℤ, _-ℤ_}
+use Rattle.specification.specs.Arithmetic.{fit}
+use Rattle.values.specs.Packed.{packed}
+use Rattle.values.proofs.Laws.Exact.{Operands, result-fits, result-read, exact-difference}
+use Rattle.values.proofs.sub.Statement.{statement}
+use Rattle.values.proofs.sub.Tie as tie
+
+operands : (c : tie.After-widen2) → Operands (c .before .before .args .x) (c .before .before .args .y) (c .before .widen .result) (c .widen2 .result)
+operands c =
+    let s = c .before .before in
+    record { left-word = s .fits .x .fits; right-word = s .fits .y .fits; left = c .before .widen .ensures; right = c .widen2 .ensures }
+
+widen-requires : tie.Need-widen-requires
+widen-requires c κs = search needs
+
+widen-requires-2 : tie.Need-widen-requires-2
+widen-requires-2 c κs = search needs
+
+sub-pack : tie.Need-sub-pack
+sub-pack c = result-fits (operands c) _-ℤ_ exact-difference
+
+pack-requires : tie.Need-pack-requires
+pack-requires c κs = search needs
+
+returns : tie.Need-returns
+returns c =
+    c .pack .ensures ∙ ap (λ (z : ℤ). packed (fit z)) (result-read (operands (c .before)) _-ℤ_ exact-difference)
+
+pub sub-spec : {M : Type 1} → statement M
+sub-spec = tie.close (tie.spec widen-requires widen-requires-2 sub-pack pack-requires returns)
