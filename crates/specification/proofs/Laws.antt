@@ -41,6 +41,7 @@ pub mod Budget
 pub mod Leaves
 pub mod Cut
 pub mod Done
+pub mod Whole
 -- the tables of cases
 pub mod Marked
 -- the third demand
