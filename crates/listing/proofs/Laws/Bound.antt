@@ -1,0 +1,131 @@
+-- A block's length is a number of the machine. The bounds are far above the lengths that occur: n + 1 digits for a number n.
+-- Assumes nothing.
+use Prim.Native.Nat.{ℕ, zero, suc, _+_, _-_, _*_, _≤_, _<_}
+use native.Mathlib.Omega.{arith}
+use native.Mathlib.Nat.{suc-mul}
+use mathlib.Core.Path.{_≡_, ap}
+use mathlib.Core.Bool.{Bool, true, false}
+use mathlib.Core.List.{List, [], _∷_, _++_}
+use lib.ListN.{length, getD, length-append}
+use lib.Dec.{eqb}
+use Rattle.specification.specs.Bytes.{Bytes, bytes, pick}
+use Rattle.specification.specs.Number.{printℕ, printℤ}
+use Rattle.specification.specs.Lines.{CellName, scalar, element}
+use Rattle.specification.specs.Listing.{Line, cellLabel, _is_, labelText, linesText}
+use Rattle.specification.proofs.Laws.Blocks.{linesText-++}
+use Rattle.values.specs.Word.{signed}
+use Rattle.sheet.specs.Tables.{Words}
+use Rattle.listing.specs.declared.Head.the-variants.{Answer, Error}
+use Rattle.listing.specs.Put.{Room, Put, fieldText}
+use Rattle.listing.specs.Model.{flagAt, valueAt, firstAt, Laid, eachLine, lineAt, scalarLine, elementLine, arrayLines, headText, Headed}
+use Rattle.listing.proofs.Laws.Digits.{length-bound, value-bound}
+use Rattle.listing.proofs.Laws.Pieces.{answer-pieces, error-pieces}
+
+-- ---- lines in a row
+
+-- each of the first m at most b long
+each-bound : (f : ℕ → List Line) (m b : ℕ) → ((i : ℕ) → i < m → length (linesText (f i)) ≤ b) →
+    (i n : ℕ) → i + n ≤ m → length (linesText (eachLine f i n)) ≤ n * b
+unfolding eachLine linesText
+each-bound f m b h i zero l = omega arith
+each-bound f m b h i (suc n) l =
+    omega (
+      arith,
+      ap length (linesText-++ (f i) (eachLine f (suc i) n)),
+      length-append (linesText (f i)) (linesText (eachLine f (suc i) n)),
+      h i (omega arith),
+      each-bound f m b h (suc i) n (omega arith),
+      suc-mul n b,
+    )
+
+-- ---- the head
+
+field-bound : (key : Bytes) (n : ℕ) → n < 4294967296 → length (fieldText key n) ≤ length key + 4294967297
+field-bound key n h =
+    omega (arith, length-append key (printℕ n ++ bytes "\n"), length-append (printℕ n) (bytes "\n"), length-bound n)
+
+module _ (n : ℕ) (h : n < 4294967296) where
+  answer-bound : length (headText (Answer n)) ≤ 17179869184
+  answer-bound = omega (arith, ap length (answer-pieces n), field-bound (bytes "answer=") n h)
+
+  pub answer-room : Room 0 (headText (Answer n))
+  answer-room = omega (arith, answer-bound)
+
+  pub answer-headed : {o o′ : Bytes} {r : ℕ} → Put o o′ 0 (headText (Answer n)) r → Headed o o′ (Answer n) r
+  answer-headed p = record { text = p; short = omega (arith, p .end, answer-bound) }
+
+  module _ (kind token : ℕ) (k : kind < 4294967296) (t : token < 4294967296) where
+    error-bound : length (headText (Error n kind token)) ≤ 17179869184
+    error-bound =
+        let f = fieldText (bytes "error=") n in
+        let g = fieldText (bytes "kind=") kind in
+        let e = fieldText (bytes "at=") token in
+        omega (
+          arith,
+          ap length (error-pieces n kind token),
+          length-append f (g ++ e),
+          length-append g e,
+          field-bound (bytes "error=") n h,
+          field-bound (bytes "kind=") kind k,
+          field-bound (bytes "at=") token t,
+        )
+
+    pub error-room : Room 0 (headText (Error n kind token))
+    error-room = omega (arith, error-bound)
+
+    pub error-headed : {o o′ : Bytes} {r : ℕ} → Put o o′ 0 (headText (Error n kind token)) r → Headed o o′ (Error n kind token) r
+    error-headed p = record { text = p; short = omega (arith, p .end, error-bound) }
+
+-- ---- the cells
+
+module _ (w : Words) (word : (j : ℕ) → getD w j 0 < 4294967296) where
+  line-bound : (n : CellName) (c : ℕ) → length (labelText (cellLabel n)) ≤ 600 → length (linesText (lineAt w n c)) ≤ 4294968000
+  unfolding lineAt linesText
+  line-bound n c h = go (eqb (flagAt w c) 0)
+    where
+      go : (b : Bool) → length (linesText (pick b [] (cellLabel n is signed (valueAt w c) ∷ []))) ≤ 4294968000
+      go true = omega arith
+      go false =
+          let v = printℤ (signed (valueAt w c)) in
+          omega (
+            arith,
+            length-append (labelText (cellLabel n)) (bytes "=" ++ (v ++ bytes "\n")),
+            length-append v (bytes "\n"),
+            value-bound (valueAt w c) (word (4096 + 2 * c + 1)),
+          )
+
+  scalar-bound : (i : ℕ) → i < 512 → length (linesText (scalarLine w i)) ≤ 4294968000
+  unfolding labelText
+  scalar-bound i h = line-bound (scalar i) i (omega (arith, length-bound i))
+
+  element-bound : (a c i : ℕ) → a < 16 → i < 512 → length (linesText (elementLine w a c i)) ≤ 4294968000
+  unfolding labelText
+  element-bound a c i h l =
+      line-bound (element a i) (c + i)
+      (omega (arith, length-append (printℕ a) (bytes "." ++ printℕ i), length-bound a, length-bound i))
+
+  scalars-bound : (n : ℕ) → n ≤ 512 → length (linesText (eachLine (scalarLine w) 0 n)) ≤ 2199023616000
+  scalars-bound n h = omega (arith, each-bound (scalarLine w) 512 4294968000 scalar-bound 0 n (omega arith))
+
+  module _ (arrays : ℕ) (l : Laid w arrays) where
+    array-bound : (a : ℕ) → a < arrays → length (linesText (arrayLines w a)) ≤ 2199023616000
+    array-bound a h =
+        let n = firstAt w (a + 1) - firstAt w a in
+        omega (
+          arith,
+          each-bound (elementLine w a (firstAt w a)) 512 4294968000 (λ i k. element-bound a (firstAt w a) i (omega (arith, l .few)) k) 0 n
+              (omega (arith, l .spans a h .limit)),
+          l .spans a h .limit,
+        )
+
+    arrays-bound : length (linesText (eachLine (arrayLines w) 0 arrays)) ≤ 35184377856000
+    arrays-bound = omega (arith, each-bound (arrayLines w) arrays 2199023616000 array-bound 0 arrays (omega arith), l .few)
+
+    -- after a short head there is room for the scalars, and then for the arrays
+    module _ (scalars p : ℕ) (few : scalars ≤ 512) (short : p ≤ 17179869184) where
+      pub scalars-room : Room p (linesText (eachLine (scalarLine w) 0 scalars))
+      scalars-room = omega (arith, scalars-bound scalars few)
+
+      pub arrays-room : {q : ℕ} → q ≡ p + length (linesText (eachLine (scalarLine w) 0 scalars)) →
+          Room q (linesText (eachLine (arrayLines w) 0 arrays))
+      arrays-room e = omega (arith, scalars-bound scalars few, arrays-bound)

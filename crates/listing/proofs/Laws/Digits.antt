@@ -1,0 +1,122 @@
+-- The digits of a number: one digit, one digit more, how many there are; the digits put from the last to the first; and a value's sign.
+-- Assumes nothing.
+use Prim.Native.Nat.{ℕ, zero, suc, _+_, _-_, _/_, _%_, _≤_, _<_}
+use native.Mathlib.Omega.{arith}
+use mathlib.Core.Path.{_≡_, refl, sym, _∙_, ap}
+use mathlib.Core.Bool.{Bool, true, false}
+use mathlib.Core.List.{List, [], _∷_, _++_}
+use lib.ListN.{length, set, length-append}
+use lib.Seq.{sets}
+use lib.Dec.{ltb}
+use borrow.Author.Tests.{lt-ltb, le-ltb, ltb-true, ltb-false}
+use Rattle.specification.specs.Bytes.{Bytes, pick}
+use Rattle.specification.specs.Number.{digits, printℕ, printℤ}
+use Rattle.values.specs.Word.{signed}
+use Rattle.values.proofs.Laws.Word.{by-sign}
+use Rattle.listing.specs.Put.{Put}
+use Rattle.listing.proofs.Laws.Put.{sets-before, joined}
+
+-- ---- the bound that `digits` counts down does not matter
+
+one-digit : (k n : ℕ) → n < 10 → digits k n ≡ (48 + n) ∷ []
+unfolding digits
+one-digit zero n h = refl
+one-digit (suc k) n h = rw (lt-ltb n 10 h)
+
+more-digits : (k n : ℕ) → 10 ≤ n → digits (suc k) n ≡ digits k (n / 10) ++ (48 + n % 10) ∷ []
+unfolding digits
+more-digits k n h = rw (le-ltb n 10 h)
+
+any-bound : (j k n : ℕ) → n ≤ j → n ≤ k → digits j n ≡ digits k n
+any-bound zero k n h l = one-digit 0 n (omega arith) ∙ sym (one-digit k n (omega arith))
+any-bound (suc j) zero n h l = one-digit (suc j) n (omega arith) ∙ sym (one-digit 0 n (omega arith))
+any-bound (suc j) (suc k) n h l = go (λ m. any-bound j k (n / 10) (omega arith) (omega arith)) (ltb n 10) refl
+  where
+    go : (10 ≤ n → digits j (n / 10) ≡ digits k (n / 10)) → (b : Bool) → ltb n 10 ≡ b → digits (suc j) n ≡ digits (suc k) n
+    go f true e = one-digit (suc j) n (ltb-true n 10 e) ∙ sym (one-digit (suc k) n (ltb-true n 10 e))
+    go f false e =
+        let m : 10 ≤ n = ltb-false n 10 e in
+        more-digits j n m ∙ ap (λ ds. ds ++ (48 + n % 10) ∷ []) (f m) ∙ sym (more-digits k n m)
+
+-- ---- the digits of n
+
+pub print-one : (n : ℕ) → n < 10 → printℕ n ≡ (48 + n) ∷ []
+unfolding printℕ
+print-one n h = one-digit n n h
+
+pub print-more : (n : ℕ) → 10 ≤ n → printℕ n ≡ printℕ (n / 10) ++ (48 + n % 10) ∷ []
+unfolding printℕ
+print-more zero h = absurd (omega arith)
+print-more (suc k) h =
+    more-digits k (suc k) h ∙ ap (λ ds. ds ++ (48 + suc k % 10) ∷ []) (any-bound k (suc k / 10) (suc k / 10) (omega arith) (omega arith))
+
+-- ---- how many
+
+pub length-more : (n : ℕ) → 10 ≤ n → length (printℕ n) ≡ length (printℕ (n / 10)) + 1
+length-more n h = ap length (print-more n h) ∙ length-append (printℕ (n / 10)) ((48 + n % 10) ∷ [])
+
+length-digits : (k n : ℕ) → length (digits k n) ≤ suc k
+unfolding digits
+length-digits zero n = omega arith
+length-digits (suc k) n = go (ltb n 10) (length-digits k (n / 10))
+  where
+    go : (b : Bool) → length (digits k (n / 10)) ≤ suc k →
+        length (pick b ((48 + n) ∷ []) (digits k (n / 10) ++ (48 + n % 10) ∷ [])) ≤ suc (suc k)
+    go true h = omega arith
+    go false h = omega (arith, length-append (digits k (n / 10)) ((48 + n % 10) ∷ []))
+
+-- at least one
+length-some-digits : (k n : ℕ) → 0 < length (digits k n)
+unfolding digits
+length-some-digits zero n = omega arith
+length-some-digits (suc k) n = go (ltb n 10)
+  where
+    go : (b : Bool) → 0 < length (pick b ((48 + n) ∷ []) (digits k (n / 10) ++ (48 + n % 10) ∷ []))
+    go true = omega arith
+    go false = omega (arith, length-append (digits k (n / 10)) ((48 + n % 10) ∷ []))
+
+pub length-some : (n : ℕ) → 0 < length (printℕ n)
+unfolding printℕ
+length-some n = length-some-digits n n
+
+-- far too many, but enough for the machine's numbers
+pub length-bound : (n : ℕ) → length (printℕ n) ≤ suc n
+unfolding printℕ
+length-bound n = length-digits n n
+
+-- ---- digits put from the last to the first: p is the place of the last
+
+module _ (at n : ℕ) {o o′ : Bytes} {p q : ℕ} (place : p + 1 ≡ at + length (printℕ n)) where
+  pub put-digit : 10 ≤ n → Put o o′ p ((48 + n % 10) ∷ []) q → sets o′ at (printℕ (n / 10)) ≡ sets o at (printℕ n)
+  put-digit h b =
+      rw (b .bytes, print-more n h) (sets-before o at (printℕ (n / 10)) (48 + n % 10) p (omega (arith, length-more n h)))
+
+  pub put-first : n < 10 → Put o o′ p ((48 + n) ∷ []) q → o′ ≡ sets o at (printℕ n)
+  put-first h b =
+      let e : p ≡ at = omega (arith, ap length (print-one n h)) in
+      rw (print-one n h) (b .bytes ∙ ap (λ k. set o k (48 + n)) e)
+
+-- ---- the value of a word, with its sign
+
+abbrev pub lowPieces : ℕ → List Bytes
+lowPieces w = (45 ∷ []) ∷ printℕ (2147483648 - w) ∷ []
+
+pub value-low : (w : ℕ) → w < 2147483648 → printℤ (signed w) ≡ joined (lowPieces w)
+unfolding printℤ
+value-low w l =
+    by-sign (λ z. printℤ z ≡ joined (lowPieces w)) w
+    (λ h. ap (λ n. 45 ∷ printℕ n) {x = suc (2147483648 - suc w)} {y = 2147483648 - w} (omega arith)) (λ h. absurd (omega arith))
+
+abbrev pub highPieces : ℕ → List Bytes
+highPieces w = printℕ (w - 2147483648) ∷ []
+
+pub value-high : (w : ℕ) → 2147483648 ≤ w → printℤ (signed w) ≡ joined (highPieces w)
+unfolding printℤ
+value-high w l = by-sign (λ z. printℤ z ≡ joined (highPieces w)) w (λ h. absurd (omega arith)) (λ h. refl)
+
+-- a word's value is shorter than the machine's numbers by far
+pub value-bound : (w : ℕ) → w < 4294967296 → length (printℤ (signed w)) ≤ 4294967296
+unfolding printℤ
+value-bound w h =
+    by-sign (λ z. length (printℤ z) ≤ 4294967296) w
+    (λ l. omega (arith, length-bound (suc (2147483648 - suc w)))) (λ l. omega (arith, length-bound (w - 2147483648)))

@@ -1,0 +1,79 @@
+-- At most 129 are due at once, each at most 64 deep. Assumes nothing.
+use Prim.Native.Nat.{ℕ, zero, suc, _+_, _*_, _≤_}
+use native.Mathlib.Omega.{arith}
+use mathlib.Core.Path.{_≡_}
+use mathlib.Core.Bool.{Bool, true, false}
+use mathlib.Core.List.{List, [], _∷_, _++_}
+use lib.ListN.{length}
+use lib.Dec.{ltb, eqb}
+use Rattle.specification.specs.Bytes.{pick, between}
+use Rattle.specification.specs.Parser.{Reader}
+use Rattle.specification.specs.Lines.{Declared}
+use Rattle.specification.specs.Formula.{Locals}
+use Rattle.sheet.specs.declared.Token.{Token}
+use Rattle.sheet.specs.Dues.{Due, dueFormula, dueTerm, dueEx, dueRange}
+use Rattle.sheet.specs.Turn.{room, operandsOf, opens, faultOf, tokenAt, faultAt, weight, weights, Fits}
+
+-- the whole formula
+pub fits-start : Fits (dueFormula 64 [] ∷ [])
+unfolding Fits weights
+fits-start = (omega arith, tt)
+
+-- ---- a turn
+
+pick-fits : (b : Bool) (xs ys ds : List Due) → Fits (xs ++ ds) → Fits (ys ++ ds) → Fits (pick b xs ys ++ ds)
+pick-fits true xs ys ds h k = h
+pick-fits false xs ys ds h k = k
+
+module _ (k : ℕ) (S : Locals) (ds : List Due) (h : weights ds + 2 * k ≤ 126) (f : Fits ds) where
+  operands-fit : (c : ℕ) → Fits (operandsOf k S c ++ ds)
+  unfolding operandsOf Fits weights
+  operands-fit c =
+      pick-fits (eqb c 5) _ _ ds (omega arith, f)
+      (pick-fits (between 2 4 c) _ _ ds (omega arith, (omega arith, f))
+      (pick-fits (between 6 11 c) _ _ ds (omega arith, (omega arith, f))
+      (pick-fits (eqb c 12) _ _ ds (omega arith, f)
+      (pick-fits (between 13 14 c) _ _ ds (omega arith, f)
+      (pick-fits (between 32 36 c) _ _ ds (omega arith, (omega arith, f))
+      (pick-fits (eqb c 43) _ _ ds (omega arith, f) f))))))
+
+-- the first that is due is replaced by what its token makes due
+pub fits-turn : (d : Due) (ds : List Due) (t : Token) → 1 ≤ room d → Fits (d ∷ ds) → Fits (opens d t ++ ds)
+unfolding opens Fits weights
+fits-turn (dueFormula zero S) ds t n f = absurd (omega arith)
+fits-turn (dueFormula (suc k) S) ds t n f = operands-fit k S ds (omega arith) (f .1) (t .code)
+fits-turn (dueTerm zero S) ds t n f = absurd (omega arith)
+fits-turn (dueTerm (suc k) S) ds t n f = operands-fit k S ds (omega arith) (f .1) (t .code)
+fits-turn (dueEx k S) ds t n f = (omega arith, f .1)
+fits-turn (dueRange k S) ds t n f = (omega arith, (omega arith, (omega arith, f .1)))
+
+-- a token stands only where nesting may go deeper
+pub room-left : (D : Declared) (d : Due) (r : Reader) → faultAt D d r ≡ 0 → 1 ≤ room d
+unfolding faultAt
+room-left D d r e = go (room d) (pick (ltb (r .tokens) 1024) (faultOf D d (r .bound) (tokenAt D r)) 9) e
+  where
+    go : (k n : ℕ) → pick (eqb k 0) 9 n ≡ 0 → 1 ≤ k
+    go zero n e = absurd (omega arith)
+    go (suc k) n e = omega arith
+
+-- ---- bounds
+
+some-weight : (d : Due) → 1 ≤ weight d
+some-weight (dueFormula k S) = omega arith
+some-weight (dueTerm k S) = omega arith
+some-weight (dueEx k S) = omega arith
+some-weight (dueRange k S) = omega arith
+
+length-weights : (ds : List Due) → length ds ≤ weights ds
+unfolding weights
+length-weights [] = omega arith
+length-weights (d ∷ ds) = omega (arith, some-weight d, length-weights ds)
+
+pub fits-room : (d : Due) (ds : List Due) → Fits (d ∷ ds) → room d ≤ 64
+unfolding Fits weights
+fits-room d ds f = omega (arith, some-weight d)
+
+pub fits-length : (ds : List Due) → Fits ds → length ds ≤ 129
+unfolding Fits
+fits-length [] f = omega arith
+fits-length (d ∷ ds) f = omega (arith, length-weights (d ∷ ds))

@@ -1,0 +1,113 @@
+-- A formula that is read carries the numbers of its tokens, and the reader has counted them. Assumes nothing.
+use Prim.Native.Nat.{ℕ, zero, suc, _+_}
+use native.Mathlib.Omega.{arith}
+use mathlib.Core.Path.{_≡_, refl, subst}
+use mathlib.Core.List.{_∷_, _++_}
+use lib.ListN.{length, length-append}
+use Rattle.specification.specs.Parser.{Reader, found, Parser, give, _>>=_}
+use Rattle.specification.specs.Lines.{Declared}
+use Rattle.specification.specs.Ast.{Term, Formula, and, or, imp, eq, compare, some, all}
+use Rattle.specification.specs.Words.{FormulaWord, trueWord, andWord, orWord, impWord, notWord, eqWord, exWord, someWord, allWord, relWord, Word, formulaWord, termWord, unknown}
+use Rattle.specification.specs.Formula.{Token, operand, Locals, binder, term, formulaOf, formulaWith, formula}
+use Rattle.specification.proofs.Laws.Parser.{Post, refusal, holds, of-found, bind-post}
+use Rattle.sheet.specs.Codes.{termTokens, formulaTokens}
+use Rattle.sheet.specs.Numbered.{termSize, formulaSize, Numbered}
+use Rattle.sheet.proofs.Counted.{Counted, Counting, operand-counts, token-counts, term-operand-counts, local-operand-counts}
+
+-- counted from a number that is equal
+pub renumbered : {m n : ℕ} (F : Formula) → m ≡ n → Numbered m F → Numbered n F
+renumbered F e h = subst (λ i. Numbered i F) e h
+
+abbrev pub FormulaFrom : ℕ → Formula → Reader → Type 0
+FormulaFrom = Counting formulaSize Numbered
+
+-- ---- each word
+
+module _ (D : Declared) (k : ℕ) (ih : (S : Locals) (r : Reader) → Post (FormulaFrom (r .tokens)) (formula D k S r))
+    (S : Locals) (n : ℕ) (r : Reader) (c : Counted n 1 (r .tokens)) where
+  abbrev F : Locals → Parser Formula
+  F S′ r = formula D k S′ r
+
+  abbrev T : Parser Term
+  T r = term D k S r
+
+  abbrev L : Parser ℕ
+  L r = binder D k r
+
+  formula-operand-counts : (S : Locals) (r : Reader) → Post (FormulaFrom (r .tokens)) (operand (F S) r)
+  formula-operand-counts S = operand-counts formulaSize Numbered (F S) (ih S)
+
+  two-formulas : (make : Formula → Formula → Formula) →
+      ((f g : Formula) → Numbered (suc n) f → Numbered (suc n + formulaSize f) g → Numbered n (make f g)) →
+      ((f g : Formula) → formulaSize (make f g) ≡ suc (length (formulaTokens f ++ formulaTokens g))) →
+      Post (FormulaFrom n) ((operand (F S) >>= λ f. operand (F S) >>= λ g. give (make f g)) r)
+  two-formulas make put size =
+      bind-post (formula-operand-counts S r) λ f r₁ h₁.
+      bind-post (formula-operand-counts S r₁) λ g r₂ h₂.
+      holds (
+        put f g (renumbered f (omega arith) (h₁ .0)) (renumbered g (omega arith) (h₂ .0)),
+        record { tokens = omega (arith, size f g, length-append (formulaTokens f) (formulaTokens g)); few = h₂ .1 .few },
+      )
+
+  two-terms : (make : Term → Term → Formula) → ((s t : Term) → Numbered n (make s t)) →
+      ((s t : Term) → formulaSize (make s t) ≡ suc (length (termTokens s ++ termTokens t))) →
+      Post (FormulaFrom n) ((operand T >>= λ s. operand T >>= λ t. give (make s t)) r)
+  two-terms make put size =
+      bind-post (term-operand-counts D S k r) λ s r₁ h₁.
+      bind-post (term-operand-counts D S k r₁) λ t r₂ h₂.
+      holds (put s t, record { tokens = omega (arith, size s t, length-append (termTokens s) (termTokens t)); few = h₂ .1 .few })
+
+  quantified : (make : ℕ → Term → Term → Formula → Formula) →
+      ((l : ℕ) (a b : Term) (f : Formula) → Numbered (suc (suc n) + termSize a + termSize b) f → Numbered n (make l a b f)) →
+      ((l : ℕ) (a b : Term) (f : Formula) →
+      formulaSize (make l a b f) ≡ suc (suc (length (termTokens a ++ (termTokens b ++ formulaTokens f))))) →
+      Post (FormulaFrom n) ((operand L >>= λ l. operand T >>= λ a. operand T >>= λ b. operand (F (l ∷ S)) >>= λ f. give (make l a b f)) r)
+  quantified make put size =
+      bind-post (local-operand-counts D k r) λ l r₁ h₁.
+      bind-post (term-operand-counts D S k r₁) λ a r₂ h₂.
+      bind-post (term-operand-counts D S k r₂) λ b r₃ h₃.
+      bind-post (formula-operand-counts (l ∷ S) r₃) λ f r₄ h₄.
+      let whole = length-append (termTokens a) (termTokens b ++ formulaTokens f) in
+      let part = length-append (termTokens b) (formulaTokens f) in
+      holds (
+        put l a b f (renumbered f (omega arith) (h₄ .0)),
+        record { tokens = omega (arith, size l a b f, whole, part); few = h₄ .1 .few },
+      )
+
+  formula-of : (m : ℕ) (w : FormulaWord) → m ≡ n → Post (FormulaFrom n) (formulaOf D F T L S m w r)
+  unfolding Numbered formulaTokens
+  formula-of m trueWord e = holds (tt, c)
+  formula-of m andWord e = two-formulas and (λ f g x y. (x, y)) (λ f g. refl)
+  formula-of m orWord e = two-formulas or (λ f g x y. (x, y)) (λ f g. refl)
+  formula-of m impWord e = two-formulas (imp m) (λ f g x y. (e, x, y)) (λ f g. refl)
+  formula-of m notWord e =
+      bind-post (formula-operand-counts S r) λ f r₁ h₁.
+      holds ((e, renumbered f (omega arith) (h₁ .0)), record { tokens = omega arith; few = h₁ .1 .few })
+  formula-of m eqWord e = two-terms (eq m) (λ s t. e) (λ s t. refl)
+  formula-of m (relWord c) e = two-terms (compare m c) (λ s t. e) (λ s t. refl)
+  formula-of m exWord e =
+      bind-post (local-operand-counts D k r) λ l r₁ h₁.
+      bind-post (formula-operand-counts (l ∷ S) r₁) λ f r₂ h₂.
+      holds (renumbered f (omega arith) (h₂ .0), record { tokens = omega arith; few = h₂ .1 .few })
+  formula-of m someWord e = quantified (some m) (λ l a b f x. (e, x)) (λ l a b f. refl)
+  formula-of m allWord e = quantified (all m) (λ l a b f x. (e, x)) (λ l a b f. refl)
+
+  formula-with : (t : Token) (w : Word) → t .number ≡ n → Post (FormulaFrom n) (formulaWith D F T L S t w r)
+  formula-with t (formulaWord w) e = formula-of (t .number) w e
+  formula-with t (termWord w) e = refusal tt
+  formula-with t unknown e = refusal tt
+
+-- ---- the formula
+
+module _ (D : Declared) where
+  pub formula-counts : (k : ℕ) (S : Locals) (r : Reader) → Post (FormulaFrom (r .tokens)) (formula D k S r)
+  unfolding formula
+  formula-counts zero S r = refusal tt
+  formula-counts (suc k) S r =
+      bind-post (token-counts (D .edition) r) λ t r₁ h.
+      formula-with D k (λ S′ r′. formula-counts k S′ r′) S (r .tokens) r₁ (h .1) t (t .word) (h .0)
+
+  -- its numbers, and how many tokens it has
+  pub read-numbered : (k : ℕ) (S : Locals) (r r′ : Reader) (F : Formula) → formula D k S r ≡ found F r′ →
+      Numbered (r .tokens) F × Counted (r .tokens) (formulaSize F) (r′ .tokens)
+  read-numbered k S r r′ F e = of-found (formula-counts k S r) e

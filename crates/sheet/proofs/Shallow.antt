@@ -1,0 +1,140 @@
+-- A formula that is read is shallow: its terms nest at most 64 deep, and its binders' locals are below 32. Assumes nothing.
+use Prim.Native.Nat.{ℕ, zero, suc, _≤_, _<_, max}
+use native.Mathlib.Omega.{arith}
+use mathlib.Core.Path.{_≡_}
+use mathlib.Core.List.{List, _∷_}
+use lib.ListN.{length}
+use lib.Dec.{ltb}
+use borrow.Author.Tests.{ltb-true}
+use Rattle.specification.specs.Bytes.{space}
+use Rattle.specification.specs.Parser.{Reader, Read, Parser, give, _>>=_, mark}
+use Rattle.specification.specs.Lines.{Declared}
+use Rattle.specification.specs.Ast.{Term, constant, scalarAt, localAt, elementAt, apply, Formula, truth, and, or, imp, neg, eq, compare, ex, some, all}
+use Rattle.specification.specs.Words.{FormulaWord, trueWord, andWord, orWord, impWord, notWord, eqWord, exWord, someWord, allWord, relWord, TermWord, constantWord, scalarWord, localWord, arrayWord, opWord, Word, formulaWord, termWord, unknown}
+use Rattle.specification.specs.Formula.{Token, token, operand, Locals, has, bind, binderOf, binderWith, binder, termOf, termWith, term, formulaOf, formulaWith, formula}
+use Rattle.specification.proofs.Laws.Parser.{Post, refusal, holds, bind-post, after, require-post, pick-post}
+use Rattle.sheet.specs.Held.{height, Shallow}
+
+module _ {A : Type 0} {P : A → Reader → Type 0} (p : Parser A) (h : (r : Reader) → Post P (p r)) where
+  operand-post : (r : Reader) → Post P (operand p r)
+  operand-post r = after (mark space r) (λ u r₁. h r₁)
+
+module _ (D : Declared) where
+  -- ---- terms
+
+  abbrev Low : ℕ → Term → Reader → Type 0
+  Low k t r = height t ≤ k
+
+  module _ (k : ℕ) (S : Locals) (p : Parser Term) (h : (r : Reader) → Post (Low k) (p r)) where
+    term-of : (q : ℕ) (w : TermWord) (r : Reader) → Post (Low (suc k)) (termOf D p S q w r)
+    unfolding height
+    term-of q (constantWord z) r = let h : 1 ≤ suc k = omega arith in holds h
+    term-of q (scalarWord n) r = let h : 1 ≤ suc k = omega arith in require-post (ltb n (D .scalars)) _ _ _ _ tt λ e. holds h
+    term-of q (localWord l) r =
+        let h : 1 ≤ suc k = omega arith in
+        require-post (ltb l (D .locals)) _ _ _ _ tt λ d. require-post (has l S) _ _ _ _ tt λ e. holds h
+    term-of q (arrayWord a) r =
+        require-post (ltb a (length (D .arrays))) _ _ _ _ tt λ e.
+        bind-post (operand-post p h r) λ i r₁ h₁. let e : suc (height i) ≤ suc k = omega (arith, h₁) in holds e
+    term-of q (opWord o) r =
+        bind-post (operand-post p h r) λ s r₁ h₁.
+        bind-post (operand-post p h r₁) λ t r₂ h₂. let e : suc (max (height s) (height t)) ≤ suc k = omega (arith, h₁, h₂) in holds e
+
+    term-with : (t : Token) (w : Word) (r : Reader) → Post (Low (suc k)) (termWith D p S t w r)
+    term-with t (termWord w) r = term-of (t .place) w r
+    term-with t (formulaWord w) r = refusal tt
+    term-with t unknown r = refusal tt
+
+  term-low : (k : ℕ) (S : Locals) (r : Reader) → Post (Low k) (term D k S r)
+  unfolding term
+  term-low zero S r = refusal tt
+  term-low (suc k) S r =
+      after (token (D .edition) r) λ t r₁.
+      term-with k S (λ r. term D k S r) (λ r₂. term-low k S r₂) t (t .word) r₁
+
+  -- ---- binders
+
+  abbrev Small : ℕ → Reader → Type 0
+  Small l r = l < D .locals
+
+  binder-of : (p : ℕ) (w : TermWord) (r : Reader) → Post Small (binderOf D p w r)
+  binder-of p (localWord l) r =
+      require-post (ltb l (D .locals)) _ _ _ _ tt λ e.
+      pick-post (has l (r .bound)) _ _ (λ b. refusal tt) (λ b. holds (ltb-true l (D .locals) e))
+  binder-of p (constantWord z) r = refusal tt
+  binder-of p (scalarWord n) r = refusal tt
+  binder-of p (arrayWord a) r = refusal tt
+  binder-of p (opWord o) r = refusal tt
+
+  binder-with : (t : Token) (w : Word) (r : Reader) → Post Small (binderWith D t w r)
+  binder-with t (termWord w) r = binder-of (t .place) w r
+  binder-with t (formulaWord w) r = refusal tt
+  binder-with t unknown r = refusal tt
+
+  binder-small : (k : ℕ) (r : Reader) → Post Small (binder D k r)
+  unfolding binder
+  binder-small zero r = refusal tt
+  binder-small (suc k) r = after (token (D .edition) r) λ t r₁. binder-with t (t .word) r₁
+
+  -- ---- formulas
+
+  abbrev Flat : Formula → Reader → Type 0
+  Flat F r = Shallow F
+
+  module _ (few : D .locals ≤ 32) (k : ℕ) (deep : k ≤ 64) (ih : (S : Locals) (r : Reader) → Post Flat (formula D k S r)) (S : Locals) where
+    abbrev sub : Locals → Parser Formula
+    sub S′ r = formula D k S′ r
+
+    abbrev side : Parser Term
+    side r = term D k S r
+
+    abbrev local : Parser ℕ
+    local r = binder D k r
+
+    two-formulas : (g : Formula → Formula → Formula) → ((F G : Formula) → Shallow F → Shallow G → Shallow (g F G)) → (r : Reader) →
+        Post Flat ((operand (sub S) >>= λ f. operand (sub S) >>= λ h. give (g f h)) r)
+    two-formulas g ok r =
+        bind-post (operand-post (sub S) (ih S) r) λ f r₁ h₁.
+        bind-post (operand-post (sub S) (ih S) r₁) λ h r₂ h₂. holds (ok f h h₁ h₂)
+
+    two-terms : (g : Term → Term → Formula) → ((s t : Term) → height s ≤ 64 → height t ≤ 64 → Shallow (g s t)) → (r : Reader) →
+        Post Flat ((operand side >>= λ s. operand side >>= λ t. give (g s t)) r)
+    two-terms g ok r =
+        bind-post (operand-post side (term-low k S) r) λ s r₁ h₁.
+        bind-post (operand-post side (term-low k S) r₁) λ t r₂ h₂. holds (ok s t (omega (arith, h₁)) (omega (arith, h₂)))
+
+    quantified : (g : ℕ → Term → Term → Formula → Formula) →
+        ((l : ℕ) (a b : Term) (F : Formula) → height a ≤ 64 → height b ≤ 64 → l < 32 → Shallow F → Shallow (g l a b F)) → (r : Reader) →
+        Post Flat ((operand local >>= λ l. operand side >>= λ a. operand side >>= λ b. operand (sub (l ∷ S)) >>= λ f. give (g l a b f)) r)
+    quantified g ok r =
+        bind-post (operand-post local (binder-small k) r) λ l r₁ h₁.
+        bind-post (operand-post side (term-low k S) r₁) λ a r₂ h₂.
+        bind-post (operand-post side (term-low k S) r₂) λ b r₃ h₃.
+        bind-post (operand-post (sub (l ∷ S)) (ih (l ∷ S)) r₃) λ f r₄ h₄.
+        holds (ok l a b f (omega (arith, h₂)) (omega (arith, h₃)) (omega (arith, h₁)) h₄)
+
+    formula-of : (n : ℕ) (w : FormulaWord) (r : Reader) → Post Flat (formulaOf D sub side local S n w r)
+    formula-of n trueWord r = holds tt
+    formula-of n andWord r = two-formulas and (λ F G a b. (a, b)) r
+    formula-of n orWord r = two-formulas or (λ F G a b. (a, b)) r
+    formula-of n impWord r = two-formulas (imp n) (λ F G a b. (a, b)) r
+    formula-of n notWord r = bind-post (operand-post (sub S) (ih S) r) λ f r₁ h. holds h
+    formula-of n eqWord r = two-terms (eq n) (λ s t a b. (a, b)) r
+    formula-of n (relWord c) r = two-terms (compare n c) (λ s t a b. (a, b)) r
+    formula-of n exWord r =
+        bind-post (operand-post local (binder-small k) r) λ l r₁ h₁.
+        bind-post (operand-post (sub (l ∷ S)) (ih (l ∷ S)) r₁) λ f r₂ h₂. holds (omega (arith, h₁), h₂)
+    formula-of n someWord r = quantified (some n) (λ l a b F x y z h. (x, y, z, h)) r
+    formula-of n allWord r = quantified (all n) (λ l a b F x y z h. (x, y, z, h)) r
+
+    formula-with : (t : Token) (w : Word) (r : Reader) → Post Flat (formulaWith D sub side local S t w r)
+    formula-with t (formulaWord w) r = formula-of (t .number) w r
+    formula-with t (termWord w) r = refusal tt
+    formula-with t unknown r = refusal tt
+
+  pub formula-shallow : D .locals ≤ 32 → (k : ℕ) → k ≤ 64 → (S : Locals) (r : Reader) → Post Flat (formula D k S r)
+  unfolding formula
+  formula-shallow few zero deep S r = refusal tt
+  formula-shallow few (suc k) deep S r =
+      after (token (D .edition) r) λ t r₁.
+      formula-with few k (omega arith) (λ S′ r′. formula-shallow few k (omega arith) S′ r′) S t (t .word) r₁

@@ -1,0 +1,114 @@
+-- What the tables hold: which term or formula stands from a token on, the values of cells and locals, and the arrays' first cells. A walk
+-- leans on these and never looks at the sheet's bytes. Meaning is given by recursion on the term or formula. Assumes nothing.
+use Prim.Native.Nat.{ℕ, suc, _+_, _*_, _<_, _≤_, max}
+use mathlib.Core.Path.{_≡_}
+use lib.ListN.{length, getD}
+use lib.IntN.{ℤ}
+use Rattle.specification.specs.Lines.{Declared, firstOf}
+use Rattle.specification.specs.Ast.{Op, Term, constant, scalarAt, localAt, elementAt, apply, Formula, truth, and, or, imp, neg, eq, compare, ex, some, all}
+use Rattle.specification.specs.Place.{Place, cell, local}
+use Rattle.specification.specs.Value.{Slot, empty, full, Valuation}
+use Rattle.values.specs.Word.{biased}
+use Rattle.sheet.specs.Codes.{relCode, opCode}
+use Rattle.sheet.specs.Tables.{Words}
+
+-- ---- tokens
+
+abbrev pub codeAt : Words → ℕ → ℕ
+codeAt w i = getD w (4 * i) 0
+
+abbrev pub operandAt : Words → ℕ → ℕ
+operandAt w i = getD w (4 * i + 1) 0
+
+-- the number of the token after its subtree
+abbrev pub endAt : Words → ℕ → ℕ
+endAt w i = getD w (4 * i + 2) 0
+
+-- token i has this code, and its subtree ends at e, within the table
+pub record TokenAt (w : Words) (i k e : ℕ) : Type 0 where
+  pub code : codeAt w i ≡ k
+  pub end : endAt w i ≡ e
+  pub after : i < e
+  pub inside : e ≤ 1024
+
+-- the term t stands from token i on
+abbrev pub TermAt : Words → ℕ → Term → Type 0
+TermAt w i (constant z) = TokenAt w i 40 (suc i) × (operandAt w i ≡ biased z)
+TermAt w i (scalarAt n) = TokenAt w i 41 (suc i) × (operandAt w i ≡ n)
+TermAt w i (localAt l) = TokenAt w i 42 (suc i) × (operandAt w i ≡ l)
+TermAt w i (elementAt a t) = TokenAt w i 43 (endAt w (suc i)) × (operandAt w i ≡ a) × TermAt w (suc i) t
+TermAt w i (apply o s t) = TokenAt w i (opCode o) (endAt w (endAt w (suc i))) × TermAt w (suc i) s × TermAt w (endAt w (suc i)) t
+
+-- two terms one after the other, from token i up to token e
+abbrev pub TermsAt : Words → ℕ → ℕ → Term → Term → Type 0
+TermsAt w i e s t = TermAt w i s × TermAt w (endAt w i) t × (endAt w (endAt w i) ≡ e)
+
+-- the local l stands at token i
+abbrev pub LocalAt : Words → ℕ → ℕ → Type 0
+LocalAt w i l = TokenAt w i 42 (suc i) × (operandAt w i ≡ l)
+
+-- the formula F stands from token i on, and carries the numbers of its tokens
+abbrev pub FormulaAt : Words → ℕ → Formula → Type 0
+FormulaAt w i truth = TokenAt w i 1 (suc i)
+FormulaAt w i (and F G) = TokenAt w i 2 (endAt w (endAt w (suc i))) × FormulaAt w (suc i) F × FormulaAt w (endAt w (suc i)) G
+FormulaAt w i (or F G) = TokenAt w i 3 (endAt w (endAt w (suc i))) × FormulaAt w (suc i) F × FormulaAt w (endAt w (suc i)) G
+FormulaAt w i (imp n F G) = TokenAt w i 4 (endAt w (endAt w (suc i))) × (n ≡ i) × FormulaAt w (suc i) F × FormulaAt w (endAt w (suc i)) G
+FormulaAt w i (neg n F) = TokenAt w i 5 (endAt w (suc i)) × (n ≡ i) × FormulaAt w (suc i) F
+FormulaAt w i (eq n s t) = TokenAt w i 6 (endAt w (endAt w (suc i))) × (n ≡ i) × TermsAt w (suc i) (endAt w i) s t
+FormulaAt w i (compare n r s t) = TokenAt w i (relCode r) (endAt w (endAt w (suc i))) × (n ≡ i) × TermsAt w (suc i) (endAt w i) s t
+FormulaAt w i (ex l F) = TokenAt w i 12 (endAt w (suc (suc i))) × LocalAt w (suc i) l × FormulaAt w (suc (suc i)) F
+FormulaAt w i (some n l a b F) =
+    TokenAt w i 13 (endAt w (endAt w (endAt w (suc (suc i)))))
+    × (n ≡ i)
+    × LocalAt w (suc i) l
+    × TermsAt w (suc (suc i)) (endAt w (endAt w (suc (suc i)))) a b
+    × FormulaAt w (endAt w (endAt w (suc (suc i)))) F
+FormulaAt w i (all n l a b F) =
+    TokenAt w i 14 (endAt w (endAt w (endAt w (suc (suc i)))))
+    × (n ≡ i)
+    × LocalAt w (suc i) l
+    × TermsAt w (suc (suc i)) (endAt w (endAt w (suc (suc i)))) a b
+    × FormulaAt w (endAt w (endAt w (suc (suc i)))) F
+
+-- ---- nesting: how deep a term goes, itself being 1
+
+unfoldable pub height : Term → ℕ
+height (constant z) = 1
+height (scalarAt n) = 1
+height (localAt l) = 1
+height (elementAt a t) = suc (height t)
+height (apply o s t) = suc (max (height s) (height t))
+
+-- terms nest at most 64 deep, and binders' locals have slots
+abbrev pub Shallow : Formula → Type 0
+Shallow truth = Unit {0}
+Shallow (and F G) = Shallow F × Shallow G
+Shallow (or F G) = Shallow F × Shallow G
+Shallow (imp n F G) = Shallow F × Shallow G
+Shallow (neg n F) = Shallow F
+Shallow (eq n s t) = (height s ≤ 64) × (height t ≤ 64)
+Shallow (compare n r s t) = (height s ≤ 64) × (height t ≤ 64)
+Shallow (ex l F) = (l < 32) × Shallow F
+Shallow (some n l a b F) = (height a ≤ 64) × (height b ≤ 64) × (l < 32) × Shallow F
+Shallow (all n l a b F) = (height a ≤ 64) × (height b ≤ 64) × (l < 32) × Shallow F
+
+-- ---- values
+
+-- a slot in the two words from j on
+abbrev pub SlotAt : Words → ℕ → Slot → Type 0
+SlotAt w j empty = getD w j 0 ≡ 0
+SlotAt w j (full z) = (getD w j 0 ≡ 1) × (getD w (suc j) 0 ≡ biased z)
+
+-- the first word of a place's slot
+abbrev pub slotOf : Place → ℕ
+slotOf (cell c) = 4096 + 2 * c
+slotOf (local l) = 5120 + 2 * l
+
+-- the words hold the valuation
+pub record Holds (w : Words) (α : Valuation) : Type 0 where
+  pub cells : (c : ℕ) → c < 512 → SlotAt w (4096 + 2 * c) (α (cell c))
+  pub locals : (l : ℕ) → l < 32 → SlotAt w (5120 + 2 * l) (α (local l))
+
+-- the words hold the arrays' first cells, and the end of the cells after them
+abbrev pub ArraysAt : Words → Declared → Type 0
+ArraysAt w D = (a : ℕ) → a ≤ 16 → getD w (5184 + a) 0 ≡ firstOf D a

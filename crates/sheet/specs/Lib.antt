@@ -1,0 +1,8 @@
+-- What the contracts of the reader cite: where the tables stand, and what they hold of a sheet.
+pub mod Codes
+pub mod Tables
+pub mod Reader
+pub mod Dues
+pub mod Turn
+pub mod Held
+pub mod Numbered

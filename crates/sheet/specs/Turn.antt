@@ -1,0 +1,138 @@
+-- One token's turn, by its code and operand: whether it may stand where something is due, what it makes due, and the locals that have a
+-- binder after it. The laws that this is the specification's reading are in proofs/Turn.antt. Assumes nothing.
+use Prim.Native.Nat.{ℕ, suc, pred, _+_, _*_, _≤_}
+use mathlib.Core.Bool.{Bool, true, not}
+use mathlib.Core.List.{List, [], _∷_, _++_}
+use lib.ListN.{length, drop}
+use lib.Dec.{ltb, eqb}
+use Rattle.specification.specs.Bytes.{Bytes, pick, between, inToken, run}
+use Rattle.specification.specs.Parser.{Reader, Parser, give, _>>=_}
+use Rattle.specification.specs.Lines.{Declared}
+use Rattle.specification.specs.Words.{wordOf}
+use Rattle.specification.specs.Formula.{Locals, has}
+use Rattle.sheet.specs.declared.Token.{Token}
+use Rattle.sheet.specs.Codes.{tokenOf}
+use Rattle.sheet.specs.Dues.{Due, dueFormula, dueTerm, dueEx, dueRange, parse, parseAll}
+
+-- document 01's limits on what is declared
+pub record Limited (D : Declared) : Type 0 where
+  pub scalars : D .scalars ≤ 64
+  pub locals : D .locals ≤ 32
+  pub arrays : length (D .arrays) ≤ 16
+
+-- ---- whether a token may stand where something is due
+
+-- how much deeper nesting may go
+abbrev pub room : Due → ℕ
+room (dueFormula k S) = k
+room (dueTerm k S) = k
+room (dueEx k S) = k
+room (dueRange k S) = k
+
+-- the code is of the sort that is due
+abbrev pub suits : Due → ℕ → Bool
+suits (dueFormula k S) c = between 1 31 c
+suits (dueTerm k S) c = between 32 63 c
+suits (dueEx k S) c = eqb c 42
+suits (dueRange k S) c = eqb c 42
+
+unfoldable pub declared : Declared → Token → Bool
+declared D t =
+    pick (eqb (t .code) 41) (ltb (t .operand) (D .scalars))
+    (pick (eqb (t .code) 42) (ltb (t .operand) (D .locals))
+    (pick (eqb (t .code) 43) (ltb (t .operand) (length (D .arrays))) true))
+
+-- a local as a term is in scope; a local at its binder has no binder yet
+abbrev pub placed : Due → Locals → ℕ → Bool
+placed (dueFormula k S) B l = true
+placed (dueTerm k S) B l = has l S
+placed (dueEx k S) B l = not (has l B)
+placed (dueRange k S) B l = not (has l B)
+
+-- the number of the token's refusal; 0 where it may stand
+unfoldable pub faultOf : Declared → Due → Locals → Token → ℕ
+faultOf D d B t =
+    pick (eqb (t .code) 65) 4
+    (pick (suits d (t .code))
+    (pick (declared D t)
+    (pick (eqb (t .code) 42) (pick (placed d B (t .operand)) 0 8) 0)
+    7)
+    6)
+
+-- ---- what a token makes due, and binds
+
+-- the operands of a code, by sort: k is how much deeper nesting may go at them
+unfoldable pub operandsOf : ℕ → Locals → ℕ → List Due
+operandsOf k S c =
+    pick (eqb c 5) (dueFormula k S ∷ [])
+    (pick (between 2 4 c) (dueFormula k S ∷ dueFormula k S ∷ [])
+    (pick (between 6 11 c) (dueTerm k S ∷ dueTerm k S ∷ [])
+    (pick (eqb c 12) (dueEx k S ∷ [])
+    (pick (between 13 14 c) (dueRange k S ∷ [])
+    (pick (between 32 36 c) (dueTerm k S ∷ dueTerm k S ∷ [])
+    (pick (eqb c 43) (dueTerm k S ∷ []) []))))))
+
+-- a binder's local makes due the other operands of the binder, beside it
+unfoldable pub opens : Due → Token → List Due
+opens (dueFormula k S) t = operandsOf (pred k) S (t .code)
+opens (dueTerm k S) t = operandsOf (pred k) S (t .code)
+opens (dueEx k S) t = dueFormula k (t .operand ∷ S) ∷ []
+opens (dueRange k S) t = dueTerm k S ∷ dueTerm k S ∷ dueFormula k (t .operand ∷ S) ∷ []
+
+abbrev pub binds : Due → Token → Locals → Locals
+binds (dueFormula k S) t B = B
+binds (dueTerm k S) t B = B
+binds (dueEx k S) t B = t .operand ∷ B
+binds (dueRange k S) t B = t .operand ∷ B
+
+-- ---- the token at a reader's place
+
+abbrev pub spelling : Reader → Bytes
+spelling r = run inToken (r .rest)
+
+unfoldable pub tokenAt : Declared → Reader → Token
+tokenAt D r = tokenOf (wordOf (D .edition) (spelling r))
+
+-- its refusal where d is due: 9 where it nests too deep or is the 1,025th, then its own
+unfoldable pub faultAt : Declared → Due → Reader → ℕ
+faultAt D d r =
+    pick (eqb (room d) 0) 9
+    (pick (ltb (r .tokens) 1024) (faultOf D d (r .bound) (tokenAt D r)) 9)
+
+-- the reader behind it
+abbrev pub behind : Declared → Due → Reader → Reader
+behind D d r = record {
+  place = r .place + length (spelling r);
+  rest = drop (length (spelling r)) (r .rest);
+  tokens = suc (r .tokens);
+  bound = binds d (tokenAt D r) (r .bound);
+}
+
+-- ---- what is left to read, after the tokens that were read
+
+module _ (D : Declared) where
+  -- where the space of the first that is due is still to come
+  unfoldable pub left : List Due → List Token → Parser (List Token)
+  left ds ts = parseAll D ds >>= λ ys. give (ts ++ ys)
+
+  -- where d is due here
+  unfoldable pub leftHere : Due → List Due → List Token → Parser (List Token)
+  leftHere d ds ts = parse D d >>= λ xs. left ds (ts ++ xs)
+
+-- ---- how many can be due at once
+
+-- a range's local counts for the three that it makes due
+abbrev pub weight : Due → ℕ
+weight (dueFormula k S) = 1
+weight (dueTerm k S) = 1
+weight (dueEx k S) = 1
+weight (dueRange k S) = 3
+
+unfoldable pub weights : List Due → ℕ
+weights [] = 0
+weights (d ∷ ds) = weight d + weights ds
+
+-- each, with those after it, leaves two for each nesting that may still come
+unfoldable pub Fits : List Due → Type 0
+Fits [] = Unit {0}
+Fits (d ∷ ds) = (weights (d ∷ ds) + 2 * room d ≤ 129) × Fits ds

@@ -1,0 +1,71 @@
+-- `evaluation::calculated` meets its contract: each function of values is the operation of its code. Assumes nothing.
+use mathlib.Core.Path.{_∙_, ap, sym}
+use Rattle.specification.specs.Ast.{add, sub, mul, div}
+use Rattle.values.specs.Word.{signed}
+use Rattle.values.specs.Packed.{packed}
+use Rattle.values.proofs.Laws.Packed.{compute-add, compute-sub, compute-mul, compute-div, compute-modulo}
+use Rattle.terms.proofs.Laws.Results.{calculated-as, calculated-last}
+use borrow.Author.Needs.{needs}
+use Rattle.terms.proofs.evaluation.calculated.Statement.{statement}
+use Rattle.terms.proofs.evaluation.calculated.Tie as tie
+
+add-requires : tie.Need-add-requires
+add-requires c κs = search needs
+
+sub-requires : tie.Need-sub-requires
+sub-requires c κs = search needs
+
+mul-requires : tie.Need-mul-requires
+mul-requires c κs = search needs
+
+quotient-requires : tie.Need-quotient-requires
+quotient-requires c κs = search needs
+
+remainder-requires : tie.Need-remainder-requires
+remainder-requires c κs = search needs
+
+returns : tie.Need-returns
+returns c =
+    let a = c .before .before .args in
+    calculated-as (a .code) (a .x) (a .y) _ add (c .before .match .keys1)
+    (λ e. c .add .ensures ∙ ap packed (sym (compute-add e (signed (a .x)) (signed (a .y)))))
+
+returns-2 : tie.Need-returns-2
+returns-2 c =
+    let a = c .before .before .args in
+    calculated-as (a .code) (a .x) (a .y) _ sub (c .before .match .keys2)
+    (λ e. c .sub .ensures ∙ ap packed (sym (compute-sub e (signed (a .x)) (signed (a .y)))))
+
+returns-3 : tie.Need-returns-3
+returns-3 c =
+    let a = c .before .before .args in
+    calculated-as (a .code) (a .x) (a .y) _ mul (c .before .match .keys3)
+    (λ e. c .mul .ensures ∙ ap packed (sym (compute-mul e (signed (a .x)) (signed (a .y)))))
+
+returns-4 : tie.Need-returns-4
+returns-4 c =
+    let a = c .before .before .args in
+    calculated-as (a .code) (a .x) (a .y) _ div (c .before .match .keys4)
+    (λ e. c .quotient .ensures ∙ ap packed (sym (compute-div e (signed (a .x)) (signed (a .y)))))
+
+returns-5 : tie.Need-returns-5
+returns-5 c =
+    let a = c .before .before .args in
+    let others = c .before .match .rest in
+    calculated-last (a .code) (a .x) (a .y) _ (others .0 .0 .0 .1) (others .0 .0 .1) (others .0 .1) (others .1)
+    (λ e. c .remainder .ensures ∙ ap packed (sym (compute-modulo e (signed (a .x)) (signed (a .y)))))
+
+pub calculated-spec : {M : Type 1} → statement M
+calculated-spec =
+    tie.close
+    (tie.spec
+    add-requires
+    sub-requires
+    mul-requires
+    quotient-requires
+    remainder-requires
+    returns
+    returns-2
+    returns-3
+    returns-4
+    returns-5)

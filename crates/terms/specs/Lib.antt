@@ -1,0 +1,4 @@
+-- What the contracts of terms cite.
+pub mod Results
+pub mod Machine
+pub mod Openness

@@ -1,0 +1,90 @@
+-- What a term is, as words: a tag and a word. The contract of `sides`. Assumes nothing.
+use Prim.Native.Nat.{ℕ, _+_, _<_, _≤_}
+use mathlib.Core.Path.{_≡_}
+use mathlib.Core.Logic.{_⊎_}
+use lib.ListN.{length, getD}
+use lib.Dec.{T}
+use Rattle.specification.specs.Lines.{Declared, cells}
+use Rattle.specification.specs.Ast.{Term}
+use Rattle.specification.specs.Arithmetic.{noValue}
+use Rattle.specification.specs.Place.{Place}
+use Rattle.specification.specs.Value.{Slot, Valuation, Side, val, bare, err, look, side}
+use Rattle.specification.proofs.Laws.Scope.{Scope, OkTerm, Valid}
+use Rattle.values.specs.Word.{biased}
+use Rattle.sheet.specs.Tables.{Words}
+use Rattle.sheet.specs.Held.{TermsAt, height, SlotAt, slotOf, Holds, ArraysAt}
+use Rattle.terms.specs.declared.Found.{Found}
+use Rattle.terms.specs.declared.Sides.{Sides}
+
+-- ---- results
+
+abbrev pub tagOf : Side → ℕ
+tagOf (val z) = 0
+tagOf (bare p) = 1
+tagOf (err κ) = 2
+
+abbrev pub wordOf : Side → ℕ
+wordOf (val z) = biased z
+wordOf (bare p) = slotOf p
+wordOf (err κ) = κ
+
+abbrev pub foundOf : Side → Found
+foundOf x = record { tag = tagOf x; value = wordOf x }
+
+abbrev pub sidesOf : Side → Side → Sides
+sidesOf x y = record { ltag = tagOf x; left = wordOf x; rtag = tagOf y; right = wordOf y }
+
+-- ---- the two sides of an atom, or the bounds of a quantifier
+
+-- the terms s and t stand in the tokens from `from` up to `to`, in tables that hold α and the arrays of D
+pub record Given (w : Words) (from to : ℕ) (D : Declared) (α : Valuation) (s t : Term) : Type 0 where
+  pub terms : TermsAt w from to s t
+  pub holds : Holds w α
+  pub arrays : ArraysAt w D
+  pub valid : Valid α
+  pub cells : cells D ≤ 512
+  pub few : length (D .arrays) ≤ 16
+  pub scope : Scope
+  pub locals : (l : ℕ) → T (scope l) → l < 32
+  pub left : OkTerm D scope s
+  pub right : OkTerm D scope t
+  pub left-low : height s ≤ 64
+  pub right-low : height t ≤ 64
+  pub size : 6144 ≤ length w
+
+pub record Asked (w : Words) (from to : ℕ) : Type 0 where
+  pub declared : Declared
+  pub valuation : Valuation
+  pub left : Term
+  pub right : Term
+  pub given : Given w from to declared valuation left right
+
+-- all words but those of the stack
+abbrev pub Kept : Words → Words → Type 0
+Kept w w' = (k : ℕ) → (k < 5201) ⊎ (5588 ≤ k) → getD w' k 0 ≡ getD w k 0
+
+pub record Valued (w w' : Words) (from to : ℕ) (r : Sides) : Type 0 where
+  pub sides : (D : Declared) (α : Valuation) (s t : Term) → Given w from to D α s t → r ≡ sidesOf (side D α s) (side D α t)
+  pub kept : Kept w w'
+  pub size : length w' ≡ length w
+
+-- ---- small functions
+
+abbrev pub errorOf : ℕ → Found
+errorOf κ = record { tag = 2; value = κ }
+
+-- the error of an operand that has no value
+abbrev pub raise : Side → Side
+raise (val z) = val z
+raise (bare p) = err noValue
+raise (err κ) = err κ
+
+abbrev pub Raised : Found → Found → Type 0
+Raised x r = (y : Side) → x ≡ foundOf y → r ≡ foundOf (raise y)
+
+abbrev pub Looked : Words → ℕ → Found → Type 0
+Looked w i r = (p : Place) (s : Slot) → slotOf p ≡ i → SlotAt w i s → r ≡ foundOf (look s p)
+
+-- the two words from k on
+abbrev pub EntryAt : Words → ℕ → Found → Type 0
+EntryAt w k r = (r .tag ≡ getD w k 0) × (r .value ≡ getD w (k + 1) 0)

@@ -1,0 +1,25 @@
+// Terms and formulas over the tables in the work words: the values of two terms, and whether a formula is closed. Each is one loop over
+// the tokens; nothing recurses.
+pub mod evaluation;
+pub mod openness;
+mod tables;
+
+// What two terms are. A tag says what a word is: 0 the word of a value, 1 the first word of a bare place's slot, 2 an error kind.
+pub struct Sides {
+    pub ltag: u32,
+    pub left: u32,
+    pub rtag: u32,
+    pub right: u32,
+}
+
+// What one term is.
+pub(crate) struct Found {
+    pub tag: u32,
+    pub value: u32,
+}
+
+// The results that are not used yet: the last one, and where in the words the others end.
+pub(crate) struct Stack {
+    pub at: u32,
+    pub top: Found,
+}
