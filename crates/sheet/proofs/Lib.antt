@@ -18,3 +18,23 @@ pub mod Regions
 pub mod Tables
 pub mod ReadSheet
 pub mod Shallow
+-- the first five lines
+pub mod NumberLines
+pub mod ArrayLine
+pub mod CellNames
+pub mod GivenItems
+pub mod GivenLine
+pub mod Declares
+-- the formula's line
+pub mod Packed
+pub mod Bits
+pub mod Ranges
+pub mod Entries
+pub mod Opened
+pub mod Faults
+pub mod Beside
+pub mod Scan
+pub mod Subtrees
+pub mod FormulaRest
+-- the six lines in order
+pub mod SixLines

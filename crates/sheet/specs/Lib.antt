@@ -6,3 +6,11 @@ pub mod Dues
 pub mod Turn
 pub mod Held
 pub mod Numbered
+pub mod Packed
+pub mod Stack
+pub mod FormulaLine
+pub mod Ends
+pub mod Answers
+pub mod Firsts
+pub mod Items
+pub mod Whole

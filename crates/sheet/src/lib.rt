@@ -1,7 +1,70 @@
 // The reader: from the sheet's bytes to tables in the lent work words.
+ghost use mathlib.Core.Path.{_≡_};
+ghost use Prim.Native.Nat.{_≤_};
+ghost use lib.ListN.{length, replicate};
+ghost use Rattle.specification.specs.Sheet.{read};
+ghost use Rattle.sheet.specs.Whole.{readingOf, wordsOf, Zeroed};
+
+mod arrays;
+mod ends;
+mod formula;
+mod given;
+mod lines;
+mod stack;
+mod whole;
+mod words;
 
 // A token: its code and operand (a constant's word, or the number of a scalar, local or array).
 pub struct Token {
     pub code: u32,
     pub operand: u32,
+}
+
+// A sheet as it was read: a refusal's number and place, or how many scalars and arrays there are.
+pub enum Reading {
+    Refused(u32, usize),
+    Read(u32, u32),
+}
+
+// Where the words have what is due while the formula is read, and its end.
+const DUES: usize = 5201;
+
+const DUES_END: usize = 5588;
+
+// Words from one place up to another are 0.
+fn zero(w: &mut [u32], from: usize, to: usize)
+    requires { ⌜ (from ≤ to) × (to ≤ length (now w)) ⌝ }
+    ensures { λ _. ⌜ Zeroed (now (w .entry)) (now (w .exit)) from to ⌝ }
+{
+    let mut i = from;
+    while i < to {
+        w[i] = 0;
+        i += 1;
+    }
+}
+
+// Every word is 0.
+pub fn clear(w: &mut [u32])
+    ensures { λ _. ⌜ now (w .exit) ≡ replicate (length (now (w .entry))) 0 ⌝ }
+{
+    zero(w, 0, w.len());
+}
+
+// Reads a sheet: its tables stand in the work words, and nothing else; where it is refused they are all 0.
+pub fn read_sheet(s: &[u8], w: &mut [u32]) -> Reading
+    requires { ⌜ 6144 ≤ length (now w) ⌝ }
+    ensures { λ r. ⌜ (r ≡ readingOf (read (now (s .entry))))
+        × (now (w .exit) ≡ wordsOf (length (now (w .entry))) (read (now (s .entry)))) ⌝ }
+{
+    clear(w);
+    match whole::six_lines(s, w) {
+        Reading::Refused(k, p) => {
+            clear(w);
+            Reading::Refused(k, p)
+        }
+        Reading::Read(scalars, arrays) => {
+            zero(w, DUES, DUES_END);
+            Reading::Read(scalars, arrays)
+        }
+    }
 }

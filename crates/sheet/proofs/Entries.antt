@@ -1,0 +1,85 @@
+-- Laws of the stack: an entry put on top, and what is beside the stack. Assumes nothing.
+use Prim.Native.Nat.{ℕ, _+_, _*_, _-_, _<_, _≤_}
+use native.Mathlib.Omega.{arith}
+use mathlib.Core.Path.{_≡_, refl, _∙_}
+use mathlib.Core.List.{List, [], _∷_}
+use lib.ListN.{length, getD, set, length-set}
+use lib.Seq.{getD-set-same, getD-set-other}
+use Rattle.sheet.specs.declared.stack.Entry.{Entry}
+use Rattle.sheet.specs.Dues.{Due}
+use Rattle.sheet.specs.Tables.{Words}
+use Rattle.sheet.specs.Stack.{Means, entry, entryAt, entered, Stacked, Beside}
+
+-- ---- one entry
+
+entry-of : (e : Entry) (a b c : ℕ) → a ≡ e .sort → b ≡ e .room → c ≡ e .scope → entry a b c ≡ e
+entry-of e a b c p q r = rw (p, q, r)
+
+module _ (w : Words) (i : ℕ) (e : Entry) where
+  entered-length : length (entered w i e) ≡ length w
+  entered-length = simp length-set
+
+  entered-other : (j : ℕ) → (j ≡ 5201 + 3 * i → ⊥) → (j ≡ 5201 + 3 * i + 1 → ⊥) → (j ≡ 5201 + 3 * i + 2 → ⊥) → getD (entered w i e) j 0 ≡ getD w j 0
+  entered-other j a b c =
+      getD-set-other (set (set w (5201 + 3 * i) (e .sort)) (5201 + 3 * i + 1) (e .room)) (5201 + 3 * i + 2) j (e .scope) 0 c ∙
+      getD-set-other (set w (5201 + 3 * i) (e .sort)) (5201 + 3 * i + 1) j (e .room) 0 b ∙
+      getD-set-other w (5201 + 3 * i) j (e .sort) 0 a
+
+  module _ (h : 5201 + 3 * i + 2 < length w) where
+    entered-at : entryAt (entered w i e) i ≡ e
+    entered-at = entry-of e _ _ _ at-sort at-room at-scope
+      where
+        at-scope : getD (entered w i e) (5201 + 3 * i + 2) 0 ≡ e .scope
+        at-scope = getD-set-same (set (set w (5201 + 3 * i) (e .sort)) (5201 + 3 * i + 1) (e .room)) (5201 + 3 * i + 2) (e .scope) 0 (simp length-set h)
+
+        at-room : getD (entered w i e) (5201 + 3 * i + 1) 0 ≡ e .room
+        at-room =
+            getD-set-other (set (set w (5201 + 3 * i) (e .sort)) (5201 + 3 * i + 1) (e .room)) (5201 + 3 * i + 2) (5201 + 3 * i + 1) (e .scope) 0 (λ q. omega arith) ∙
+            getD-set-same (set w (5201 + 3 * i) (e .sort)) (5201 + 3 * i + 1) (e .room) 0 (simp length-set (omega arith))
+
+        at-sort : getD (entered w i e) (5201 + 3 * i) 0 ≡ e .sort
+        at-sort =
+            getD-set-other (set (set w (5201 + 3 * i) (e .sort)) (5201 + 3 * i + 1) (e .room)) (5201 + 3 * i + 2) (5201 + 3 * i) (e .scope) 0 (λ q. omega arith) ∙
+            getD-set-other (set w (5201 + 3 * i) (e .sort)) (5201 + 3 * i + 1) (5201 + 3 * i) (e .room) 0 (λ q. omega arith) ∙
+            getD-set-same w (5201 + 3 * i) (e .sort) 0 (omega arith)
+
+-- ---- the stack
+
+-- the stack is what stands in its words
+pub stacked-same : (w w′ : Words) (ds : List Due) → ((j : ℕ) → 5201 ≤ j → j < 5201 + 3 * length ds → getD w′ j 0 ≡ getD w j 0) → Stacked w ds → Stacked w′ ds
+unfolding Stacked
+stacked-same w w′ [] h s = tt
+stacked-same w w′ (d ∷ ds) h s = (
+  rw (
+    h (5201 + 3 * length ds) (omega arith) (omega arith),
+    h (5201 + 3 * length ds + 1) (omega arith) (omega arith),
+    h (5201 + 3 * length ds + 2) (omega arith) (omega arith),
+  ) (s .0),
+  stacked-same w w′ ds (λ j a b. h j a (omega arith)) (s .1),
+)
+
+pub stacked-put : (w : Words) (d : Due) (ds : List Due) (n : ℕ) (e : Entry) → length ds ≡ n → 5201 + 3 * n + 2 < length w → Means e d → Stacked w ds → Stacked (entered w n e) (d ∷ ds)
+unfolding Stacked
+stacked-put w d ds n e q h m s = (
+  rw (q, entered-at w n e h) m,
+  stacked-same w (entered w n e) ds (λ j a b. entered-other w n e j (λ r. omega arith) (λ r. omega arith) (λ r. omega arith)) s,
+)
+
+-- ---- beside the stack
+
+pub beside-self : (w : Words) → Beside w w
+beside-self w = record { long = refl; below = λ j h. refl; above = λ j h. refl }
+
+pub beside-then : {u v w : Words} → Beside u v → Beside v w → Beside u w
+beside-then p q = record {
+  long = q .long ∙ p .long;
+  below = λ j h. q .below j h ∙ p .below j h;
+  above = λ j h. q .above j h ∙ p .above j h;
+}
+
+pub beside-put : (w : Words) (n : ℕ) (e : Entry) → n < 129 → Beside w (entered w n e)
+beside-put w n e h = record {
+  long = entered-length w n e;
+  below = λ j l. entered-other w n e j (λ r. omega arith) (λ r. omega arith) (λ r. omega arith);
+  above = λ j l. entered-other w n e j (λ r. omega arith) (λ r. omega arith) (λ r. omega arith);
+}

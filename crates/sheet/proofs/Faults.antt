@@ -1,0 +1,109 @@
+-- Laws of one token's refusal: by the number of the sort that is due, and what a token that may stand shows. Assumes nothing.
+use Prim.Native.Nat.{ℕ, zero, suc, _<_, _≤_}
+use native.Mathlib.Omega.{arith}
+use mathlib.Core.Path.{_≡_, refl}
+use mathlib.Core.Bool.{Bool, true, false, not}
+use mathlib.Core.List.{_∷_}
+use lib.ListN.{length-replicate}
+use lib.Dec.{eqb, ltb}
+use borrow.Author.Tests.{eqb-true, ltb-true}
+use Rattle.specification.specs.Bytes.{pick, between}
+use Rattle.specification.specs.Lines.{Declared}
+use Rattle.specification.specs.Formula.{Locals, has}
+use Rattle.sheet.specs.declared.Token.{Token}
+use Rattle.sheet.specs.declared.formula.Limits.{Limits}
+use Rattle.sheet.specs.Dues.{Due, dueFormula, dueTerm, dueEx, dueRange}
+use Rattle.sheet.specs.Turn.{room, suits, declared, placed, faultOf, binds}
+use Rattle.sheet.specs.Stack.{sortOf, scopeOf}
+use Rattle.sheet.specs.FormulaLine.{Small, Counts, counted, refusalOf}
+
+-- ---- by the number of the sort
+
+pub suits-by : (d : Due) (sort c : ℕ) → sort ≡ sortOf d → suits d c ≡ pick (eqb sort 0) (between 1 31 c) (pick (eqb sort 1) (between 32 63 c) (eqb c 42))
+suits-by (dueFormula k S) sort c e = rw e
+suits-by (dueTerm k S) sort c e = rw e
+suits-by (dueEx k S) sort c e = rw e
+suits-by (dueRange k S) sort c e = rw e
+
+pub placed-by : (d : Due) (B : Locals) (sort l : ℕ) → sort ≡ sortOf d → placed d B l ≡ pick (eqb sort 0) true (pick (eqb sort 1) (has l (scopeOf d)) (not (has l B)))
+placed-by (dueFormula k S) B sort l e = rw e
+placed-by (dueTerm k S) B sort l e = rw e
+placed-by (dueEx k S) B sort l e = rw e
+placed-by (dueRange k S) B sort l e = rw e
+
+pub binds-none : (d : Due) (t : Token) (B : Locals) → sortOf d ≤ 1 → binds d t B ≡ B
+binds-none (dueFormula k S) t B h = refl
+binds-none (dueTerm k S) t B h = refl
+binds-none (dueEx k S) t B h = absurd (omega arith)
+binds-none (dueRange k S) t B h = absurd (omega arith)
+
+pub binds-local : (d : Due) (t : Token) (B : Locals) → 1 < sortOf d → binds d t B ≡ t .operand ∷ B
+binds-local (dueFormula k S) t B h = absurd (omega arith)
+binds-local (dueTerm k S) t B h = absurd (omega arith)
+binds-local (dueEx k S) t B h = refl
+binds-local (dueRange k S) t B h = refl
+
+-- ---- what is declared
+
+-- the numbers decide
+pub counts-counted : (l : Limits) → Small l → Counts l (counted l)
+counts-counted l s = record {
+  edition = refl;
+  scalars = refl;
+  locals = refl;
+  arrays = length-replicate (l .arrays) 0;
+  limited = record { scalars = s .scalars; locals = s .locals; arrays = rw length-replicate (s .arrays) };
+}
+
+module _ {l : Limits} {D : Declared} (g : Counts l D) where
+  declared-counted : (t : Token) → declared D t ≡ declared (counted l) t
+  unfolding declared
+  declared-counted t = rw (g .scalars, g .locals, g .arrays, length-replicate)
+
+  pub fault-counted : (d : Due) (B : Locals) (t : Token) → faultOf D d B t ≡ faultOf (counted l) d B t
+  unfolding faultOf
+  fault-counted d B t = rw (declared-counted t)
+
+pub declared-local : (l : Limits) (t : Token) → t .code ≡ 42 → declared (counted l) t ≡ true → t .operand < l .locals
+unfolding declared
+declared-local l t e h = ltb-true _ _ (rw e at h)
+
+-- ---- a token that may stand
+
+-- a nest of tests that gives 0 passed each of them
+past : (b : Bool) (k x : ℕ) → 0 < k → pick b k x ≡ 0 → (b ≡ false) × (x ≡ 0)
+past true k x h e = absurd (omega arith)
+past false k x h e = (refl, e)
+
+kept : (b : Bool) (k x : ℕ) → 0 < k → pick b x k ≡ 0 → (b ≡ true) × (x ≡ 0)
+kept true k x h e = (refl, e)
+kept false k x h e = absurd (omega arith)
+
+suits-local : (d : Due) (c : ℕ) → 1 < sortOf d → suits d c ≡ true → c ≡ 42
+suits-local (dueFormula k S) c h e = absurd (omega arith)
+suits-local (dueTerm k S) c h e = absurd (omega arith)
+suits-local (dueEx k S) c h e = eqb-true c 42 e
+suits-local (dueRange k S) c h e = eqb-true c 42 e
+
+some-room : (k : ℕ) → eqb k 0 ≡ false → 0 < k
+some-room zero e = let z : _≡_ {A = ℕ} 0 1 = cc in absurd (omega arith)
+some-room (suc k) e = omega arith
+
+pub record Stands (l : Limits) (d : Due) (n : ℕ) (t : Token) : Type 0 where
+  pub room : 0 < room d
+  pub number : n < 1024
+  pub index : 1 < sortOf d → t .operand < l .locals
+
+pub stands : (l : Limits) (d : Due) (B : Locals) (n : ℕ) (t : Token) → refusalOf l d B n t ≡ 0 → Stands l d n t
+unfolding faultOf
+stands l d B n t e =
+    let a : (eqb (room d) 0 ≡ false) × _ = past _ _ _ (omega arith) e in
+    let b : (ltb n 1024 ≡ true) × _ = kept _ _ _ (omega arith) (a .1) in
+    let c : (eqb (t .code) 65 ≡ false) × _ = past _ _ _ (omega arith) (b .1) in
+    let s : (suits d (t .code) ≡ true) × _ = kept _ _ _ (omega arith) (c .1) in
+    let v : (declared (counted l) t ≡ true) × _ = kept _ _ _ (omega arith) (s .1) in
+    record {
+      room = some-room (room d) (a .0);
+      number = ltb-true _ _ (b .0);
+      index = λ h. declared-local l t (suits-local d (t .code) h (s .0)) (v .0);
+    }

@@ -1,0 +1,178 @@
+-- Laws of the line of given values: one turn of the reading of items, for every sheet whose arrays the words have, and the line's
+-- answer. Assumes nothing.
+use Prim.Native.Nat.{ℕ, zero, suc, _+_, _-_, _*_, _<_, _≤_}
+use mathlib.Core.Path.{_≡_, refl, sym, ap, _∙_}
+use mathlib.Core.Bool.{true, false}
+use mathlib.Core.List.{List, [], _∷_}
+use native.Mathlib.Numerals.{add-one}
+use native.Mathlib.Omega.{arith}
+use lib.ListN.{length, drop, set, length-set}
+use lib.Seq.{getD-set-other}
+use Rattle.specification.specs.Bytes.{Bytes, bytes, pick, feed, comma, classNumber, begins}
+use Rattle.specification.specs.Parser.{Read, refused, found, andThen, _>>_, give, next, mark}
+use Rattle.specification.specs.Lines.{Declared}
+use Rattle.specification.specs.Given.{Item, item, items, givenLine}
+use Rattle.text.specs.Class.{classAt}
+use Rattle.text.proofs.Laws.Class.{class-next, class-not-next}
+use Rattle.values.specs.Word.{signed}
+use Rattle.values.proofs.Laws.Word.{biased-signed}
+use Rattle.sheet.specs.declared.given.Entry.{Entry}
+use Rattle.sheet.specs.declared.given.Entry.the-variants as entry
+use Rattle.sheet.specs.declared.given.Given.{Given}
+use Rattle.sheet.specs.declared.given.Given.the-variants as given
+use Rattle.sheet.specs.Reader.{lineAt}
+use Rattle.sheet.specs.Tables.{Words, laidGiven}
+use Rattle.sheet.specs.Items.{itemOf, entryRead, Declares, Arranged, laidItems, givenRead, givenValue, GivenFound}
+use Rattle.sheet.proofs.NumberLines.{Origin, mapped-refused, mapped-found, exactly-yes, exactly-no, mark-yes, closed, closed-yes, closed-no}
+use Rattle.sheet.proofs.GivenItems.{item-cell}
+
+-- ---- a cell that is laid
+
+abbrev pub stored : ℕ → ℕ → Words → Words
+stored c z w = set (set w (4096 + 2 * c) 1) (4096 + 2 * c + 1) z
+
+pub stored-length : (c z : ℕ) (w : Words) → length (stored c z w) ≡ length w
+stored-length c z w = length-set (set w (4096 + 2 * c) 1) (4096 + 2 * c + 1) z ∙ length-set w (4096 + 2 * c) 1
+
+-- the arrays' first cells stay
+stored-declares : {D : Declared} {scalars arrays : ℕ} {w : Words} (c z : ℕ) → c < 512 → Declares D scalars arrays w → Declares D scalars arrays (stored c z w)
+stored-declares {w = w} c z h d = record {
+  scalar = d .scalar;
+  many = d .many;
+  few = d .few;
+  small = d .small;
+  held = λ a l.
+      getD-set-other (set w (4096 + 2 * c) 1) (4096 + 2 * c + 1) (5184 + a) z 0 (λ e. omega arith)
+      ∙ getD-set-other w (4096 + 2 * c) (5184 + a) 1 0 (λ e. omega arith) ∙ d .held a l;
+}
+
+-- an item that was read, before those that follow
+laid-more : (c z : ℕ) (w : Words) (x : Read (List Item))
+    → laidItems w (andThen (λ is. give (itemOf c (signed z) ∷ is)) x) ≡ laidItems (stored c z w) x
+unfolding laidGiven
+laid-more c z w (refused k p) = refl
+laid-more c z w (found is r) = rw biased-signed
+
+-- ---- one turn: what is laid from the start on is laid from here on
+
+pub record Turn (D : Declared) (s : Bytes) (from scalars arrays : ℕ) (w₀ w : Words) (at floor : ℕ) : Type 0 where
+  pub left : ℕ
+  pub room : 512 ≤ left + floor
+  pub declares : Declares D scalars arrays w
+  pub rest : laidItems w₀ (items D 512 0 (lineAt s from)) ≡ laidItems w (items D left floor (lineAt s at))
+
+pub record Turning (s : Bytes) (from scalars arrays : ℕ) (w₀ w : Words) (at floor : ℕ) : Type 0 where
+  pub long : length w ≡ length w₀
+  pub each : (D : Declared) → Declares D scalars arrays w₀ → Turn D s from scalars arrays w₀ w at floor
+
+pub turn-first : (s : Bytes) (from scalars arrays : ℕ) (w : Words) → Turning s from scalars arrays w w from 0
+turn-first s from scalars arrays w = record { long = refl; each = λ D d. record { left = 512; room = omega arith; declares = d; rest = refl } }
+
+module _ {s : Bytes} {from scalars arrays : ℕ} {w₀ w : Words} {at floor : ℕ} (st : Turning s from scalars arrays w₀ w at floor)
+    (x : Entry) (read : (D : Declared) → Declares D scalars arrays w → entryRead s x ≡ item D floor (lineAt s at)) where
+  -- what the line's value lays for a sheet
+  abbrev Whole : Read Words → Type 0
+  Whole y = (D : Declared) → Declares D scalars arrays w₀ → y ≡ laidItems w₀ (items D 512 0 (lineAt s from))
+
+  pub turn-refused : (k p : ℕ) → x ≡ entry.Refused k p → Whole (refused k p)
+  unfolding items
+  turn-refused k p told D d = go (t .left) (t .rest)
+    where
+      t : Turn D s from scalars arrays w₀ w at floor
+      t = st .each D d
+
+      e : item D floor (lineAt s at) ≡ refused k p
+      e = sym (rw told at (read D (t .declares)))
+
+      go : (l : ℕ) → laidItems w₀ (items D 512 0 (lineAt s from)) ≡ laidItems w (items D l floor (lineAt s at)) → refused k p ≡ laidItems w₀ (items D 512 0 (lineAt s from))
+      go zero r = sym (rw e at r)
+      go (suc l) r = sym (rw e at r)
+
+  module _ (c z e : ℕ) (told : x ≡ entry.Is c z e) where
+    is : (D : Declared) → Declares D scalars arrays w → found (itemOf c (signed z)) (lineAt s e) ≡ item D floor (lineAt s at)
+    is D d = rw told at (read D d)
+
+    within : (D : Declared) → Declares D scalars arrays w → (floor ≤ c) × (c < 512)
+    within D d =
+        let h = item-cell D floor (lineAt s at) (itemOf c (signed z)) (lineAt s e) (is D d) in
+        (h .0, omega (arith, h .1, d .small))
+
+    -- the cell lies above those before, and below 512
+    pub turn-cell : Arranged scalars arrays w₀ → (floor ≤ c) × (c < 512)
+    turn-cell a = within (a .declared) (st .each (a .declared) (a .declares) .declares)
+
+    -- what follows the item
+    abbrev following : Declared → ℕ → Read (List Item)
+    following D k =
+        andThen (λ is. give (itemOf c (signed z) ∷ is)) (pick (next comma (drop e s)) (mark comma >> items D k (suc c)) (give []) (lineAt s e))
+
+    -- 512 items are enough, since their cells rise
+    turned : (D : Declared) (d : Declares D scalars arrays w₀)
+        → laidItems w₀ (items D 512 0 (lineAt s from)) ≡ laidItems w (following D (st .each D d .left - 1))
+    unfolding items
+    turned D d =
+        let t = st .each D d in
+        let q : t .left ≡ suc (t .left - 1) = omega (arith, t .room, within D (t .declares) .0, within D (t .declares) .1) in
+        rw (sym (is D (t .declares))) at (rw q at (t .rest))
+
+    module _ (w′ : Words) (laid : w′ ≡ stored c z w) where
+      pub turn-length : length w′ ≡ length w₀
+      turn-length = ap length laid ∙ stored-length c z w ∙ st .long
+
+      pub turn-last : (classAt s e ≡ classNumber comma → ⊥) → Whole (found w′ (lineAt s e))
+      unfolding laidGiven
+      turn-last other D d =
+          rw laid (sym (laid-more c z w (found [] (lineAt s e))) ∙ sym (rw (class-not-next s e comma other) at (turned D d)))
+
+      pub turn-next : classAt s e ≡ classNumber comma → Turning s from scalars arrays w₀ w′ (e + 1) (c + 1)
+      turn-next is-comma = record {
+        long = turn-length;
+        each = λ D d. let t = st .each D d in let h = within D (t .declares) in record {
+          left = t .left - 1;
+          room = omega (arith, t .room, h .0, h .1);
+          declares = rw laid (stored-declares c z (h .1) (t .declares));
+          rest = let more = items D (t .left - 1) (suc c) in
+              rw (laid, add-one c)
+              (rw (class-next s e comma is-comma, mark-yes s e comma more is-comma) at (turned D d) ∙ laid-more c z w (more (lineAt s (e + 1))));
+        };
+      }
+
+-- ---- the line
+
+module _ (D : Declared) (s : Bytes) (from : ℕ) (w : Words) where
+  pub value-none : classAt s from ≡ classNumber feed → found w (lineAt s from) ≡ laidItems w (givenValue D (lineAt s from))
+  unfolding laidGiven
+  value-none is-feed = rw (class-next s from feed is-feed)
+
+  pub value-some : (classAt s from ≡ classNumber feed → ⊥) → laidItems w (items D 512 0 (lineAt s from)) ≡ laidItems w (givenValue D (lineAt s from))
+  value-some other = rw (class-not-next s from feed other)
+
+module _ (D : Declared) (s : Bytes) (at : ℕ) where
+  pub lined-no : begins (bytes "given=") (drop at s) ≡ false → givenLine D (lineAt s at) ≡ refused 3 at
+  unfolding givenLine
+  lined-no h = exactly-no s at (bytes "given=") 3 _ h
+
+  -- with x what is read of the value, over the words w, which it leaves as w′
+  module _ (key : begins (bytes "given=") (drop at s) ≡ true) (w w′ : Words) (x : Given)
+      (is : givenRead s x w′ ≡ laidItems w (givenValue D (lineAt s (at + 6)))) where
+    lined : givenLine D (lineAt s at) ≡ closed (givenValue D (lineAt s (at + 6)))
+    unfolding givenLine
+    lined = exactly-yes s at (bytes "given=") 3 _ key
+
+    pub lined-refused : (k p : ℕ) → x ≡ given.Refused k p → givenLine D (lineAt s at) ≡ refused k p
+    lined-refused k p told =
+        lined ∙ ap closed (mapped-refused (λ is. laidGiven is w) k p (givenValue D (lineAt s (at + 6))) (rw told at is))
+
+    module _ (e : ℕ) (told : x ≡ given.Read e) where
+      from : Origin (λ is. laidGiven is w) w′ (lineAt s e) (givenValue D (lineAt s (at + 6)))
+      from = mapped-found (λ is. laidGiven is w) _ _ (givenValue D (lineAt s (at + 6))) (rw told at is)
+
+      pub lined-open : (classAt s e ≡ classNumber feed → ⊥) → givenLine D (lineAt s at) ≡ refused 5 e
+      lined-open other = lined ∙ ap closed (from .is) ∙ sym (closed-no s e (from .origin) other)
+
+      pub lined-found : classAt s e ≡ classNumber feed → GivenFound D s at w w′ (e + 1)
+      lined-found is-feed = record {
+        items = from .origin;
+        read = lined ∙ ap closed (from .is) ∙ sym (closed-yes s e (from .origin) is-feed);
+        laid = sym (from .made);
+      }

@@ -1,0 +1,20 @@
+-- A number in a range, below it, or above it. Assumes nothing.
+use Prim.Native.Nat.{ℕ, _<_, _≤_}
+use mathlib.Core.Path.{_≡_, refl}
+use mathlib.Core.Bool.{Bool, true, false, _&&_}
+use lib.Dec.{leb}
+use borrow.Author.Tests.{le-leb, lt-leb}
+use Rattle.specification.specs.Bytes.{between}
+
+pub inside : (lo hi n : ℕ) → lo ≤ n → n ≤ hi → between lo hi n ≡ true
+inside lo hi n a b = rw (le-leb lo n a, le-leb n hi b)
+
+pub under : (lo hi n : ℕ) → n < lo → between lo hi n ≡ false
+under lo hi n a = rw (lt-leb lo n a)
+
+pub over : (lo hi n : ℕ) → hi < n → between lo hi n ≡ false
+over lo hi n b = rw (lt-leb n hi b) (go (leb lo n))
+  where
+    go : (t : Bool) → (t && false) ≡ false
+    go true = refl
+    go false = refl

@@ -1,0 +1,70 @@
+-- The ends of the tokens from the i-th on are in the table. Assumes nothing.
+use Prim.Native.Nat.{_≤_}
+use native.Mathlib.Omega.{arith}
+use mathlib.Core.Path.{_≡_, refl, _∙_}
+use lib.ListN.{length, length-set}
+use Rattle.sheet.proofs.Subtrees.{laidFrom, from-none, from-ends, from-more}
+use borrow.Author.Needs.{needs}
+use Rattle.sheet.proofs.ends.ends.Statement.{statement}
+use Rattle.sheet.proofs.ends.ends.Tie as tie
+
+abbrev Inv-loop : tie.InvT-loop
+Inv-loop w₀ n i₀ w i = (i ≤ n) × (w ≡ laidFrom w₀ n i) × (length w ≡ length w₀)
+
+abbrev μ-loop : tie.MeasureT-loop
+μ-loop w₀ n i₀ w i = i
+
+loop-holds : tie.Need-loop-holds Inv-loop μ-loop
+loop-holds c = (omega arith, from-none (c .before .args .w .now) (c .before .args .n), refl)
+
+sub-i : tie.Need-sub-i Inv-loop μ-loop
+sub-i c = search needs
+
+subtree-requires : tie.Need-subtree-requires Inv-loop μ-loop
+subtree-requires c κs = (omega arith, (c .before .before .before .before .pre .0), omega (arith, (c .before .before .loop .inv .2), (c .before .before .before .before .pre .1)), from-ends (c .before .before .before .before .args .w .now) (c .before .before .before .before .args .n) (c .before .before .loop .i) _ (c .before .before .loop .inv .1) (c .before .loop-test .taken) (c .before .before .loop .inv .0) (c .before .before .before .before .pre .0) (c .before .before .before .before .pre .1))
+
+cast-w : tie.Need-cast-w Inv-loop μ-loop
+cast-w c = search needs
+
+mul-w : tie.Need-mul-w Inv-loop μ-loop
+mul-w c = search needs
+
+add-w : tie.Need-add-w Inv-loop μ-loop
+add-w c = search needs
+
+mul-w-2 : tie.Need-mul-w-2 Inv-loop μ-loop
+mul-w-2 c = search needs
+
+slice-write-w : tie.Need-slice-write-w Inv-loop μ-loop
+slice-write-w c = search needs
+
+loop-less : tie.Need-loop-less Inv-loop μ-loop
+loop-less c = search needs
+
+loop-again : tie.Need-loop-again Inv-loop μ-loop
+loop-again c = (omega arith, from-more (c .before .before .before .before .before .args .w .now) (c .before .before .before .before .before .args .n) (c .before .before .before .loop .i) _ (c .before .before .before .loop .inv .1) (c .before .before .loop-test .taken) (c .before .before .before .loop .inv .0) _ (c .subtree .ensures), simp length-set (c .before .before .before .loop .inv .2))
+
+same-length : tie.Need-same-length Inv-loop μ-loop
+same-length c = (c .before .loop .inv .2)
+
+returns : tie.Need-returns Inv-loop μ-loop
+returns c = let z : (c .before .loop .i) ≡ 0 = omega arith in (c .before .loop .inv .1) ∙ rw z
+
+pub ends-spec : {M : Type 1} → statement M
+ends-spec =
+    tie.close
+    (tie.spec
+    Inv-loop
+    μ-loop
+    loop-holds
+    sub-i
+    subtree-requires
+    cast-w
+    mul-w
+    add-w
+    mul-w-2
+    slice-write-w
+    loop-less
+    loop-again
+    same-length
+    returns)

@@ -1,0 +1,202 @@
+-- One token a turn; the invariant is `Reading`. Assumes nothing.
+use Prim.Native.Nat.{_+_, _-_, _≤_}
+use native.Mathlib.Omega.{arith}
+use mathlib.Core.Path.{_≡_, _∙_, sym}
+use lib.ListN.{length}
+use Rattle.text.proofs.Laws.Run.{end-ge, end-le}
+use Rattle.specification.specs.Bytes.{inToken}
+use Rattle.sheet.proofs.Scan.{Reading, Taken, May, reading-start, turn-stops, may, turn-stands, taken-last, taken-stops, taken-next, through-start}
+use borrow.Author.Needs.{needs}
+use Rattle.sheet.proofs.formula.scan.Statement.{statement}
+use Rattle.sheet.proofs.formula.scan.Tie as tie
+
+abbrev Inv-loop : tie.InvT-loop
+Inv-loop s from d w₀ n₀ count₀ bound₀ at₀ w n count bound at = Reading s from d w₀ w n count bound at × (6144 ≤ length w₀)
+
+abbrev μ-loop : tie.MeasureT-loop
+μ-loop s from d w₀ n₀ count₀ bound₀ at₀ w n count bound at = 1024 - count
+
+-- ---- places: the first entry is put, the loop's head, the entry that is due, and the token that may stand
+
+abbrev begun : tie.At-loop Inv-loop μ-loop → tie.After-put Inv-loop μ-loop
+begun c = c .before .before .before
+
+abbrev start : tie.At-loop Inv-loop μ-loop → tie.Start Inv-loop μ-loop
+start c = begun c .before .before .before .before
+
+abbrev got : tie.After-refusal Inv-loop μ-loop → tie.After-get Inv-loop μ-loop
+got c = c .before .before .before .before
+
+abbrev head : tie.After-refusal Inv-loop μ-loop → tie.At-loop Inv-loop μ-loop
+head c = got c .before .before
+
+abbrev stood : tie.After-slice-known3 Inv-loop μ-loop → tie.Else1 Inv-loop μ-loop
+stood c = c .before .before .before .before
+
+abbrev marked : tie.After-slice-known4 Inv-loop μ-loop → tie.After-slice-known3 Inv-loop μ-loop
+marked c = c .before .before .before .before .before
+
+abbrev behind : tie.After-slice-known4 Inv-loop μ-loop → tie.At-loop Inv-loop μ-loop
+behind c = head (stood (marked c) .before)
+
+-- ---- what the token shows there, and the loop's variables behind it
+
+may-here : (c : tie.Else1 Inv-loop μ-loop) →
+    May (got (c .before) .get .result) (c .before .before .lex .result) (head (c .before) .loop .n) (head (c .before) .loop .count)
+may-here c =
+    let h = head (c .before) in
+    let lexed = c .before .before in
+    may (h .loop .inv .0) (start h .pre .1) (h .loop .inv .1)
+    _ (lexed .before .before .run-end .ensures) _ (got (c .before) .get .ensures) _ (lexed .lex .ensures) _ (c .before .refusal .ensures) (c .if1 .left)
+
+taken-here : (c : tie.After-slice-known4 Inv-loop μ-loop) →
+    let s = start (behind c) in
+    Taken (s .args .s .now) (s .args .from) (s .args .d) (begun (behind c) .put .last .0) (c .before .before .push .last .0) (c .before .before .push .result) (behind c .loop .count + 1)
+    (c .before .before .before .before .bound-after .result) (stood (marked c) .before .before .before .before .run-end .result)
+taken-here c =
+    let h = behind c in
+    let q = stood (marked c) in
+    let lexed = q .before .before in
+    turn-stands (h .loop .inv .0) (start h .pre .1) (h .loop .inv .1)
+    _ (lexed .before .before .run-end .ensures) _ (got (q .before) .get .ensures) _ (lexed .lex .ensures) _ (q .before .refusal .ensures) (q .if1 .left)
+    _ _ _ _ (marked c .before .before .store .ensures) (c .before .before .push .ensures) (c .before .before .before .before .bound-after .ensures)
+
+-- the words are as many as before
+long-here : (c : tie.After-slice-known4 Inv-loop μ-loop) → length (c .before .before .push .last .0) ≡ length (start (behind c) .args .w .now)
+long-here c = taken-here c .long ∙ begun (behind c) .put .kept .0
+
+-- ---- the needs
+
+put-requires : tie.Need-put-requires Inv-loop μ-loop
+put-requires c κs = search needs
+
+loop-holds : tie.Need-loop-holds Inv-loop μ-loop
+loop-holds c =
+    let begun = c .before .before in
+    let a = begun .before .before .before .before in (
+      rw (begun .put .ensures) (reading-start (a .args .s .now) (a .args .from) (a .args .d) (a .args .w .now) (a .pre .0) (a .pre .2)),
+      omega (arith, begun .put .kept .0, a .pre .2),
+    )
+
+sub-get : tie.Need-sub-get Inv-loop μ-loop
+sub-get c = omega (arith, c .before .loop .inv .0 .depth)
+
+get-requires : tie.Need-get-requires Inv-loop μ-loop
+get-requires c κs =
+    let i = c .before .loop .inv in
+    (omega (arith, i .0 .depth, i .0 .low), omega (arith, i .0 .long, i .1))
+
+run-end-requires : tie.Need-run-end-requires Inv-loop μ-loop
+run-end-requires c κs = search needs
+
+sub-lex : tie.Need-sub-lex Inv-loop μ-loop
+sub-lex c = let h = c .before .before .before in end-ge inToken (start h .args .s .now) (h .loop .at) _ (c .run-end .ensures)
+
+part-lex-start : tie.Need-part-lex-start Inv-loop μ-loop
+part-lex-start c = sub-lex c
+
+part-lex-end : tie.Need-part-lex-end Inv-loop μ-loop
+part-lex-end c =
+    let h = c .before .before .before in
+    end-le inToken (start h .args .s .now) (h .loop .at) _ (c .run-end .ensures) (h .loop .inv .0 .within)
+
+lex-requires : tie.Need-lex-requires Inv-loop μ-loop
+lex-requires c κs = search needs
+
+refusal-requires : tie.Need-refusal-requires Inv-loop μ-loop
+refusal-requires c κs = start (c .before .before .before .before .before) .pre .1 .locals
+
+same-length : tie.Need-same-length Inv-loop μ-loop
+same-length c = let h = head (c .before) in h .loop .inv .0 .long ∙ begun h .put .kept .0
+
+returns : tie.Need-returns Inv-loop μ-loop
+returns c =
+    let h = head (c .before) in
+    let lexed = c .before .before in (
+      h .loop .inv .0 .long ∙ begun h .put .kept .0,
+      turn-stops (h .loop .inv .0) (start h .pre .1) (h .loop .inv .1)
+          _ (lexed .before .before .run-end .ensures) _ (got (c .before) .get .ensures) _ (lexed .lex .ensures) _ (c .before .refusal .ensures) (c .if1 .taken),
+    )
+
+store-requires : tie.Need-store-requires Inv-loop μ-loop
+store-requires c κs =
+    let i = head (c .before .before) .loop .inv in
+    (may-here (c .before) .number, omega (arith, i .0 .long, i .1))
+
+add-count : tie.Need-add-count Inv-loop μ-loop
+add-count c = omega (arith, may-here (stood c) .number)
+
+bound-after-requires : tie.Need-bound-after-requires Inv-loop μ-loop
+bound-after-requires c κs = may-here (stood c) .index
+
+sub-push : tie.Need-sub-push Inv-loop μ-loop
+sub-push c = omega (arith, head (stood (c .before .before) .before) .loop .inv .0 .depth)
+
+push-requires : tie.Need-push-requires Inv-loop μ-loop
+push-requires c κs =
+    let q = stood (c .before .before) in
+    let i = head (q .before) .loop .inv in
+    let m = may-here q in
+    (m .low, omega (arith, c .before .before .before .before .store .kept .0, i .0 .long, i .1), m .room, m .index)
+
+same-length-2 : tie.Need-same-length-2 Inv-loop μ-loop
+same-length-2 c = long-here (c .before)
+
+returns-2 : tie.Need-returns-2 Inv-loop μ-loop
+returns-2 c =
+    let h = behind (c .before) in
+    through-start (begun h .put .ensures) (start h .pre .2) (taken-last (taken-here (c .before)) (c .if2 .taken))
+
+class-at-requires : tie.Need-class-at-requires Inv-loop μ-loop
+class-at-requires c κs = search needs
+
+same-length-3 : tie.Need-same-length-3 Inv-loop μ-loop
+same-length-3 c = long-here (c .before .before .before)
+
+returns-3 : tie.Need-returns-3 Inv-loop μ-loop
+returns-3 c =
+    let p = c .before .before .before in
+    (long-here p, taken-stops (taken-here p) (c .before .before .if2 .left) (λ q. c .if3 .taken (c .before .class-at .ensures ∙ q)))
+
+add-at : tie.Need-add-at Inv-loop μ-loop
+add-at c = let p = c .before .before .before in omega (arith, taken-here p .within, start (behind p) .good .0 .1)
+
+loop-less : tie.Need-loop-less Inv-loop μ-loop
+loop-less c = omega (arith, may-here (stood (marked (c .before .before .before))) .number)
+
+loop-again : tie.Need-loop-again Inv-loop μ-loop
+loop-again c =
+    let p = c .before .before .before in
+    (taken-next (taken-here p) (c .before .before .if2 .left) (sym (c .before .class-at .ensures) ∙ c .if3 .left), behind p .loop .inv .1)
+
+pub scan-spec : {M : Type 1} → statement M
+scan-spec =
+    tie.close
+    (tie.spec
+    Inv-loop
+    μ-loop
+    put-requires
+    loop-holds
+    sub-get
+    get-requires
+    run-end-requires
+    sub-lex
+    part-lex-start
+    part-lex-end
+    lex-requires
+    refusal-requires
+    same-length
+    returns
+    store-requires
+    add-count
+    bound-after-requires
+    sub-push
+    push-requires
+    same-length-2
+    returns-2
+    class-at-requires
+    same-length-3
+    returns-3
+    add-at
+    loop-less
+    loop-again)

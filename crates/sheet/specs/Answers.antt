@@ -1,0 +1,37 @@
+-- The answers of the code that reads the first five lines, put into the specification's words. Assumes nothing.
+use Prim.Native.Nat.{ℕ}
+use Rattle.specification.specs.Bytes.{Bytes}
+use Rattle.specification.specs.Parser.{Read, refused, found}
+use lib.IntN.{ℤ}
+use Rattle.values.specs.Word.{signed}
+use Rattle.sheet.specs.declared.lines.Index.{Index}
+use Rattle.sheet.specs.declared.lines.Integer.{Integer}
+use Rattle.sheet.specs.declared.lines.Count.{Count}
+use Rattle.sheet.specs.declared.lines.Index.the-variants as index
+use Rattle.sheet.specs.declared.lines.Integer.the-variants as integer
+use Rattle.sheet.specs.declared.lines.Count.the-variants as count
+use Rattle.sheet.specs.Codes.{indexWord}
+use Rattle.sheet.specs.Reader.{lineAt}
+
+-- ---- numbers
+
+-- what was read, made into another thing
+abbrev pub mapped : {A B : Type 0} → (A → B) → Read A → Read B
+mapped f (refused k p) = refused k p
+mapped f (found a r) = found (f a) r
+
+-- an index that is too large for a word is not declared, so the largest word stands for it
+abbrev pub heldIndex : Read ℕ → Read ℕ
+heldIndex r = mapped indexWord r
+
+abbrev pub indexRead : Bytes → Index → Read ℕ
+indexRead s (index.Refused k p) = refused k p
+indexRead s (index.Is n e) = found n (lineAt s e)
+
+abbrev pub integerRead : Bytes → Integer → Read ℤ
+integerRead s (integer.Refused k p) = refused k p
+integerRead s (integer.Is w e) = found (signed w) (lineAt s e)
+
+abbrev pub countRead : Bytes → Count → Read ℕ
+countRead s (count.Refused k p) = refused k p
+countRead s (count.Is n e) = found n (lineAt s e)

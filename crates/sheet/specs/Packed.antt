@@ -1,0 +1,33 @@
+-- Words by their numbers: a word's bytes packed into one number, by which the code looks it up, and the code that stands for it.
+-- Assumes nothing.
+use Prim.Native.Nat.{ℕ, _+_, _*_}
+use mathlib.Core.List.{List, [], _∷_, map}
+use mathlib.Core.Option.{Option, none, some as just}
+use Rattle.specification.specs.Bytes.{Bytes, pick, same}
+use Rattle.specification.specs.Words.{Entry}
+use Rattle.sheet.specs.declared.Token.{Token}
+use Rattle.sheet.specs.Codes.{token, indexWord, tokenOf}
+
+-- the first byte lowest, and a 1 above the last
+unfoldable pub packed : Bytes → ℕ
+packed [] = 1
+packed (b ∷ bs) = b + 256 * packed bs
+
+abbrev pub entryCode : Entry → ℕ
+entryCode e = tokenOf (just (e .word)) .code
+
+abbrev pub keysOf : List Entry → List ℕ
+keysOf es = map (λ e. packed (e .text)) es
+
+abbrev pub codesOf : List Entry → List ℕ
+codesOf es = map entryCode es
+
+-- the code of the first entry with these bytes, 0 where there is none
+unfoldable pub codeIn : Bytes → List Entry → ℕ
+codeIn t [] = 0
+codeIn t (e ∷ es) = let r = codeIn t es in pick (same t (e .text)) (entryCode e) r
+
+-- a name's token, by the code of its letter and its index
+abbrev pub indexed : ℕ → Option ℕ → Token
+indexed c none = token 64 0
+indexed c (just n) = token c (indexWord n)

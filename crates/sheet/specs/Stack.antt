@@ -1,0 +1,93 @@
+-- What is due, as it stands in the work words: three words an entry, the topmost last; a set of locals is a number, with a bit for each.
+-- Assumes nothing.
+use Prim.Native.Nat.{ℕ, _+_, _*_, _/_, _%_, _^_, _<_, _≤_}
+use mathlib.Core.Path.{_≡_}
+use mathlib.Core.Bool.{Bool}
+use mathlib.Core.List.{List, [], _∷_, _++_}
+use lib.ListN.{length, getD, set}
+use lib.Dec.{eqb}
+use Rattle.specification.specs.Bytes.{pick, between}
+use Rattle.specification.specs.Formula.{Locals, has}
+use Rattle.sheet.specs.declared.Token.{Token}
+use Rattle.sheet.specs.declared.stack.Entry.{Entry}
+use Rattle.sheet.specs.declared.stack.Operands.{Operands}
+use Rattle.sheet.specs.Dues.{Due, dueFormula, dueTerm, dueEx, dueRange}
+use Rattle.sheet.specs.Turn.{room, opens}
+use Rattle.sheet.specs.Tables.{Words}
+
+-- ---- sets of locals
+
+-- the local l is in the set m
+unfoldable pub bit : ℕ → ℕ → Bool
+bit m l = eqb (m / 2 ^ l % 2) 1
+
+-- the set m stands for the list S
+pub record Bits (m : ℕ) (S : Locals) : Type 0 where
+  pub at : (l : ℕ) → l < 32 → bit m l ≡ has l S
+
+-- ---- entries
+
+-- the sorts: 0 a formula, 1 a term, 2 the local of `ex`, 3 the local of `some` or `all`
+abbrev pub sortOf : Due → ℕ
+sortOf (dueFormula k S) = 0
+sortOf (dueTerm k S) = 1
+sortOf (dueEx k S) = 2
+sortOf (dueRange k S) = 3
+
+abbrev pub scopeOf : Due → Locals
+scopeOf (dueFormula k S) = S
+scopeOf (dueTerm k S) = S
+scopeOf (dueEx k S) = S
+scopeOf (dueRange k S) = S
+
+-- the entry stands for what is due
+pub record Means (e : Entry) (d : Due) : Type 0 where
+  pub sort : e .sort ≡ sortOf d
+  pub room : e .room ≡ room d
+  pub scope : Bits (e .scope) (scopeOf d)
+
+abbrev pub entry : ℕ → ℕ → ℕ → Entry
+entry s k m = record { sort = s; room = k; scope = m }
+
+-- ---- the stack
+
+-- the i-th entry from the bottom
+abbrev pub entryAt : Words → ℕ → Entry
+entryAt w i = entry (getD w (5201 + 3 * i) 0) (getD w (5201 + 3 * i + 1) 0) (getD w (5201 + 3 * i + 2) 0)
+
+-- the words with an entry at i
+abbrev pub entered : Words → ℕ → Entry → Words
+entered w i e = set (set (set w (5201 + 3 * i) (e .sort)) (5201 + 3 * i + 1) (e .room)) (5201 + 3 * i + 2) (e .scope)
+
+-- the stack holds what is due, the topmost first
+unfoldable pub Stacked : Words → List Due → Type 0
+Stacked w [] = Unit {0}
+Stacked w (d ∷ ds) = Means (entryAt w (length ds)) d × Stacked w ds
+
+-- the words beside the stack are those of the first
+pub record Beside (w w′ : Words) : Type 0 where
+  pub long : length w′ ≡ length w
+  pub below : (j : ℕ) → j < 5201 → getD w′ j 0 ≡ getD w j 0
+  pub above : (j : ℕ) → 5588 ≤ j → getD w′ j 0 ≡ getD w j 0
+
+-- ---- what a token makes due
+
+-- the operands of a code are of one sort
+abbrev pub operands : ℕ → ℕ → Operands
+operands s n = record { sort = s; count = n }
+
+unfoldable pub operandsBy : ℕ → Operands
+operandsBy c =
+    pick (eqb c 5) (operands 0 1)
+    (pick (between 2 4 c) (operands 0 2)
+    (pick (between 6 11 c) (operands 1 2)
+    (pick (eqb c 12) (operands 2 1)
+    (pick (between 13 14 c) (operands 3 1)
+    (pick (between 32 36 c) (operands 1 2)
+    (pick (eqb c 43) (operands 1 1) (operands 0 0)))))))
+
+-- above n entries, the r entries of w′ have on top what a token makes due where e was due
+pub record Opened (w w′ : Words) (n : ℕ) (e : Entry) (t : Token) (r : ℕ) : Type 0 where
+  pub beside : Beside w w′
+  pub count : (d : Due) (ds : List Due) → Means e d → length ds ≡ n → r ≡ length (opens d t ++ ds)
+  pub stack : (d : Due) (ds : List Due) → Means e d → length ds ≡ n → Stacked w ds → Stacked w′ (opens d t ++ ds)

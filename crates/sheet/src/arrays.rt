@@ -1,0 +1,96 @@
+// The line of arrays: lengths with commas between. Each array's first cell goes into the work words as its length is read.
+ghost use mathlib.Core.Path.{_≡_};
+ghost use mathlib.Core.List.{[]};
+ghost use Prim.Native.Nat.{_+_, _-_, _≤_};
+ghost use lib.ListN.{length};
+ghost use Rattle.specification.specs.Lines.{lengths};
+ghost use Rattle.sheet.specs.Reader.{lineAt};
+ghost use Rattle.sheet.specs.Answers.{mapped};
+ghost use Rattle.sheet.specs.Firsts.{laidOn, tabled, arraysValue, arraysRead, ArraysDone};
+use crate::lines;
+use crate::lines::Count;
+
+pub(crate) enum Arrays {
+    // a refusal's number and place
+    Refused(u32, usize),
+    // how many arrays, the end of the cells, and the place after what was read
+    Read(u32, u32, usize),
+}
+
+// Where the words have the first cell of each array, and how many stand there: 16, and the end of the cells.
+const FIRSTS: usize = 5184;
+
+const COUNT: usize = 17;
+
+// Puts the end of the cells behind the last array, and in the place of each array that is not declared.
+fn fill(w: &mut [u32], from: u32, end: u32)
+    requires { ⌜ 6144 ≤ length (now w) ⌝ }
+    ensures { λ _. ⌜ now (w .exit) ≡ laidOn (17 - from) from end [] (now (w .entry)) ⌝ }
+{
+    let mut a = from as usize;
+    while a < COUNT {
+        w[FIRSTS + a] = end;
+        a += 1;
+    }
+}
+
+// Lengths from a place on, the first of which begins after the scalars.
+fn lengths(s: &[u8], from: usize, scalars: u32, w: &mut [u32]) -> Arrays
+    requires { ⌜ (scalars ≤ 512) × (6144 ≤ length (now w)) ⌝ }
+    ensures { λ r. ⌜ arraysRead (now (s .entry)) r (now (w .exit))
+        ≡ mapped (tabled 0 scalars (now (w .entry))) (lengths 16 (512 - scalars) (lineAt (now (s .entry)) from)) ⌝ }
+{
+    let mut at = from;
+    let mut n: u32 = 0;
+    let mut end = scalars;
+    while n < 16 {
+        match lines::count_at(s, at, 1, 512 - end) {
+            Count::Refused(k, p) => {
+                return Arrays::Refused(k, p);
+            }
+            Count::Is(m, e) => {
+                w[FIRSTS + n as usize] = end;
+                n += 1;
+                end += m;
+                if text::class_at(s, e) != text::COMMA {
+                    fill(w, n, end);
+                    return Arrays::Read(n, end, e);
+                }
+                at = e + 1;
+            }
+        }
+    }
+    Arrays::Refused(4, at)
+}
+
+// The line's value: empty, or lengths.
+fn contents(s: &[u8], from: usize, scalars: u32, w: &mut [u32]) -> Arrays
+    requires { ⌜ (scalars ≤ 512) × (6144 ≤ length (now w)) ⌝ }
+    ensures { λ r. ⌜ arraysRead (now (s .entry)) r (now (w .exit))
+        ≡ mapped (tabled 0 scalars (now (w .entry))) (arraysValue scalars (lineAt (now (s .entry)) from)) ⌝ }
+{
+    if text::class_at(lines::value(s, from), 0) == text::FEED {
+        fill(w, 0, scalars);
+        return Arrays::Read(0, scalars, from);
+    }
+    lengths(s, from, scalars, w)
+}
+
+// The line of arrays, after so many scalars.
+pub(crate) fn arrays_line(s: &[u8], at: usize, scalars: u32, w: &mut [u32]) -> Arrays
+    requires { ⌜ (scalars ≤ 64) × (6144 ≤ length (now w)) ⌝ }
+    ensures { λ r. ⌜ ArraysDone (now (s .entry)) at scalars (now (w .entry)) (now (w .exit)) r ⌝ }
+{
+    if !lines::begins(s, at, b"arrays=") {
+        return Arrays::Refused(3, at);
+    }
+    match contents(s, at + 7, scalars, w) {
+        Arrays::Refused(k, p) => Arrays::Refused(k, p),
+        Arrays::Read(n, end, e) => {
+            if text::class_at(s, e) != text::FEED {
+                return Arrays::Refused(5, e);
+            }
+            Arrays::Read(n, end, e + 1)
+        }
+    }
+}

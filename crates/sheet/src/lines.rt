@@ -1,0 +1,134 @@
+// The lines with one number, and the readers of keys and numbers that the first five lines share.
+ghost use mathlib.Core.Path.{_≡_};
+ghost use Prim.Native.Nat.{_<_};
+ghost use lib.ListN.{drop};
+ghost use Rattle.specification.specs.Bytes.{run, inNumber, begins};
+ghost use Rattle.specification.specs.Lines.{index, count, value, line};
+ghost use Rattle.sheet.specs.Reader.{lineAt};
+ghost use Rattle.sheet.specs.Answers.{heldIndex, indexRead, integerRead, countRead};
+use text::Decimal;
+use text::Word;
+
+// The part of the sheet from a place on: a line's value, after its equals sign.
+pub(crate) fn value(s: &[u8], from: usize) -> &[u8]
+    ensures { λ r. ⌜ now r ≡ drop from (now (s .entry)) ⌝ }
+{
+    if from <= s.len() {
+        return &s[from..];
+    }
+    let n = s.len();
+    &s[n..]
+}
+
+// Whether these bytes come at a place.
+pub(crate) fn begins(s: &[u8], at: usize, key: &[u8]) -> bool
+    ensures { λ r. ⌜ r ≡ begins (now (key .entry)) (drop at (now (s .entry))) ⌝ }
+{
+    let v = value(s, at);
+    let mut i = 0;
+    while i < key.len() {
+        if v.len() <= i {
+            return false;
+        }
+        if v[i] != key[i] {
+            return false;
+        }
+        i += 1;
+    }
+    true
+}
+
+// ---- numbers: a refusal's number and place; or what was read, and the place after it
+
+// A number without a minus, held at 2^32 - 1 where it is more.
+pub(crate) enum Index {
+    Refused(u32, usize),
+    Is(u32, usize),
+}
+
+// A value's word.
+pub(crate) enum Integer {
+    Refused(u32, usize),
+    Is(u32, usize),
+}
+
+// A number within its limits.
+pub(crate) enum Count {
+    Refused(u32, usize),
+    Is(u32, usize),
+}
+
+// 2^32 - 1, which is above every limit of a sheet.
+const MOST: u64 = 4294967295;
+
+// The run of digits and minus signs at a place.
+fn numeral(s: &[u8], at: usize) -> &[u8]
+    ensures { λ r. ⌜ now r ≡ run inNumber (drop at (now (s .entry))) ⌝ }
+{
+    let v = value(s, at);
+    let e = text::run_end(v, 0, text::NUMBER);
+    &v[..e]
+}
+
+pub(crate) fn index_at(s: &[u8], at: usize) -> Index
+    ensures { λ r. ⌜ indexRead (now (s .entry)) r ≡ heldIndex (index (lineAt (now (s .entry)) at)) ⌝ }
+{
+    let d = numeral(s, at);
+    match text::natural(d) {
+        Decimal::Malformed => Index::Refused(4, at),
+        Decimal::Is(n) => {
+            if MOST < n {
+                return Index::Is(MOST as u32, at + d.len());
+            }
+            Index::Is(n as u32, at + d.len())
+        }
+    }
+}
+
+pub(crate) fn integer_at(s: &[u8], at: usize) -> Integer
+    ensures { λ r. ⌜ integerRead (now (s .entry)) r ≡ value (lineAt (now (s .entry)) at) ⌝ }
+{
+    let d = numeral(s, at);
+    match text::integer(d) {
+        Word::Bad => Integer::Refused(4, at),
+        Word::Is(w) => Integer::Is(w, at + d.len()),
+    }
+}
+
+pub(crate) fn count_at(s: &[u8], at: usize, lo: u32, hi: u32) -> Count
+    requires { ⌜ hi < 4294967295 ⌝ }
+    ensures { λ r. ⌜ countRead (now (s .entry)) r ≡ count lo hi (lineAt (now (s .entry)) at) ⌝ }
+{
+    match index_at(s, at) {
+        Index::Refused(k, p) => Count::Refused(k, p),
+        Index::Is(n, e) => {
+            if n < lo {
+                return Count::Refused(4, at);
+            }
+            if hi < n {
+                return Count::Refused(4, at);
+            }
+            Count::Is(n, e)
+        }
+    }
+}
+
+// ---- a line with one number
+
+pub(crate) fn count_line(s: &[u8], at: usize, key: &[u8], lo: u32, hi: u32) -> Count
+    requires { ⌜ hi < 4294967295 ⌝ }
+    ensures { λ r. ⌜ countRead (now (s .entry)) r ≡ line (now (key .entry)) lo hi (lineAt (now (s .entry)) at) ⌝ }
+{
+    if !begins(s, at, key) {
+        return Count::Refused(3, at);
+    }
+    match count_at(s, at + key.len(), lo, hi) {
+        Count::Refused(k, p) => Count::Refused(k, p),
+        Count::Is(n, e) => {
+            if text::class_at(s, e) != text::FEED {
+                return Count::Refused(5, e);
+            }
+            Count::Is(n, e + 1)
+        }
+    }
+}

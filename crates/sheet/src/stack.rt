@@ -1,0 +1,139 @@
+// What is due while the formula is read: a stack in the work words, three words an entry.
+ghost use mathlib.Core.Path.{_≡_};
+ghost use Prim.Native.Nat.{_≤_, _<_, _^_};
+ghost use lib.ListN.{length};
+ghost use lib.Bits.{bitOr};
+ghost use Rattle.sheet.specs.Stack.{bit, entryAt, entered, operandsBy, Opened};
+use crate::Token;
+
+// What is due: its sort (0 a formula, 1 a term, 2 the local of `ex`, 3 the local of `some` or `all`), how much deeper nesting may go, and
+// the locals in scope.
+pub(crate) struct Entry {
+    pub sort: u32,
+    pub room: u32,
+    pub scope: u32,
+}
+
+// The operands of a code: their sort, and how many there are.
+pub(crate) struct Operands {
+    pub sort: u32,
+    pub count: u32,
+}
+
+// The first word of the stack.
+const STACK: usize = 5201;
+
+// ---- sets of locals
+
+fn only(l: u32) -> u32
+    requires { ⌜ l < 32 ⌝ }
+    ensures { λ r. ⌜ r ≡ 2 ^ l ⌝ }
+{
+    1u32 << l
+}
+
+pub(crate) fn has(m: u32, l: u32) -> bool
+    requires { ⌜ l < 32 ⌝ }
+    ensures { λ r. ⌜ r ≡ bit m l ⌝ }
+{
+    let p = only(l);
+    m / p % 2 == 1
+}
+
+pub(crate) fn with(m: u32, l: u32) -> u32
+    requires { ⌜ l < 32 ⌝ }
+    ensures { λ r. ⌜ r ≡ bitOr m (2 ^ l) ⌝ }
+{
+    m | only(l)
+}
+
+// ---- the stack
+
+// The i-th entry from the bottom.
+pub(crate) fn get(w: &[u32], i: usize) -> Entry
+    requires { ⌜ (i < 129) × (6144 ≤ length (now w)) ⌝ }
+    ensures { λ r. ⌜ r ≡ entryAt (now (w .entry)) i ⌝ }
+{
+    let at = STACK + 3 * i;
+    Entry {
+        sort: w[at],
+        room: w[at + 1],
+        scope: w[at + 2],
+    }
+}
+
+pub(crate) fn put(w: &mut [u32], i: usize, e: Entry)
+    requires { ⌜ (i < 129) × (6144 ≤ length (now w)) ⌝ }
+    ensures { λ r. ⌜ now (w .exit) ≡ entered (now (w .entry)) i e ⌝ }
+{
+    let at = STACK + 3 * i;
+    w[at] = e.sort;
+    w[at + 1] = e.room;
+    w[at + 2] = e.scope;
+}
+
+// ---- what a token makes due
+
+fn operands_of(code: u32) -> Operands
+    ensures { λ r. ⌜ r ≡ operandsBy code ⌝ }
+{
+    match code {
+        5 => Operands { sort: 0, count: 1 },
+        2..=4 => Operands { sort: 0, count: 2 },
+        6..=11 => Operands { sort: 1, count: 2 },
+        12 => Operands { sort: 2, count: 1 },
+        13..=14 => Operands { sort: 3, count: 1 },
+        32..=36 => Operands { sort: 1, count: 2 },
+        43 => Operands { sort: 1, count: 1 },
+        _ => Operands { sort: 0, count: 0 },
+    }
+}
+
+// The operands of a token where a formula or a term is due, put above n entries: how many there are then.
+fn push_operands(w: &mut [u32], n: usize, e: Entry, t: Token) -> usize
+    requires { ⌜ (n ≤ 126) × (6144 ≤ length (now w)) × (0 < e .room) × (e .sort ≤ 1) ⌝ }
+    ensures { λ r. ⌜ Opened (now (w .entry)) (now (w .exit)) n e t r ⌝ }
+{
+    let o = operands_of(t.code);
+    if o.count == 0 {
+        return n;
+    }
+    let x = Entry {
+        sort: o.sort,
+        room: e.room - 1,
+        scope: e.scope,
+    };
+    put(w, n, x);
+    if o.count == 1 {
+        return n + 1;
+    }
+    put(w, n + 1, x);
+    n + 2
+}
+
+// What a token makes due where an entry was due, put above n entries: how many there are then. A binder's formula lies below its bounds.
+pub(crate) fn push(w: &mut [u32], n: usize, e: Entry, t: Token) -> usize
+    requires { ⌜ (n ≤ 126) × (6144 ≤ length (now w)) × (0 < e .room) × (1 < e .sort → t .operand < 32) ⌝ }
+    ensures { λ r. ⌜ Opened (now (w .entry)) (now (w .exit)) n e t r ⌝ }
+{
+    if e.sort <= 1 {
+        return push_operands(w, n, e, t);
+    }
+    let f = Entry {
+        sort: 0,
+        room: e.room,
+        scope: with(e.scope, t.operand),
+    };
+    put(w, n, f);
+    if e.sort == 2 {
+        return n + 1;
+    }
+    let x = Entry {
+        sort: 1,
+        room: e.room,
+        scope: e.scope,
+    };
+    put(w, n + 1, x);
+    put(w, n + 2, x);
+    n + 3
+}
