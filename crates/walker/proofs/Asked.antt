@@ -1,0 +1,154 @@
+-- The steps into `not` and `imp`: an error leaf where a variable is open, else an inner tree to judge. Assumes nothing.
+use Prim.Native.Nat.{ℕ, suc, _+_, _*_, _≤_, _<_}
+use native.Mathlib.Omega.{arith}
+use native.Mathlib.Numerals.{add-one}
+use native.Mathlib.Nat.{eq-or-lt-of-le}
+use mathlib.Core.Path.{_≡_, refl, sym, _∙_, ap, subst}
+use mathlib.Core.Bool.{Bool, true, false}
+use mathlib.Core.Logic.{_⊎_, inl, inr}
+use mathlib.Core.List.{List, [], _∷_}
+use lib.ListN.{length}
+use Rattle.specification.specs.Bytes.{Bytes}
+use Rattle.specification.specs.Ast.{Formula, truth, and, or, imp, neg, eq, compare, ex, some, all}
+use Rattle.specification.specs.Inner.{Tree, ask, step, errorLeaf, Verdict, verdict, closed}
+use Rattle.specification.specs.Tree.{done, enquire, grow}
+use Rattle.sheet.specs.Tables.{Words}
+use Rattle.sheet.specs.Held.{codeAt, endAt, Shallow}
+use Rattle.terms.specs.Openness.{LowLocals, Standing, AskedFormula, Judged}
+use Rattle.walker.specs.declared.Due.{Due}
+use Rattle.walker.specs.declared.Regs.{Regs}
+use Rattle.walker.specs.Frame as frames
+use Rattle.walker.specs.Frame.{Item, form, the, treeItems, innerIn, Question, denying, implying, sonOf}
+use Rattle.walker.specs.Path.{World, Pend, Good, Stands, Asks}
+use Rattle.walker.specs.Sim.{tree, In, Down}
+use Rattle.walker.specs.Steps.{Pushed, dueOf, errorDue, dueRegs, Visited, Entered, OneLeaf}
+use Rattle.walker.proofs.Here.{end-here, formula-here, formula-ends}
+use Rattle.walker.proofs.Heads.{at-form, form-tree}
+use Rattle.walker.proofs.Onto.{down-asks}
+
+-- binders' locals have slots
+low-locals : (F : Formula) → Shallow F → LowLocals F
+unfolding LowLocals
+low-locals truth h = tt
+low-locals (and F G) h = (low-locals F (h .0), low-locals G (h .1))
+low-locals (or F G) h = (low-locals F (h .0), low-locals G (h .1))
+low-locals (imp n F G) h = (low-locals F (h .0), low-locals G (h .1))
+low-locals (neg n F) h = low-locals F h
+low-locals (eq n s t) h = tt
+low-locals (compare n r s t) h = tt
+low-locals (ex l F) h = (h .0, low-locals F (h .1))
+low-locals (some n l a b F) h = (h .2, low-locals F (h .3))
+low-locals (all n l a b F) h = (h .2, low-locals F (h .3))
+
+-- ---- a node with a question
+
+-- the tree of the node whose token is h: the first operand F is asked for
+pub record Questioned (c : World) (o : Bytes) (w : Words) (r : Regs) (i : In c o w r) : Type 0 where
+  pub F : Formula
+  pub question : Question
+  pub is : List Item
+  pub first : Stands (c .declared) (c .tables) (suc (r .due .head)) F
+  pub near : suc (r .due .head) < 1024
+  pub asks : Asks c (r .due .head) question
+  pub rest : Pend c w (r .depth) (r .due .rest) is
+  pub grown :
+      tree c (i .fr) (i .x) (i .α)
+      ≡ enquire (r .due .head) (closed (i .α) F) (λ β. treeItems (c .declared) true (form F ∷ []) β)
+      (λ v β. sonOf (c .declared) (innerIn (i .fr)) (r .due .head) question is v β) (i .α)
+
+module _ {w : Words} {r : Regs} where
+  pub imp-asks : Entered w r 4 → (c : World) (o : Bytes) (i : In c o w r) → Questioned c o w r i
+  unfolding grow treeItems
+  imp-asks x c o i =
+      let a = at-form i (x .job) (x .code) in
+      let b = a .under in
+      record {
+        F = b .first;
+        question = implying (b .second);
+        is = a .is;
+        first = b .left;
+        near = b .near;
+        asks = (a .code, b .near, b .far, b .right);
+        rest = a .rest;
+        grown = form-tree i a ∙ rw (b .is);
+      }
+
+  pub not-asks : Entered w r 5 → (c : World) (o : Bytes) (i : In c o w r) → Questioned c o w r i
+  unfolding grow treeItems
+  not-asks x c o i =
+      let a = at-form i (x .job) (x .code) in
+      let b = a .under in
+      record {
+        F = b .first;
+        question = denying;
+        is = a .is;
+        first = b .under;
+        near = b .near;
+        asks = a .code;
+        rest = a .rest;
+        grown = form-tree i a ∙ rw (b .is);
+      }
+
+-- in some world and in every one
+pub record Questions (w : Words) (r : Regs) : Type 0 where
+  pub at : Visited w r
+  pub all : (c : World) (o : Bytes) (i : In c o w r) → Questioned c o w r i
+
+pub questions : {w : Words} {r : Regs} → Entered w r 4 ⊎ Entered w r 5 → Questions w r
+questions (inl x) = record { at = x .at; all = imp-asks x }
+questions (inr x) = record { at = x .at; all = not-asks x }
+
+module _ {w : Words} {r : Regs} (x : Questions w r) where
+  -- the formula that `is_closed` is asked about
+  standing : (c : World) (o : Bytes) (i : In c o w r) →
+      Standing w (r .due .head + 1) (endAt w (r .due .head + 1)) (c .declared) (i .α) (x .all c o i .F)
+  standing c o i =
+      let q = x .all c o i in
+      let g = q .first .good in
+      record {
+        formula = rw (add-one (r .due .head)) (formula-here (c .tables) w (i .path .tokens) (q .F) (suc (r .due .head)) (q .first .held));
+        end = refl;
+        holds = i .path .holds;
+        cells = i .path .cells;
+        scope = g .scope;
+        locals = g .locals;
+        ok = g .ok;
+        low = low-locals (q .F) (g .shallow);
+        size = omega (arith, i .path .size);
+      }
+
+  pub closed-asked : AskedFormula w (r .due .head + 1) (endAt w (r .due .head + 1))
+  closed-asked =
+      let v = x .at in
+      record { declared = v .c .declared; valuation = v .ins .α; formula = x .all (v .c) (v .o) (v .ins) .F; standing = standing (v .c) (v .o) (v .ins) }
+
+  module _ {b : Bool} (j : Judged w (r .due .head + 1) (endAt w (r .due .head + 1)) b) where
+    closed-is : (c : World) (o : Bytes) (i : In c o w r) → closed (i .α) (x .all c o i .F) ≡ b
+    closed-is c o i = sym (j (c .declared) (i .α) (x .all c o i .F) (standing c o i))
+
+    pub open-error : b ≡ false → OneLeaf w r (errorDue 5 (r .due .head))
+    unfolding enquire
+    open-error e = record {
+      at = x .at;
+      son = λ c o i. (frames.error 5 (r .due .head), x .all c o i .grown ∙ rw (closed-is c o i, e), (refl, refl, refl), omega arith);
+    }
+
+    pub asks-down : {w' : Words} {d : Due} → b ≡ true → Pushed w w' r 4 0 0 0 0 0 → d ≡ dueOf 0 (r .due .head + 1) 0 →
+        (c : World) (o : Bytes) → In c o w r → Down c o w' (dueRegs r (r .depth + 1) d 1 0)
+    unfolding enquire
+    asks-down e g k c o i =
+        let q = x .all c o i in
+        let near = q .near in
+        down-asks i g (q .F) (q .question) (q .is) (q .grown ∙ rw (closed-is c o i, e)) (omega arith) (q .asks) (q .rest)
+        (rw (k, add-one (r .due .head)) (refl, near, q .first, refl))
+
+-- by the code of the node's formula
+pub question-at : {w : Words} {r : Regs} → Visited w r → r .due .job ≡ 0 → 4 ≤ codeAt w (r .due .head) → codeAt w (r .due .head) ≤ 5 → Questions w r
+question-at {w} {r} v j low high = go (eq-or-lt-of-le low)
+  where
+    go : (4 ≡ codeAt w (r .due .head)) ⊎ (4 < codeAt w (r .due .head)) → Questions w r
+    go (inl e) = questions (inl (record { at = v; job = j; code = sym e }))
+    go (inr l) = questions (inr (record { at = v; job = j; code = omega arith }))
+
+pub question-near : {w : Words} {r : Regs} → Questions w r → suc (r .due .head) < 1024
+question-near x = x .all (x .at .c) (x .at .o) (x .at .ins) .near

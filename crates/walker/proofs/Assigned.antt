@@ -1,0 +1,161 @@
+-- What follows an atom: a test goes on or fails; an assignment changes a slot, unless it would assign an array element in an inner tree.
+-- Assumes nothing.
+use Prim.Native.Nat.{ℕ, zero, suc, _+_, _*_, _≤_, _<_}
+use native.Mathlib.Omega.{arith}
+use mathlib.Core.Path.{_≡_, refl, sym, _∙_, ap, subst}
+use mathlib.Core.Bool.{Bool, true, false, _&&_}
+use mathlib.Core.List.{List, [], _∷_}
+use lib.ListN.{length, getD, set, take}
+use lib.Dec.{T, leb}
+use lib.IntN.{ℤ}
+use borrow.Author.Tests.{le-leb, lt-leb}
+use Rattle.specification.specs.Bytes.{Bytes}
+use Rattle.specification.specs.Number.{in32}
+use Rattle.specification.specs.Lines.{Declared, sum, cells, firstOf}
+use Rattle.specification.specs.Place.{Place, cell, local, put}
+use Rattle.specification.specs.Value.{empty, full}
+use Rattle.specification.specs.Inner.{step}
+use Rattle.specification.specs.Tree.{check, isElement, assignUnless, assign}
+use Rattle.values.specs.Word.{biased}
+use Rattle.sheet.specs.Tables.{Words}
+use Rattle.sheet.specs.Held.{slotOf}
+use Rattle.walker.specs.declared.Due.{Due}
+use Rattle.walker.specs.declared.Regs.{Regs}
+use Rattle.walker.specs.Frame as frames
+use Rattle.walker.specs.Frame.{the, treeItems, innerIn}
+use Rattle.walker.specs.Path.{World, InTable, bit}
+use Rattle.walker.specs.Sim.{In, Down}
+use Rattle.walker.specs.Steps.{dueOf, errorDue, dueRegs, Pushed, Leads, Listed, GoesOn, OneLeaf, Assigns, Sets, Tested}
+use Rattle.walker.proofs.Slots.{in-table as slot-within, alter-two}
+use Rattle.walker.proofs.Heads.{room-words}
+use Rattle.walker.proofs.Pushes.{Alters, alters-kept, rest-onto, rest-leads}
+use Rattle.walker.proofs.Onto.{down-undo}
+
+-- ---- a test
+
+pub test-true : {w : Words} {r : Regs} {b : Bool} → Tested w r b → b ≡ true → GoesOn w r
+test-true x e = record { at = x .at; son = λ c o i. let q = x .son c o i in (q .0, q .1 ∙ rw e, q .2) }
+
+pub test-false : {w : Words} {r : Regs} {b : Bool} → Tested w r b → b ≡ false → OneLeaf w r (dueOf 4 0 0)
+test-false x e = record { at = x .at; son = λ c o i. let q = x .son c o i in (frames.failure, q .1 ∙ rw e, refl, omega arith) }
+
+-- ---- an assignment, by where it stands and what is assigned
+
+module _ {w : Words} {r : Regs} {slot value : ℕ} (x : Assigns w r slot value) where
+  -- where the place may be assigned
+  sets-by : ((c : World) (o : Bytes) (i : In c o w r) (p : Place) → slot ≡ slotOf p → InTable p → innerIn (i .fr) && isElement (c .declared) p ≡ false) → Sets w r slot value
+  sets-by f = record {
+    at = x .at;
+    son = λ c o i.
+        let (is, p, v, tree, rest, place, word, inside, none, good) = x .son c o i in
+        (is, p, v, tree ∙ rw (f c o i p place inside), rest, place, word, inside, none, good);
+  }
+
+  -- the scalars come first among the cells
+  first-is : (c : World) (o : Bytes) (i : In c o w r) → getD w 5184 0 ≡ c .declared .scalars
+  unfolding firstOf sum
+  first-is c o i = i .path .arrays 0 (omega arith) ∙ omega arith
+
+  few-scalars : (c : World) (o : Bytes) (i : In c o w r) → c .declared .scalars ≤ 512
+  unfolding cells
+  few-scalars c o i = let h = i .path .cells in omega arith
+
+  flag-main : (c : World) (o : Bytes) (i : In c o w r) → r .inner ≡ 0 → innerIn (i .fr) ≡ false
+  flag-main c o i e = go (innerIn (i .fr)) (i .inner)
+    where
+      go : (m : Bool) → r .inner ≡ bit m → m ≡ false
+      go true q = absurd (omega arith)
+      go false q = refl
+
+  flag-inner : (c : World) (o : Bytes) (i : In c o w r) → ¬ (r .inner ≡ 0) → innerIn (i .fr) ≡ true
+  flag-inner c o i n = go (innerIn (i .fr)) (i .inner)
+    where
+      go : (m : Bool) → r .inner ≡ bit m → m ≡ true
+      go true q = refl
+      go false q = absurd (n q)
+
+  pub sets-main : r .inner ≡ 0 → Sets w r slot value
+  sets-main e = sets-by (λ c o i p place inside. rw (flag-main c o i e))
+
+  and-false : (m : Bool) → m && false ≡ false
+  and-false true = refl
+  and-false false = refl
+
+  pub sets-scalar : slot < 4096 + 2 * getD w 5184 0 → Sets w r slot value
+  sets-scalar h = sets-by go
+    where
+      go : (c : World) (o : Bytes) (i : In c o w r) (p : Place) → slot ≡ slotOf p → InTable p → innerIn (i .fr) && isElement (c .declared) p ≡ false
+      go c o i (cell k) place inside =
+          let f = first-is c o i in
+          rw (lt-leb (c .declared .scalars) k (omega arith)) (and-false (innerIn (i .fr)))
+      go c o i (local l) place inside = and-false (innerIn (i .fr))
+
+  pub sets-local : 5120 ≤ slot → Sets w r slot value
+  sets-local h = sets-by go
+    where
+      go : (c : World) (o : Bytes) (i : In c o w r) (p : Place) → slot ≡ slotOf p → InTable p → innerIn (i .fr) && isElement (c .declared) p ≡ false
+      go c o i (cell k) place inside = absurd (omega arith)
+      go c o i (local l) place inside = and-false (innerIn (i .fr))
+
+  pub element-error : ¬ (r .inner ≡ 0) → 4096 + 2 * getD w 5184 0 ≤ slot → slot < 5120 → OneLeaf w r (errorDue 1 (r .due .head))
+  element-error n low high = record {
+    at = x .at;
+    son = λ c o i.
+        let (is, p, v, tree, rest, place, word, inside, none, good) = x .son c o i in
+        (frames.error 1 (r .due .head), tree ∙ rw (flag-inner c o i n, element c o i p place), (refl, refl, refl), omega arith);
+  }
+    where
+      element : (c : World) (o : Bytes) (i : In c o w r) (p : Place) → slot ≡ slotOf p → isElement (c .declared) p ≡ true
+      element c o i (cell k) place = let f = first-is c o i in le-leb (c .declared .scalars) k (omega arith)
+      element c o i (local l) place = absurd (omega arith)
+
+  -- the word that the code reads
+  pub assigns-few : getD w 5184 0 ≤ 512
+  assigns-few = let v = x .at in let f = first-is (v .c) (v .o) (v .ins) in let h = few-scalars (v .c) (v .o) (v .ins) in omega arith
+
+-- ---- the step
+
+module _ {w mid w1 w' : Words} {r : Regs} {slot old value : ℕ} (x : Sets w r slot value) (g : Pushed w mid r 2 slot 0 old 0 0)
+    (e1 : w1 ≡ set mid slot 1) (e2 : w' ≡ set w1 (slot + 1) value) where
+  set-alters : (c : World) (o : Bytes) (i : In c o w r) → let q = x .son c o i in Alters w w' r (i .α) (q .1) (full (q .2)) 2 0 0
+  set-alters c o i =
+      let (is, p, v, tree, rest, place, word, inside, none, good) = x .son c o i in
+      record {
+        mid = mid;
+        slot = slot;
+        had = 0;
+        old = old;
+        pushed = g;
+        place = place;
+        inside = inside;
+        saved = rw none refl;
+        good = good;
+        altered = alter-two p place inside (omega (arith, g .size, i .path .size)) (full v) 1 value (refl, word) e1 e2;
+      }
+
+  pub set-leads : Leads w' (r .due .rest)
+  set-leads =
+      let c = x .at .c in
+      let o = x .at .o in
+      let i = x .at .ins in
+      rest-leads i (x .son c o i .0) (alters-kept (set-alters c o i)) (x .son c o i .4)
+
+  pub set-down : {d : Due} → Listed w' (r .due .rest) d → (c : World) (o : Bytes) → In c o w r → Down c o w' (dueRegs r (r .depth + 1) d (r .inner) (r .bad))
+  set-down f c o i =
+      let q = x .son c o i in
+      let m = set-alters c o i in
+      let k = alters-kept m in
+      down-undo i (q .1) (full (q .2)) m (the (q .0)) (q .3)
+      (f c (r .depth + 1) (q .0) (λ j h. k .tokens j h ∙ i .path .tokens j h) (rest-onto i (q .0) (r .depth + 1) k (omega arith) (q .4)))
+
+-- the slot lies in the tables, and the words are there
+pub record Placed (w : Words) (r : Regs) (slot : ℕ) : Type 0 where
+  pub low : slot + 1 < 6144
+  pub size : 6156 + 12 * r .depth ≤ length w
+
+pub sets-placed : {w : Words} {r : Regs} {slot value : ℕ} → Sets w r slot value → Placed w r slot
+sets-placed x =
+    let v = x .at in
+    let q = x .son (v .c) (v .o) (v .ins) in
+    let z = slot-within (q .1) (q .7) in
+    record { low = omega (arith, q .5, z .high); size = room-words (v .ins) }

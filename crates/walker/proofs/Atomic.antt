@@ -1,0 +1,335 @@
+-- The steps into atoms, by what the two sides are. Assumes nothing.
+use Prim.Native.Nat.{ℕ, suc, _+_, _*_, _≤_, _<_}
+use native.Mathlib.Omega.{arith}
+use native.Mathlib.Numerals.{add-one}
+use mathlib.Core.Path.{_≡_, refl, sym, _∙_, ap, subst}
+use mathlib.Core.Bool.{Bool, not}
+use mathlib.Core.List.{List, [], _∷_}
+use lib.Dec.{T, leb, ltb, eqb}
+use lib.IntN.{ℤ}
+use Rattle.specification.specs.Bytes.{Bytes}
+use Rattle.specification.specs.Number.{in32}
+use Rattle.specification.specs.Lines.{Declared, cells}
+use Rattle.specification.specs.Ast.{Rel, ne, lt, le, gt, ge, Term, Formula, eq, compare}
+use Rattle.specification.specs.Arithmetic.{eqZ, test}
+use Rattle.specification.specs.Place.{Place, cell, local}
+use Rattle.specification.specs.Value.{Valuation, empty, Side, val, bare, err, pairOf, faulty, side}
+use Rattle.specification.specs.Inner.{errorLeaf, step}
+use Rattle.specification.specs.Tree.{Rest, check, assign, equate, compared, grow}
+use Rattle.specification.proofs.Laws.Scope as scopes
+use Rattle.specification.proofs.Laws.Value.{sane-val, sane-bare}
+use Rattle.values.specs.Word.{biased, signed}
+use Rattle.values.proofs.Laws.Word.{signed-biased, signed-eq, signed-lt, signed-le}
+use Rattle.sheet.specs.Tables.{Words}
+use Rattle.sheet.specs.Held.{endAt, slotOf}
+use Rattle.sheet.specs.Codes.{relCode}
+use Rattle.terms.specs.declared.Sides.{Sides}
+use Rattle.terms.specs.Results.{tagOf, wordOf, Valued}
+use Rattle.walker.specs.declared.Regs.{Regs}
+use Rattle.walker.specs.Frame as frames
+use Rattle.walker.specs.Frame.{Item, treeItems, innerIn}
+use Rattle.walker.specs.Path.{World, Pend, InTable}
+use Rattle.walker.specs.Sim.{tree, In}
+use Rattle.walker.specs.Steps.{errorDue, Visited, Entered, OneLeaf, Assigns, Tested, Compares}
+use Rattle.walker.proofs.Keep.{pend-keep}
+use Rattle.walker.proofs.Here.{end-here}
+use Rattle.walker.proofs.Under.{TermsIn, Atom, Compared}
+use Rattle.walker.proofs.Inverse.{says-compared}
+use Rattle.walker.proofs.Whole.{spare-kept}
+use Rattle.walker.proofs.Heads.{AtForm, at-form, form-tree, in-spare, visited-spare}
+use Rattle.walker.proofs.Sided.{Terms, Errs, back, forth, left-side, right-side, sides-are, left-value, right-value}
+
+-- the value of a side by its word
+value-is : (D : Declared) (S : scopes.Scope) (α : Valuation) → scopes.Valid α → (t : Term) → scopes.OkTerm D S t → (w : ℕ) (z : ℤ) → side D α t ≡ val z → w ≡ biased z → signed w ≡ z
+value-is D S α v t ok w z e h = ap signed h ∙ signed-biased z (sane-val D S α v t ok z e)
+
+-- ---- the atoms that compare
+
+module _ {n : ℕ} {w : Words} {r : Regs} (x : Entered w r n) (low : 7 ≤ n) (high : n ≤ 11) where
+  abbrev pub comparing : (c : World) (o : Bytes) (i : In c o w r) → Compared (c .declared) (c .tables) (r .due .head) n (at-form i (x .job) (x .code) .F)
+  comparing c o i = let a = at-form i (x .job) (x .code) in says-compared (a .stands) (a .code) low high
+
+  unfoldable pub compare-terms : Terms w r (r .due .head + 1) (endAt w (r .due .head))
+  compare-terms = record {
+    at = x .at;
+    both = λ c o i.
+        let a = at-form i (x .job) (x .code) in
+        let b = comparing c o i .2 in
+        (b .left, b .right, rw (add-one (r .due .head), end-here (c .tables) w (i .path .tokens) (a .small)) (b .terms));
+  }
+
+  pub compare-errs : Errs w r (r .due .head + 1) (endAt w (r .due .head)) compare-terms
+  unfolding compare-terms grow compared
+  compare-errs c o i κ e = let a = at-form i (x .job) (x .code) in form-tree i a ∙ rw (comparing c o i .2 .is, e)
+
+  pub compare-tested : {w' : Words} {s : Sides} (v : Valued w w' (r .due .head + 1) (endAt w (r .due .head)) s) → s .ltag ≡ 0 → s .rtag ≡ 0 →
+      (b : Bool) → Compares n (s .left) (s .right) b → Tested w' r b
+  unfolding compare-terms back in-spare grow compared pairOf
+  compare-tested {w'} {s} v l h b k = record {
+    at = visited-spare w w' (v .kept) (v .size) (x .at);
+    son = λ c o i.
+        let j = back compare-terms v i in
+        let a = at-form j (x .job) (x .code) in
+        let (rel, code, t) = comparing c o j in
+        let p = left-value compare-terms v l c o i in
+        let q = right-value compare-terms v h c o i in
+        let left : signed (s .left) ≡ p .z = value-is (c .declared) (t .terms .scope) (i .α) (i .path .valid) (t .left) (t .terms .left) (s .left) (p .z) (p .is) (p .word) in
+        let right : signed (s .right) ≡ q .z = value-is (c .declared) (t .terms .scope) (i .α) (i .path .valid) (t .right) (t .terms .right) (s .right) (q .z) (q .is) (q .word) in
+        let holds : b ≡ test rel (p .z) (q .z) = k rel code ∙ ap (λ y. test rel y (signed (s .right))) left ∙ ap (test rel (p .z)) right in (
+          a .is,
+          form-tree j a ∙ rw (t .is, p .is, q .is, holds),
+          pend-keep c w w' (r .depth) (r .due .rest) (a .is) (spare-kept w w' (v .kept) (v .size) (r .depth) .nodes) (a .rest),
+        );
+  }
+
+-- ---- `eq`
+
+-- a bare place that a term names has a slot in the tables
+in-table : (D : Declared) (S : scopes.Scope) → cells D ≤ 512 → ((l : ℕ) → T (S l) → l < 32) → (p : Place) → scopes.In D S p → InTable p
+in-table D S few small (cell c) h = omega arith
+in-table D S few small (local l) h = small l h
+
+-- a bare side, by the first word of its slot
+record Bare (x : Side) (w : ℕ) : Type 0 where
+  place : Place
+  is : x ≡ bare place
+  word : w ≡ slotOf place
+
+has-place : (x : Side) (w : ℕ) → tagOf x ≡ 1 → w ≡ wordOf x → Bare x w
+has-place (val z) w e h = absurd (omega arith)
+has-place (bare p) w e h = record { place = p; is = refl; word = h }
+has-place (err κ) w e h = absurd (omega arith)
+
+module _ (D : Declared) (m : Bool) (tok : ℕ) (x y : Side) (rest : Rest) (α : Valuation) where
+  equate-left : (p : Place) (z : ℤ) → x ≡ bare p → y ≡ val z → equate D m tok x y rest α ≡ assign D m tok p z rest α
+  unfolding equate
+  equate-left p z e f = rw (e, f)
+
+  equate-right : (p : Place) (z : ℤ) → x ≡ val z → y ≡ bare p → equate D m tok x y rest α ≡ assign D m tok p z rest α
+  unfolding equate
+  equate-right p z e f = rw (e, f)
+
+module _ {w : Words} {r : Regs} (x : Entered w r 6) where
+  unfoldable pub eq-terms : Terms w r (r .due .head + 1) (endAt w (r .due .head))
+  eq-terms = record {
+    at = x .at;
+    both = λ c o i.
+        let a = at-form i (x .job) (x .code) in
+        let b = a .under in
+        (b .left, b .right, rw (add-one (r .due .head), end-here (c .tables) w (i .path .tokens) (a .small)) (b .terms));
+  }
+
+  module _ {w' : Words} {s : Sides} (v : Valued w w' (r .due .head + 1) (endAt w (r .due .head)) s) where
+    abbrev lefts : (c : World) (o : Bytes) → In c o w' r → Side
+    lefts c o i = left-side eq-terms v c o i
+
+    abbrev rights : (c : World) (o : Bytes) → In c o w' r → Side
+    rights c o i = right-side eq-terms v c o i
+
+    abbrev items : (c : World) (o : Bytes) → In c o w' r → List Item
+    items c o i = at-form (back eq-terms v i) (x .job) (x .code) .is
+
+    -- the tree by the two sides
+    equated : (c : World) (o : Bytes) (i : In c o w' r) →
+        tree c (i .fr) (i .x) (i .α) ≡
+        step (equate (c .declared) (innerIn (i .fr)) (r .due .head) (lefts c o i) (rights c o i) (λ β. treeItems (c .declared) (innerIn (i .fr)) (items c o i) β) (i .α))
+    unfolding eq-terms back in-spare grow
+    equated c o i =
+        let j = back eq-terms v i in
+        let a = at-form j (x .job) (x .code) in
+        form-tree j a ∙ rw (a .under .is)
+
+    visited : Visited w' r
+    visited = visited-spare w w' (v .kept) (v .size) (x .at)
+
+    rests : (c : World) (o : Bytes) (i : In c o w' r) → Pend c w' (r .depth) (r .due .rest) (items c o i)
+    rests c o i =
+        let a = at-form (back eq-terms v i) (x .job) (x .code) in
+        pend-keep c w w' (r .depth) (r .due .rest) (a .is) (spare-kept w w' (v .kept) (v .size) (r .depth) .nodes) (a .rest)
+
+    -- the tags and words, side by side
+    module _ (c : World) (o : Bytes) (i : In c o w' r) where
+      ltag-is : s .ltag ≡ tagOf (lefts c o i)
+      ltag-is = ap (λ y. y .ltag) (sides-are eq-terms v c o i)
+
+      left-is : s .left ≡ wordOf (lefts c o i)
+      left-is = ap (λ y. y .left) (sides-are eq-terms v c o i)
+
+      rtag-is : s .rtag ≡ tagOf (rights c o i)
+      rtag-is = ap (λ y. y .rtag) (sides-are eq-terms v c o i)
+
+      right-is : s .right ≡ wordOf (rights c o i)
+      right-is = ap (λ y. y .right) (sides-are eq-terms v c o i)
+
+    -- an error leaf by the two sides
+    leaf-by : (k : ℕ) →
+        ((D : Declared) (m : Bool) (tok : ℕ) (p q : Side) (rest : Rest) (α : Valuation) →
+        s .ltag ≡ tagOf p → s .left ≡ wordOf p → s .rtag ≡ tagOf q → s .right ≡ wordOf q → equate D m tok p q rest α ≡ errorLeaf k tok α) →
+        OneLeaf w' r (errorDue k (r .due .head))
+    leaf-by k f = record {
+      at = visited;
+      son = λ c o i. (
+        frames.error k (r .due .head),
+        equated c o i ∙
+            ap step (f (c .declared) (innerIn (i .fr)) (r .due .head) (lefts c o i) (rights c o i) (λ β. treeItems (c .declared) (innerIn (i .fr)) (items c o i) β) (i .α)
+            (ltag-is c o i) (left-is c o i) (rtag-is c o i) (right-is c o i)),
+        (refl, refl, refl),
+        omega arith,
+      );
+    }
+
+    pub eq-left-error : s .ltag ≡ 2 → OneLeaf w' r (errorDue (s .left) (r .due .head))
+    unfolding equate
+    eq-left-error e = leaf-by (s .left) go
+      where
+        go : (D : Declared) (m : Bool) (tok : ℕ) (p q : Side) (rest : Rest) (α : Valuation) →
+            s .ltag ≡ tagOf p → s .left ≡ wordOf p → s .rtag ≡ tagOf q → s .right ≡ wordOf q → equate D m tok p q rest α ≡ errorLeaf (s .left) tok α
+        go D m tok (val z) q rest α a b c d = absurd (omega arith)
+        go D m tok (bare z) q rest α a b c d = absurd (omega arith)
+        go D m tok (err κ) q rest α a b c d = ap (λ k. errorLeaf k tok α) (sym b)
+
+    pub eq-right-error : ¬ (s .ltag ≡ 2) → s .rtag ≡ 2 → OneLeaf w' r (errorDue (s .right) (r .due .head))
+    unfolding equate
+    eq-right-error n e = leaf-by (s .right) go
+      where
+        go : (D : Declared) (m : Bool) (tok : ℕ) (p q : Side) (rest : Rest) (α : Valuation) →
+            s .ltag ≡ tagOf p → s .left ≡ wordOf p → s .rtag ≡ tagOf q → s .right ≡ wordOf q → equate D m tok p q rest α ≡ errorLeaf (s .right) tok α
+        go D m tok p (val z) rest α a b c d = absurd (omega arith)
+        go D m tok p (bare z) rest α a b c d = absurd (omega arith)
+        go D m tok (val y) (err κ) rest α a b c d = ap (λ k. errorLeaf k tok α) (sym d)
+        go D m tok (bare y) (err κ) rest α a b c d = ap (λ k. errorLeaf k tok α) (sym d)
+        go D m tok (err y) (err κ) rest α a b c d = absurd (n a)
+
+    pub eq-both-bare : s .ltag ≡ 1 → s .rtag ≡ 1 → OneLeaf w' r (errorDue 1 (r .due .head))
+    unfolding equate
+    eq-both-bare e f = leaf-by 1 go
+      where
+        go : (D : Declared) (m : Bool) (tok : ℕ) (p q : Side) (rest : Rest) (α : Valuation) →
+            s .ltag ≡ tagOf p → s .left ≡ wordOf p → s .rtag ≡ tagOf q → s .right ≡ wordOf q → equate D m tok p q rest α ≡ errorLeaf 1 tok α
+        go D m tok (val y) q rest α a b c d = absurd (omega arith)
+        go D m tok (err y) q rest α a b c d = absurd (omega arith)
+        go D m tok (bare y) (val z) rest α a b c d = absurd (omega arith)
+        go D m tok (bare y) (err z) rest α a b c d = absurd (omega arith)
+        go D m tok (bare y) (bare z) rest α a b c d = refl
+
+    -- one side bare, the other with a value
+    pub eq-assign-left : s .ltag ≡ 1 → s .rtag ≡ 0 → Assigns w' r (s .left) (s .right)
+    unfolding eq-terms back in-spare equate
+    eq-assign-left e f = record {
+      at = visited;
+      son = λ c o i.
+          let t = at-form (back eq-terms v i) (x .job) (x .code) .under in
+          let g = t .terms in
+          let p = has-place (lefts c o i) (s .left) (sym (ltag-is c o i) ∙ e) (left-is c o i) in
+          let q = right-value eq-terms v f c o i in
+          let b = sane-bare (c .declared) (g .scope) (i .α) (i .path .valid) (t .left) (g .left) (p .place) (p .is) in (
+            items c o i,
+            p .place,
+            q .z,
+            equated c o i ∙ ap step (equate-left (c .declared) (innerIn (i .fr)) (r .due .head) (lefts c o i) (rights c o i) (λ β. treeItems (c .declared) (innerIn (i .fr)) (items c o i) β) (i .α) (p .place) (q .z) (p .is) (q .is)),
+            rests c o i,
+            p .word,
+            q .word,
+            in-table (c .declared) (g .scope) (i .path .cells) (g .locals) (p .place) (b .0),
+            b .1,
+            sane-val (c .declared) (g .scope) (i .α) (i .path .valid) (t .right) (g .right) (q .z) (q .is),
+          );
+    }
+
+    pub eq-assign-right : s .ltag ≡ 0 → s .rtag ≡ 1 → Assigns w' r (s .right) (s .left)
+    unfolding eq-terms back in-spare equate
+    eq-assign-right e f = record {
+      at = visited;
+      son = λ c o i.
+          let t = at-form (back eq-terms v i) (x .job) (x .code) .under in
+          let g = t .terms in
+          let p = has-place (rights c o i) (s .right) (sym (rtag-is c o i) ∙ f) (right-is c o i) in
+          let q = left-value eq-terms v e c o i in
+          let b = sane-bare (c .declared) (g .scope) (i .α) (i .path .valid) (t .right) (g .right) (p .place) (p .is) in (
+            items c o i,
+            p .place,
+            q .z,
+            equated c o i ∙ ap step (equate-right (c .declared) (innerIn (i .fr)) (r .due .head) (lefts c o i) (rights c o i) (λ β. treeItems (c .declared) (innerIn (i .fr)) (items c o i) β) (i .α) (p .place) (q .z) (q .is) (p .is)),
+            rests c o i,
+            p .word,
+            q .word,
+            in-table (c .declared) (g .scope) (i .path .cells) (g .locals) (p .place) (b .0),
+            b .1,
+            sane-val (c .declared) (g .scope) (i .α) (i .path .valid) (t .left) (g .left) (q .z) (q .is),
+          );
+    }
+
+    -- two values
+    pub eq-tested : s .ltag ≡ 0 → s .rtag ≡ 0 → Tested w' r (eqb (s .left) (s .right))
+    unfolding eq-terms back in-spare equate
+    eq-tested e f = record {
+      at = visited;
+      son = λ c o i.
+          let t = at-form (back eq-terms v i) (x .job) (x .code) .under in
+          let g = t .terms in
+          let p = left-value eq-terms v e c o i in
+          let q = right-value eq-terms v f c o i in
+          let left : signed (s .left) ≡ p .z = value-is (c .declared) (g .scope) (i .α) (i .path .valid) (t .left) (g .left) (s .left) (p .z) (p .is) (p .word) in
+          let right : signed (s .right) ≡ q .z = value-is (c .declared) (g .scope) (i .α) (i .path .valid) (t .right) (g .right) (s .right) (q .z) (q .is) (q .word) in
+          let same : eqb (s .left) (s .right) ≡ eqZ (p .z) (q .z) =
+          sym (signed-eq (s .left) (s .right)) ∙ ap (λ y. eqZ y (signed (s .right))) left ∙ ap (eqZ (p .z)) right in
+          (items c o i, equated c o i ∙ rw (p .is, q .is, same), rests c o i);
+    }
+
+    -- no other tags
+    tag-small : (y : Side) → tagOf y ≤ 2
+    tag-small (val z) = omega arith
+    tag-small (bare p) = omega arith
+    tag-small (err κ) = omega arith
+
+    some-in : In (x .at .c) (x .at .o) w' r
+    some-in = forth eq-terms v (x .at .ins)
+
+    pub left-tag : ¬ (s .ltag ≡ 1) → ¬ (s .ltag ≡ 2) → s .ltag ≡ 0
+    left-tag a b = omega (arith, ltag-is (x .at .c) (x .at .o) some-in, tag-small (lefts (x .at .c) (x .at .o) some-in))
+
+    pub right-tag : ¬ (s .rtag ≡ 1) → ¬ (s .rtag ≡ 2) → s .rtag ≡ 0
+    right-tag a b = omega (arith, rtag-is (x .at .c) (x .at .o) some-in, tag-small (rights (x .at .c) (x .at .o) some-in))
+
+-- ---- comparisons of words, by the code
+
+module _ (x y : ℕ) where
+  pub compares-ne : Compares 7 x y (not (eqb x y))
+  unfolding test
+  compares-ne ne e = ap not (sym (signed-eq x y))
+  compares-ne lt e = absurd (omega arith)
+  compares-ne le e = absurd (omega arith)
+  compares-ne gt e = absurd (omega arith)
+  compares-ne ge e = absurd (omega arith)
+
+  pub compares-lt : Compares 8 x y (ltb x y)
+  unfolding test
+  compares-lt ne e = absurd (omega arith)
+  compares-lt lt e = sym (signed-lt x y)
+  compares-lt le e = absurd (omega arith)
+  compares-lt gt e = absurd (omega arith)
+  compares-lt ge e = absurd (omega arith)
+
+  pub compares-le : Compares 9 x y (leb x y)
+  unfolding test
+  compares-le ne e = absurd (omega arith)
+  compares-le lt e = absurd (omega arith)
+  compares-le le e = sym (signed-le x y)
+  compares-le gt e = absurd (omega arith)
+  compares-le ge e = absurd (omega arith)
+
+  pub compares-gt : Compares 10 x y (ltb y x)
+  unfolding test
+  compares-gt ne e = absurd (omega arith)
+  compares-gt lt e = absurd (omega arith)
+  compares-gt le e = absurd (omega arith)
+  compares-gt gt e = sym (signed-lt y x)
+  compares-gt ge e = absurd (omega arith)
+
+  pub compares-ge : (code : ℕ) → ¬ (code ≡ 7) → ¬ (code ≡ 8) → ¬ (code ≡ 9) → ¬ (code ≡ 10) → Compares code x y (leb y x)
+  unfolding test
+  compares-ge code a b c d ne e = absurd (a e)
+  compares-ge code a b c d lt e = absurd (b e)
+  compares-ge code a b c d le e = absurd (c e)
+  compares-ge code a b c d gt e = absurd (d e)
+  compares-ge code a b c d ge e = sym (signed-le y x)

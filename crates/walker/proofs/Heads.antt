@@ -1,0 +1,143 @@
+-- What is due at a node whose visit is counted: by the job and the code, the items and their tree. And the words that evaluating terms
+-- changes do not matter. Assumes nothing.
+use Prim.Native.Nat.{ℕ, _+_, _*_, _≤_, _<_}
+use native.Mathlib.Omega.{arith}
+use mathlib.Core.Path.{_≡_, refl, sym, _∙_}
+use mathlib.Core.List.{List, [], _∷_}
+use mathlib.Core.Logic.{_⊎_, inl}
+use lib.ListN.{length, getD}
+use lib.IntN.{ℤ}
+use Rattle.specification.specs.Bytes.{Bytes}
+use Rattle.specification.specs.Ast.{Formula}
+use Rattle.specification.specs.Tree.{grow, rounds}
+use Rattle.sheet.specs.Tables.{Words}
+use Rattle.sheet.specs.Held.{codeAt}
+use Rattle.walker.specs.declared.Regs.{Regs}
+use Rattle.walker.specs.Frame.{Item, form, again, What, the, success, failure, error, treeItems, innerIn}
+use Rattle.walker.specs.Path.{World, Stands, Binds, LeftAfter, Pend, Job}
+use Rattle.walker.specs.Sim.{tree, In}
+use Rattle.walker.specs.Steps.{Visited, Entered, Stepped}
+use Rattle.walker.proofs.Here.{code-here}
+use Rattle.walker.proofs.Under.{Says}
+use Rattle.walker.proofs.Inverse.{says}
+use Rattle.walker.proofs.Keep.{job-keep}
+use Rattle.walker.proofs.Slots.{holds-keep}
+use Rattle.walker.proofs.Whole.{path-kept, spare-kept, spare-slots}
+
+-- ---- a formula
+
+-- x is the formula F at the token that is due, whose code is n, before the items
+pub record AtForm (c : World) (w : Words) (r : Regs) (n : ℕ) (x : What) : Type 0 where
+  pub F : Formula
+  pub is : List Item
+  pub due : x ≡ the (form F ∷ is)
+  pub small : r .due .head < 1024
+  pub stands : Stands (c .declared) (c .tables) (r .due .head) F
+  pub code : codeAt (c .tables) (r .due .head) ≡ n
+  pub under : Says (c .declared) (c .tables) (r .due .head) n F
+  pub rest : Pend c w (r .depth) (r .due .rest) is
+
+-- x is an `all` that goes on, before the items
+pub record AtAgain (c : World) (w : Words) (r : Regs) (x : What) : Type 0 where
+  pub l : ℕ
+  pub F : Formula
+  pub m : ℕ
+  pub v : ℤ
+  pub is : List Item
+  pub due : x ≡ the (again l F m v ∷ is)
+  pub code : codeAt (c .tables) (r .due .head) ≡ 14
+  pub binds : Binds (c .declared) (c .tables) (r .due .head) l F
+  pub left : LeftAfter (r .due .current) (r .due .last) m v
+  pub rest : Pend c w (r .depth) (r .due .rest) is
+
+module _ {c : World} {o : Bytes} {w : Words} {r : Regs} (i : In c o w r) where
+  pub at-form : {n : ℕ} → r .due .job ≡ 0 → codeAt w (r .due .head) ≡ n → AtForm c w r n (i .x)
+  at-form {n} j e = go (i .x) (i .job)
+    where
+      go : (x : What) → Job c w (r .depth) (r .due) x → AtForm c w r n x
+      go (the []) q = absurd (omega (arith, q))
+      go (the (form F ∷ is)) q =
+          let code = sym (code-here (c .tables) w (i .path .tokens) (q .1)) ∙ e in
+          record { F = F; is = is; due = refl; small = q .1; stands = q .2; code = code; under = says (q .2) code; rest = q .3 }
+      go (the (again l F m v ∷ is)) q = absurd (omega (arith, q .0))
+      go success q = absurd (omega (arith, q))
+      go failure q = absurd (omega (arith, q))
+      go (error κ tok) q = absurd (omega (arith, q .0))
+
+  pub at-again : r .due .job ≡ 2 → AtAgain c w r (i .x)
+  at-again j = go (i .x) (i .job)
+    where
+      go : (x : What) → Job c w (r .depth) (r .due) x → AtAgain c w r x
+      go (the []) q = absurd (omega (arith, q))
+      go (the (form F ∷ is)) q = absurd (omega (arith, q .0))
+      go (the (again l F m v ∷ is)) q =
+          record { l = l; F = F; m = m; v = v; is = is; due = refl; code = q .1; binds = q .2; left = q .3; rest = q .4 }
+      go success q = absurd (omega (arith, q))
+      go failure q = absurd (omega (arith, q))
+      go (error κ tok) q = absurd (omega (arith, q .0))
+
+  pub at-empty : r .due .job ≡ 1 → i .x ≡ the []
+  at-empty j = go (i .x) (i .job)
+    where
+      go : (x : What) → Job c w (r .depth) (r .due) x → x ≡ the []
+      go (the []) q = refl
+      go (the (form F ∷ is)) q = absurd (omega (arith, q .0))
+      go (the (again l F m v ∷ is)) q = absurd (omega (arith, q .0))
+      go success q = absurd (omega (arith, q))
+      go failure q = absurd (omega (arith, q))
+      go (error κ tok) q = absurd (omega (arith, q .0))
+
+  -- the tree there
+  pub form-tree : {n : ℕ} (a : AtForm c w r n (i .x)) →
+      tree c (i .fr) (i .x) (i .α) ≡ grow (c .declared) (innerIn (i .fr)) (a .F) (λ β. treeItems (c .declared) (innerIn (i .fr)) (a .is) β) (i .α)
+  unfolding treeItems
+  form-tree a = rw (a .due)
+
+  pub again-tree : (a : AtAgain c w r (i .x)) →
+      tree c (i .fr) (i .x) (i .α) ≡
+      rounds (λ k β. grow (c .declared) (innerIn (i .fr)) (a .F) k β) (a .l) (λ β. treeItems (c .declared) (innerIn (i .fr)) (a .is) β) (a .m) (a .v) (i .α)
+  unfolding treeItems
+  again-tree a = rw (a .due)
+
+  -- ---- room
+
+  pub room-words : 6156 + 12 * r .depth ≤ length w
+  room-words = omega (arith, i .path .size, i .room)
+
+  pub shallow : r .depth < 32768
+  shallow = omega (arith, i .path .limit, i .room)
+
+-- ---- after evaluating terms
+
+module _ (w w' : Words) (u : (k : ℕ) → (k < 5201) ⊎ (5588 ≤ k) → getD w' k 0 ≡ getD w k 0) (z : length w' ≡ length w) where
+  unfoldable pub in-spare : {c : World} {o : Bytes} {r : Regs} → In c o w r → In c o w' r
+  in-spare {c} {o} {r} i =
+      let k = spare-kept w w' u z (r .depth) in
+      record {
+        x = i .x;
+        fr = i .fr;
+        α = i .α;
+        e = i .e;
+        b = i .b;
+        path = path-kept (i .path) k (holds-keep (spare-slots w w' u) (i .path .holds));
+        inner = i .inner;
+        bad = i .bad;
+        job = job-keep c w w' (r .depth) (r .due) (i .x) (k .nodes) (i .job);
+        out = i .out;
+        count = i .count;
+        room = i .room;
+        leaves = i .leaves;
+        result = i .result;
+      }
+
+  pub visited-spare : {r : Regs} → Visited w r → Visited w' r
+  visited-spare v = record { c = v .c; o = v .o; ins = in-spare (v .ins) }
+
+  pub entered-spare : {r : Regs} {n : ℕ} → Entered w r n → Entered w' r n
+  entered-spare {r} {n} v =
+      let a = at-form (v .at .ins) (v .job) (v .code) in
+      record { at = visited-spare (v .at); job = v .job; code = u (4 * r .due .head) (inl (omega (arith, a .small))) ∙ v .code }
+
+  -- a step from the words after it is one from the words before it
+  pub stepped-spare : {w'' : Words} {r q : Regs} → Stepped w' w'' r q → Stepped w w'' r q
+  stepped-spare s = record { sim = λ c o i. s .sim c o (in-spare i); nodes = s .nodes; falls = s .falls }

@@ -1,0 +1,198 @@
+-- The law that the formula at a token is as the token's code says, with what stands under it. Assumes nothing.
+use Prim.Native.Nat.{ℕ, suc, _≤_, _<_}
+use native.Mathlib.Omega.{arith}
+use mathlib.Core.Path.{_≡_, refl, sym, ap, subst}
+use mathlib.Core.Bool.{Bool, true, false}
+use lib.Dec.{T, eqb}
+use borrow.Author.Tests.{eqb-true, ne-eqb}
+use Rattle.specification.specs.Bytes.{pick}
+use Rattle.specification.specs.Lines.{Declared}
+use Rattle.specification.specs.Ast.{Rel, ne, lt, le, gt, ge, Term, Formula, truth, and, or, imp, neg, eq, compare, ex, some, all}
+use Rattle.specification.proofs.Laws.Scope.{Scope, enter, OkTerm, Ok}
+use Rattle.sheet.specs.Tables.{Words}
+use Rattle.sheet.specs.Codes.{relCode}
+use Rattle.sheet.specs.Held.{codeAt, endAt, TermsAt, LocalAt, FormulaAt, height, Shallow}
+use Rattle.walker.specs.Path.{Good, Stands, bodyOf}
+use Rattle.walker.proofs.Here.{term-ends, formula-ends}
+use Rattle.walker.proofs.Under.{TermsIn, Both, Atom, Ranges, Compared, Says}
+
+-- ---- the scope under a binder
+
+enter-locals : (S : Scope) (l : ℕ) → ((j : ℕ) → T (S j) → j < 32) → l < 32 → (j : ℕ) → T (enter S l j) → j < 32
+unfolding enter
+enter-locals S l f h j q = go (eqb j l) refl q
+  where
+    go : (b : Bool) → eqb j l ≡ b → T (pick b true (S j)) → j < 32
+    go true e x = let z : j ≡ l = eqb-true j l e in omega arith
+    go false e x = f j x
+
+module _ {D : Declared} where
+  -- a part in the same scope, or in that of a binder
+  same-scope : {F : Formula} (g : Good D F) (G : Formula) → Ok D (g .scope) G → Shallow G → Good D G
+  same-scope g G o s = record { scope = g .scope; locals = g .locals; ok = o; shallow = s }
+
+  in-scope : {F : Formula} (g : Good D F) (l : ℕ) (G : Formula) → l < 32 → Ok D (enter (g .scope) l) G → Shallow G → Good D G
+  in-scope g l G h o s =
+      record { scope = enter (g .scope) l; locals = enter-locals (g .scope) l (g .locals) h; ok = o; shallow = s }
+
+-- ---- the inversion
+
+terms-in : {D : Declared} {t : Words} {F : Formula} (g : Good D F) (i e : ℕ) (x y : Term) → TermsAt t i e x y → OkTerm D (g .scope) x →
+    OkTerm D (g .scope) y → height x ≤ 64 → height y ≤ 64 → TermsIn D t i e x y
+terms-in g i e x y q ox oy hx hy =
+    record { terms = q; scope = g .scope; locals = g .locals; left = ox; right = oy; left-low = hx; right-low = hy }
+
+module _ {D : Declared} {t : Words} {h : ℕ} where
+  both : (make : Formula → Formula → Formula) (A B F : Formula) → F ≡ make A B → FormulaAt t (suc h) A → FormulaAt t (endAt t (suc h)) B →
+      Good D A → Good D B → Both D t h make F
+  both make A B F e a b ga gb =
+      let ea = formula-ends t (suc h) A a in
+      let eb = formula-ends t (endAt t (suc h)) B b in
+      record {
+        first = A;
+        second = B;
+        is = e;
+        left = record { held = a; good = ga };
+        right = record { held = b; good = gb };
+        near = omega (arith, ea .after, ea .inside);
+        far = omega (arith, eb .after, eb .inside);
+      }
+
+  atom : (make : Term → Term → Formula) (x y : Term) (F : Formula) → F ≡ make x y → TermsIn D t (suc h) (endAt t h) x y → Atom D t h make F
+  atom make x y F e q =
+      let z = term-ends t (suc h) x (q .terms .0) in
+      record { left = x; right = y; is = e; terms = q; near = omega (arith, z .after, z .inside) }
+
+  ranges : (make : ℕ → Term → Term → Formula → Formula) (l : ℕ) (a b : Term) (A F : Formula) → F ≡ make l a b A → LocalAt t (suc h) l → l < 32 →
+      TermsIn D t (suc (suc h)) (bodyOf t h) a b → Stands D t (bodyOf t h) A → Ranges D t h make F
+  ranges make l a b A F e q s ts f =
+      let z = term-ends t (suc (suc h)) a (ts .terms .0) in
+      let y = term-ends t (endAt t (suc (suc h))) b (ts .terms .1) in
+      let x = formula-ends t (bodyOf t h) A (f .held) in
+      record {
+        l = l;
+        low = a;
+        high = b;
+        body = A;
+        is = e;
+        binds = record {
+          near = omega (arith, z .after, z .inside);
+          middle = omega (arith, y .after, y .inside);
+          local = q;
+          small = s;
+          inside = omega (arith, x .after, x .inside);
+          body = f;
+        };
+        terms = ts;
+      }
+
+  says-rel : (r : Rel) (F : Formula) → Atom D t h (compare h r) F → Says D t h (relCode r) F
+  says-rel ne F a = (ne, refl, a)
+  says-rel lt F a = (lt, refl, a)
+  says-rel le F a = (le, refl, a)
+  says-rel gt F a = (gt, refl, a)
+  says-rel ge F a = (ge, refl, a)
+
+  code-says : (F : Formula) → Stands D t h F → Says D t h (codeAt t h) F
+  unfolding Ok
+  code-says truth s = rw (s .held .code) refl
+  code-says (and A B) s =
+      let g = s .good in
+      rw (s .held .0 .code)
+      (both and A B (and A B) refl (s .held .1) (s .held .2) (same-scope g A (g .ok .0) (g .shallow .0)) (same-scope g B (g .ok .1) (g .shallow .1)))
+  code-says (or A B) s =
+      let g = s .good in
+      rw (s .held .0 .code)
+      (both or A B (or A B) refl (s .held .1) (s .held .2) (same-scope g A (g .ok .0) (g .shallow .0)) (same-scope g B (g .ok .1) (g .shallow .1)))
+  code-says (imp n A B) s =
+      let g = s .good in
+      rw (s .held .0 .code)
+      (both (imp h) A B (imp n A B) (ap (λ k. imp k A B) (s .held .1)) (s .held .2) (s .held .3)
+      (same-scope g A (g .ok .0) (g .shallow .0)) (same-scope g B (g .ok .1) (g .shallow .1)))
+  code-says (neg n A) s =
+      let g = s .good in
+      let z = formula-ends t (suc h) A (s .held .2) in
+      rw (s .held .0 .code)
+      (record {
+        first = A;
+        is = ap (λ k. neg k A) (s .held .1);
+        under = record { held = s .held .2; good = same-scope g A (g .ok) (g .shallow) };
+        near = omega (arith, z .after, z .inside);
+      })
+  code-says (eq n x y) s =
+      let g = s .good in
+      rw (s .held .0 .code)
+      (atom (eq h) x y (eq n x y) (ap (λ k. eq k x y) (s .held .1))
+      (terms-in g (suc h) (endAt t h) x y (s .held .2) (g .ok .0) (g .ok .1) (g .shallow .0) (g .shallow .1)))
+  code-says (compare n r x y) s =
+      let g = s .good in
+      subst (λ k. Says D t h k (compare n r x y)) (sym (s .held .0 .code))
+      (says-rel r (compare n r x y)
+      (atom (compare h r) x y (compare n r x y) (ap (λ k. compare k r x y) (s .held .1))
+      (terms-in g (suc h) (endAt t h) x y (s .held .2) (g .ok .0) (g .ok .1) (g .shallow .0) (g .shallow .1))))
+  code-says (ex l A) s =
+      let g = s .good in
+      let z = formula-ends t (suc (suc h)) A (s .held .2) in
+      rw (s .held .0 .code)
+      (record {
+        l = l;
+        body = A;
+        is = refl;
+        local = s .held .1;
+        small = g .shallow .0;
+        under = record { held = s .held .2; good = in-scope g l A (g .shallow .0) (g .ok .1) (g .shallow .1) };
+        near = omega (arith, z .after, z .inside);
+      })
+  code-says (some n l a b A) s =
+      let g = s .good in
+      rw (s .held .0 .code)
+      (ranges (some h) l a b A (some n l a b A) (ap (λ k. some k l a b A) (s .held .1)) (s .held .2) (g .shallow .2)
+      (terms-in g (suc (suc h)) (bodyOf t h) a b (s .held .3) (g .ok .0) (g .ok .1) (g .shallow .0) (g .shallow .1))
+      (record { held = s .held .4; good = in-scope g l A (g .shallow .2) (g .ok .3) (g .shallow .3) }))
+  code-says (all n l a b A) s =
+      let g = s .good in
+      rw (s .held .0 .code)
+      (ranges (all h) l a b A (all n l a b A) (ap (λ k. all k l a b A) (s .held .1)) (s .held .2) (g .shallow .2)
+      (terms-in g (suc (suc h)) (bodyOf t h) a b (s .held .3) (g .ok .0) (g .ok .1) (g .shallow .0) (g .shallow .1))
+      (record { held = s .held .4; good = in-scope g l A (g .shallow .2) (g .ok .3) (g .shallow .3) }))
+
+  -- the law for a code that is known
+  pub says : {F : Formula} {n : ℕ} → Stands D t h F → codeAt t h ≡ n → Says D t h n F
+  says {F} s e = subst (λ k. Says D t h k F) e (code-says F s)
+
+  -- and for an atom that compares
+  pub says-compared : {F : Formula} {n : ℕ} → Stands D t h F → codeAt t h ≡ n → 7 ≤ n → n ≤ 11 → Compared D t h n F
+  says-compared {F} {n} s e a b =
+      rw (
+        ne-eqb n 1 (λ x. omega arith),
+        ne-eqb n 2 (λ x. omega arith),
+        ne-eqb n 3 (λ x. omega arith),
+        ne-eqb n 4 (λ x. omega arith),
+        ne-eqb n 5 (λ x. omega arith),
+        ne-eqb n 6 (λ x. omega arith),
+        ne-eqb n 12 (λ x. omega arith),
+        ne-eqb n 13 (λ x. omega arith),
+        ne-eqb n 14 (λ x. omega arith),
+      ) at (says s e)
+
+-- ---- no other codes
+
+rel-code : (r : Rel) → (7 ≤ relCode r) × (relCode r ≤ 11)
+rel-code ne = (omega arith, omega arith)
+rel-code lt = (omega arith, omega arith)
+rel-code le = (omega arith, omega arith)
+rel-code gt = (omega arith, omega arith)
+rel-code ge = (omega arith, omega arith)
+
+pub code-range : (D : Declared) (t : Words) (h : ℕ) (F : Formula) → Stands D t h F → (1 ≤ codeAt t h) × (codeAt t h ≤ 14)
+code-range D t h truth s = (omega (arith, s .held .code), omega (arith, s .held .code))
+code-range D t h (and A B) s = (omega (arith, s .held .0 .code), omega (arith, s .held .0 .code))
+code-range D t h (or A B) s = (omega (arith, s .held .0 .code), omega (arith, s .held .0 .code))
+code-range D t h (imp n A B) s = (omega (arith, s .held .0 .code), omega (arith, s .held .0 .code))
+code-range D t h (neg n A) s = (omega (arith, s .held .0 .code), omega (arith, s .held .0 .code))
+code-range D t h (eq n x y) s = (omega (arith, s .held .0 .code), omega (arith, s .held .0 .code))
+code-range D t h (compare n r x y) s =
+    let z = rel-code r in (omega (arith, s .held .0 .code, z .0), omega (arith, s .held .0 .code, z .1))
+code-range D t h (ex l A) s = (omega (arith, s .held .0 .code), omega (arith, s .held .0 .code))
+code-range D t h (some n l a b A) s = (omega (arith, s .held .0 .code), omega (arith, s .held .0 .code))
+code-range D t h (all n l a b A) s = (omega (arith, s .held .0 .code), omega (arith, s .held .0 .code))

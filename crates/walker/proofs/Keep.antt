@@ -1,0 +1,121 @@
+-- What stays when the words of other nodes change: list pointers, what is due, frames and the stack of frames. Assumes nothing.
+use Prim.Native.Nat.{ℕ, suc, _+_, _*_, _≤_, _<_}
+use native.Mathlib.Omega.{arith}
+use mathlib.Core.Path.{_≡_, _∙_}
+use mathlib.Core.Bool.{Bool}
+use mathlib.Core.List.{List, [], _∷_}
+use lib.ListN.{getD}
+use Rattle.specification.specs.Place.{Place}
+use Rattle.specification.specs.Value.{Valuation}
+use Rattle.sheet.specs.Tables.{Words}
+use Rattle.walker.specs.declared.Due.{Due}
+use Rattle.walker.specs.Node.{headAt, restAt}
+use Rattle.walker.specs.Frame.{Item, form, again, What, the, success, failure, error, Frame, pass, other, undo, range, asks, len, innerIn}
+use Rattle.walker.specs.Path.{World, Pend, Job, Changed, FrameAt, Stack}
+
+-- the words of the nodes below n are the same
+pub record SameNodes (n : ℕ) (w w' : Words) : Type 0 where
+  pub same : (j : ℕ) → 6144 ≤ j → j < 6144 + 12 * n → getD w' j 0 ≡ getD w j 0
+
+pub fewer-nodes : {m n : ℕ} {w w' : Words} → m ≤ n → SameNodes n w w' → SameNodes m w w'
+fewer-nodes h u = record { same = λ j a b. u .same j a (omega arith) }
+
+-- the words of a node that is kept
+module _ {w w' : Words} (i : ℕ) (u : SameNodes (suc i) w w') where
+  same-word : (k : ℕ) → k < 12 → getD w' (6144 + 12 * i + k) 0 ≡ getD w (6144 + 12 * i + k) 0
+  same-word k h = u .same (6144 + 12 * i + k) (omega arith) (omega arith)
+
+  same-head : headAt w' i ≡ headAt w i
+  same-head = u .same (6144 + 12 * i) (omega arith) (omega arith)
+
+  -- what a node keeps of a slot
+  pub changed-keep : {p : Place} {α : Valuation} → Changed w i p α → Changed w' i p α
+  changed-keep q = record {
+    slot = same-word 3 (omega arith) ∙ q .slot;
+    inside = q .inside;
+    saved = rw (same-word 4 (omega arith), same-word 5 (omega arith)) (q .saved);
+  }
+
+module _ (c : World) (w : Words) where
+  -- a pointer below n is one below m
+  pub pend-more : (n m p : ℕ) (is : List Item) → n ≤ m → Pend c w n p is → Pend c w m p is
+  pend-more n m p [] h q = q
+  pend-more n m p (form G ∷ is) h q = (q .0, q .1, omega (arith, q .2), q .3, q .4, q .5, q .6, q .7)
+  pend-more n m p (again l F v x ∷ is) h q = (q .0, q .1, omega (arith, q .2), q .3, q .4, q .5, q .6)
+
+module _ (c : World) (w w' : Words) where
+  pub pend-keep : (n p : ℕ) (is : List Item) → SameNodes n w w' → Pend c w n p is → Pend c w' n p is
+  pend-keep n p [] u q = q
+  pend-keep n p (form G ∷ is) u q =
+      let k = q .0 in
+      let h : k < n = q .2 in
+      let v : SameNodes (suc k) w w' = fewer-nodes h u in
+      let head = same-head k v in (
+        k,
+        q .1,
+        h,
+        rw head (q .3),
+        rw head (q .4),
+        rw head (q .5),
+        rw head (q .6),
+        rw (same-word k v 1 (omega arith)) (pend-keep k (restAt w k) is (fewer-nodes (omega arith) u) (q .7)),
+      )
+  pend-keep n p (again l F m x ∷ is) u q =
+      let k = q .0 in
+      let h : k < n = q .2 in
+      let v : SameNodes (suc k) w w' = fewer-nodes h u in
+      let head = same-head k v in (
+        k,
+        q .1,
+        h,
+        rw head (q .3),
+        rw head (q .4),
+        rw (same-word k v 6 (omega arith), same-word k v 7 (omega arith)) (q .5),
+        rw (same-word k v 1 (omega arith)) (pend-keep k (restAt w k) is (fewer-nodes (omega arith) u) (q .6)),
+      )
+
+  -- the same below another number
+  pub pend-onto : (n m p : ℕ) (is : List Item) → n ≤ m → SameNodes n w w' → Pend c w n p is → Pend c w' m p is
+  pend-onto n m p is h u q = pend-more c w' n m p is h (pend-keep n p is u q)
+
+  pub job-keep : (n : ℕ) (d : Due) (x : What) → SameNodes n w w' → Job c w n d x → Job c w' n d x
+  job-keep n d (the []) u q = q
+  job-keep n d (the (form F ∷ is)) u q = (q .0, q .1, q .2, pend-keep n (d .rest) is u (q .3))
+  job-keep n d (the (again l F m v ∷ is)) u q = (q .0, q .1, q .2, q .3, pend-keep n (d .rest) is u (q .4))
+  job-keep n d success u q = q
+  job-keep n d failure u q = q
+  job-keep n d (error κ tok) u q = q
+
+  pub frame-keep : (i : ℕ) (m : Bool) (f : Frame) → SameNodes (suc i) w w' → FrameAt c w i m f → FrameAt c w' i m f
+  frame-keep i m (pass α) u q = same-word i u 2 (omega arith) ∙ q
+  frame-keep i m (other G is α) u q =
+      let head = same-head i u in (
+        same-word i u 2 (omega arith) ∙ q .0,
+        rw head (q .1),
+        rw head (q .2),
+        rw head (q .3),
+        rw (same-word i u 1 (omega arith)) (pend-keep i (restAt w i) is (fewer-nodes (omega arith) u) (q .4)),
+      )
+  frame-keep i m (undo p s α) u q = (same-word i u 2 (omega arith) ∙ q .0, changed-keep i u (q .1))
+  frame-keep i m (range l x j n F is α) u q =
+      let now = same-word i u 6 (omega arith) in (
+        same-word i u 2 (omega arith) ∙ q .0,
+        changed-keep i u (q .1),
+        rw (same-head i u) (q .2),
+        rw (now, same-word i u 7 (omega arith)) (q .3),
+        rw now (q .4),
+        rw (same-word i u 1 (omega arith)) (pend-keep i (restAt w i) is (fewer-nodes (omega arith) u) (q .5)),
+      )
+  frame-keep i m (asks tok q is α e) u h = (
+    same-word i u 2 (omega arith) ∙ h .0,
+    same-head i u ∙ h .1,
+    h .2,
+    h .3,
+    same-word i u 8 (omega arith) ∙ h .4,
+    same-word i u 9 (omega arith) ∙ h .5,
+    rw (same-word i u 1 (omega arith)) (pend-keep i (restAt w i) is (fewer-nodes (omega arith) u) (h .6)),
+  )
+
+  pub stack-keep : (fr : List Frame) → SameNodes (len fr) w w' → Stack c w fr → Stack c w' fr
+  stack-keep [] u q = q
+  stack-keep (f ∷ fr) u q = (frame-keep (len fr) (innerIn fr) f u (q .0), stack-keep fr (fewer-nodes (omega arith) u) (q .1))

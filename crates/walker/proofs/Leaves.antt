@@ -1,0 +1,205 @@
+-- A leaf whose visit is counted: in an inner tree it ends the tree, passes or leaves its mark; in the main tree a failure is tallied, and an
+-- answer or an error has a block. Assumes nothing.
+use Prim.Native.Nat.{ℕ, _+_, _≤_, _<_}
+use native.Mathlib.Omega.{arith}
+use mathlib.Core.Path.{_≡_, refl, sym, _∙_}
+use mathlib.Core.Bool.{Bool, true, false}
+use mathlib.Core.List.{[], _∷_}
+use lib.Dec.{eqb}
+use borrow.Author.Tests.{eqb-true, eqb-false}
+use Rattle.specification.specs.Bytes.{Bytes}
+use Rattle.specification.specs.Visits.{answer, error as errs}
+use Rattle.specification.specs.declared.Tallies.{Tallies}
+use Rattle.specification.specs.Run.{addFail, arrive}
+use Rattle.sheet.specs.Tables.{Words}
+use Rattle.walker.specs.declared.Regs.{Regs}
+use Rattle.walker.specs.Walk.{within, leaf}
+use Rattle.walker.specs.Frame.{form, again, What, the, success, failure, error, innerIn}
+use Rattle.walker.specs.Path.{World, Job, bit}
+use Rattle.walker.specs.Sim.{In, Up, Yes, Leaf, up, won, block}
+use Rattle.walker.specs.Steps.{leafRegs, counted}
+use Rattle.walker.specs.Loop.{AtLeaf, LeafDone}
+
+bit-one : (m : Bool) → bit m ≡ 1 → m ≡ true
+bit-one true e = refl
+bit-one false e = absurd (omega arith)
+
+bit-none : (m : Bool) → (bit m ≡ 1 → ⊥) → m ≡ false
+bit-none true e = absurd (e refl)
+bit-none false e = refl
+
+module _ {c : World} {o : Bytes} {w : Words} {r : Regs} (i : In c o w r) where
+  -- ---- which leaf it is
+
+  at-success : r .due .job ≡ 3 → i .x ≡ success
+  at-success j = go (i .x) (i .job)
+    where
+      go : (x : What) → Job c w (r .depth) (r .due) x → x ≡ success
+      go (the []) q = absurd (omega (arith, q))
+      go (the (form F ∷ is)) q = absurd (omega (arith, q .0))
+      go (the (again l F m v ∷ is)) q = absurd (omega (arith, q .0))
+      go success q = refl
+      go failure q = absurd (omega (arith, q))
+      go (error κ tok) q = absurd (omega (arith, q .0))
+
+  at-failure : r .due .job ≡ 4 → i .x ≡ failure
+  at-failure j = go (i .x) (i .job)
+    where
+      go : (x : What) → Job c w (r .depth) (r .due) x → x ≡ failure
+      go (the []) q = absurd (omega (arith, q))
+      go (the (form F ∷ is)) q = absurd (omega (arith, q .0))
+      go (the (again l F m v ∷ is)) q = absurd (omega (arith, q .0))
+      go success q = absurd (omega (arith, q))
+      go failure q = refl
+      go (error κ tok) q = absurd (omega (arith, q .0))
+
+  at-error : 3 ≤ r .due .job → (r .due .job ≡ 3 → ⊥) → (r .due .job ≡ 4 → ⊥) → (r .due .job ≡ 5) × (i .x ≡ error (r .due .kind) (r .due .head))
+  at-error h n3 n4 = go (i .x) (i .job)
+    where
+      go : (x : What) → Job c w (r .depth) (r .due) x → (r .due .job ≡ 5) × (x ≡ error (r .due .kind) (r .due .head))
+      go (the []) q = absurd (omega (arith, q))
+      go (the (form F ∷ is)) q = absurd (omega (arith, q .0))
+      go (the (again l F m v ∷ is)) q = absurd (omega (arith, q .0))
+      go success q = absurd (n3 q)
+      go failure q = absurd (n4 q)
+      go (error κ tok) q = (q .0, rw (q .1, q .2) refl)
+
+  inside-yes : r .inner ≡ 1 → innerIn (i .fr) ≡ true
+  inside-yes e = bit-one (innerIn (i .fr)) (sym (i .inner) ∙ e)
+
+  inside-no : (r .inner ≡ 1 → ⊥) → innerIn (i .fr) ≡ false
+  inside-no e = bit-none (innerIn (i .fr)) (λ z. e (i .inner ∙ z))
+
+  -- ---- what it leads to
+
+  inner-success : r .inner ≡ 1 → r .due .job ≡ 3 → Yes c o w (leafRegs r 3 (r .bad) (r .tallies) (r .written))
+  unfolding within
+  inner-success m j = record {
+    fr = i .fr;
+    α = i .α;
+    b = i .b;
+    path = i .path;
+    out = i .out;
+    count = i .count;
+    result = rw (at-success j, inside-yes m) at (i .result);
+  }
+
+  inner-failure : r .inner ≡ 1 → r .due .job ≡ 4 → Up c o w (leafRegs r 2 (r .bad) (r .tallies) (r .written))
+  unfolding within
+  inner-failure m j = record {
+    fr = i .fr;
+    α = i .α;
+    e = i .e;
+    b = i .b;
+    path = i .path;
+    inner = i .inner;
+    bad = i .bad;
+    out = i .out;
+    count = i .count;
+    result = rw (at-failure j, inside-yes m) at (i .result);
+  }
+
+  inner-error : r .inner ≡ 1 → 3 ≤ r .due .job → (r .due .job ≡ 3 → ⊥) → (r .due .job ≡ 4 → ⊥) → Up c o w (leafRegs r 2 1 (r .tallies) (r .written))
+  unfolding within
+  inner-error m h n3 n4 = record {
+    fr = i .fr;
+    α = i .α;
+    e = true;
+    b = i .b;
+    path = i .path;
+    inner = i .inner;
+    bad = refl;
+    out = i .out;
+    count = i .count;
+    result = rw (at-error h n3 n4 .1, inside-yes m) at (i .result);
+  }
+
+  main-failure : (r .inner ≡ 1 → ⊥) → r .due .job ≡ 4 → Up c o w (leafRegs r 2 (r .bad) (addFail (r .tallies)) (r .written))
+  unfolding within leaf arrive
+  main-failure m j = record {
+    fr = i .fr;
+    α = i .α;
+    e = i .e;
+    b = i .b;
+    path = i .path;
+    inner = i .inner;
+    bad = i .bad;
+    out = i .out;
+    count = record { fits = i .count .fits; budget = i .count .budget; leaves = omega (arith, i .leaves) };
+    result = rw (at-failure j, inside-no m) at (i .result);
+  }
+
+  main-success : (r .inner ≡ 1 → ⊥) → r .due .job ≡ 3 → Leaf c o w (leafRegs r 4 (r .bad) (r .tallies) (r .written))
+  unfolding within
+  main-success m j = record {
+    v = answer (i .α);
+    fr = i .fr;
+    α = i .α;
+    e = i .e;
+    b = i .b;
+    path = i .path;
+    main = inside-no m;
+    inner = i .inner ∙ rw (inside-no m) refl;
+    bad = i .bad;
+    block = (j, refl);
+    out = i .out;
+    count = i .count;
+    leaves = i .leaves;
+    result = rw (at-success j, inside-no m) at (i .result);
+  }
+
+  main-error : (r .inner ≡ 1 → ⊥) → 3 ≤ r .due .job → (r .due .job ≡ 3 → ⊥) → (r .due .job ≡ 4 → ⊥) →
+      Leaf c o w (leafRegs r 4 (r .bad) (r .tallies) (r .written))
+  unfolding within
+  main-error m h n3 n4 =
+      let x = at-error h n3 n4 in
+      record {
+        v = errs (r .due .kind) (r .due .head) (i .α);
+        fr = i .fr;
+        α = i .α;
+        e = i .e;
+        b = i .b;
+        path = i .path;
+        main = inside-no m;
+        inner = i .inner ∙ rw (inside-no m) refl;
+        bad = i .bad;
+        block = (x .0, refl, refl, refl);
+        out = i .out;
+        count = i .count;
+        leaves = i .leaves;
+        result = rw (x .1, inside-no m) at (i .result);
+      }
+
+-- ---- the steps
+
+module _ {r q : Regs} where
+  pub done-success : q ≡ leafRegs r 3 (r .bad) (r .tallies) (r .written) → r .inner ≡ 1 → r .due .job ≡ 3 → LeafDone r q
+  done-success e m j = rw e (record { sim = λ c o w i. won refl (inner-success i m j); nodes = refl; falls = omega arith })
+
+  pub done-failure : q ≡ leafRegs r 2 (r .bad) (r .tallies) (r .written) → r .inner ≡ 1 → r .due .job ≡ 4 → LeafDone r q
+  done-failure e m j = rw e (record { sim = λ c o w i. up refl (inner-failure i m j); nodes = refl; falls = omega arith })
+
+  pub done-error : q ≡ leafRegs r 2 1 (r .tallies) (r .written) → r .inner ≡ 1 → 3 ≤ r .due .job → (r .due .job ≡ 3 → ⊥) → (r .due .job ≡ 4 → ⊥) → LeafDone r q
+  done-error e m h n3 n4 = rw e (record { sim = λ c o w i. up refl (inner-error i m h n3 n4); nodes = refl; falls = omega arith })
+
+  pub failure-done : {t : Tallies} → t ≡ counted (r .tallies) 3 → q ≡ leafRegs r 2 (r .bad) t (r .written) → (r .inner ≡ 1 → ⊥) → r .due .job ≡ 4 → LeafDone r q
+  unfolding counted
+  failure-done h e m j = rw (e, h) (record { sim = λ c o w i. up refl (main-failure i m j); nodes = refl; falls = omega arith })
+
+  -- an answer or an error
+  pub block-done : q ≡ leafRegs r 4 (r .bad) (r .tallies) (r .written) → (r .inner ≡ 1 → ⊥) → 3 ≤ r .due .job → (r .due .job ≡ 4 → ⊥) → LeafDone r q
+  block-done e m h n4 = rw e (record { sim = λ c o w i. block refl (main i (eqb (r .due .job) 3) refl); nodes = refl; falls = omega arith })
+    where
+      main : {c : World} {o : Bytes} {w : Words} → In c o w r → (t : Bool) → eqb (r .due .job) 3 ≡ t → Leaf c o w (leafRegs r 4 (r .bad) (r .tallies) (r .written))
+      main i true j = main-success i m (eqb-true (r .due .job) 3 j)
+      main i false j = main-error i m h (eqb-false (r .due .job) 3 j) n4
+
+-- ---- room for one more
+
+-- in the tally n, which is not that of nodes
+pub room-for : (t : Tallies) (n : ℕ) → (n ≡ 0 → ⊥) → t .answers + t .errors + t .fails < 4294967295 →
+    (n ≡ 0 → t .nodes < 4294967295) × (t .answers < 4294967295) × (t .errors < 4294967295) × (t .fails < 4294967295)
+room-for t n z h = (λ e. absurd (z e), omega arith, omega arith, omega arith)
+
+pub leaf-room : {r : Regs} → AtLeaf r → r .tallies .answers + r .tallies .errors + r .tallies .fails < 4294967295
+leaf-room a = let i = a .at .ins in omega (arith, i .leaves, i .count .budget, i .count .fits)

@@ -1,0 +1,193 @@
+-- Going up: the topmost node is one of a `some`, and its local gets the next value. Assumes nothing.
+use Prim.Native.Nat.{ℕ, zero, suc, _+_, _*_, _-_, _≤_, _<_}
+use native.Mathlib.Omega.{arith}
+use native.Mathlib.Numerals.{add-one}
+use mathlib.Core.Path.{_≡_, refl, sym, _∙_, ap, subst}
+use mathlib.Core.List.{List, _∷_}
+use lib.Dec.{T}
+use lib.ListN.{getD, set}
+use lib.Seq.{getD-set-same, getD-set-other}
+use lib.IntN.{ℤ, pos, _+ℤ_, +ℤ-assoc}
+use Rattle.specification.specs.Bytes.{Bytes}
+use Rattle.specification.specs.Number.{in32}
+use Rattle.specification.specs.Ast.{Formula}
+use Rattle.specification.specs.Place.{local, put}
+use Rattle.specification.specs.Value.{full, Valuation}
+use Rattle.specification.proofs.Laws.Place.{valid-put}
+use Rattle.values.specs.Word.{signed, biased}
+use Rattle.values.proofs.Laws.Word.{biased-signed, signed-in32, signed-add}
+use Rattle.sheet.specs.Tables.{Words}
+use Rattle.sheet.specs.Held.{endAt, Holds}
+use Rattle.walker.specs.declared.Regs.{Regs}
+use Rattle.walker.specs.Walk.{sonsFrom}
+use Rattle.walker.specs.Node.{headAt, restAt, todoAt, slotAt, currentAt, lastAt}
+use Rattle.walker.specs.Frame.{Item, form, the, Frame, range, len, innerIn}
+use Rattle.walker.specs.Path.{World, bodyOf, LeftAfter, bit, FrameAt, Path}
+use Rattle.walker.specs.Sim.{no, Down, Up}
+use Rattle.walker.specs.Steps.{dueOf, dueRegs}
+use Rattle.walker.specs.Loop.{Topped}
+use Rattle.walker.proofs.Keep.{pend-keep}
+use Rattle.walker.proofs.Here.{end-here, body-here}
+use Rattle.walker.proofs.Slots.{in-table, Altered, alter-two, holds-keep, holds-again}
+use Rattle.walker.proofs.Whole.{Kept, kept-both, altered-kept, word-kept, word-slots, path-top}
+use Rattle.walker.proofs.Tops.{top-index, top-range}
+use Rattle.walker.proofs.Turns.{son-due, rest-under}
+
+-- ---- the values left after a word
+
+module _ {current last n : ℕ} (x : ℤ) (i : ℕ) (a : LeftAfter current last n (x +ℤ pos (suc i))) (more : current < last) where
+  next-value : signed (current + 1) ≡ x +ℤ pos (suc i)
+  next-value = sym (signed-add current 1) ∙ sym (a .lowest)
+
+  next-word : current + 1 ≡ biased (x +ℤ pos (suc i))
+  next-word = sym (biased-signed (current + 1)) ∙ ap biased next-value
+
+  next-in : T (in32 (x +ℤ pos (suc i)))
+  next-in = subst (λ z. T (in32 z)) next-value (signed-in32 (current + 1) (omega (arith, a .fits)))
+
+  next-left : (m : ℕ) → n ≡ suc m → LeftAfter (current + 1) last m (x +ℤ pos (suc (suc i)))
+  next-left m e = record {
+    fits = a .fits;
+    order = omega arith;
+    count = omega (arith, a .count);
+    lowest =
+        ap (λ k. x +ℤ pos k) (sym (add-one (suc i))) ∙ sym (+ℤ-assoc x (pos (suc i)) (pos 1)) ∙ ap (λ z. z +ℤ pos 1) (sym next-value);
+  }
+
+-- ---- the words
+
+-- what is read lies in the tables
+pub record Readable (w : Words) (k : ℕ) : Type 0 where
+  pub near : headAt w k + 2 < 1024
+  pub middle : endAt w (headAt w k + 2) < 1024
+  pub slot : slotAt w k + 1 < 5184
+  pub last : lastAt w k < 4294967296
+
+pub readable : {w : Words} {r : Regs} → Topped w r 3 → Readable w (r .depth - 1)
+readable {w} {r} t =
+    top-range (λ fr. Readable w (r .depth - 1)) (t .some) (t .todo)
+    (λ l x i n F is β fr P.
+    let a = P .stack .0 in
+    let ch = a .1 in
+    let b = a .2 in
+    let z = in-table (local l) (ch .inside) in
+    let two : headAt w (len fr) + 2 ≡ suc (suc (headAt w (len fr))) = omega arith in
+    rw (top-index P)
+    (record {
+      near = omega (arith, b .near);
+      middle = rw (two, end-here (t .c .tables) w (P .tokens) (b .near)) (b .middle);
+      slot = omega (arith, ch .slot, z .high);
+      last = a .3 .fits;
+    })) (t .fr) (t .path)
+
+pub middle-small : {w : Words} {k h e : ℕ} → Readable w k → h ≡ headAt w k → e ≡ endAt w (h + 2) → e < 1024
+middle-small x eh ee = rw (ee, eh) (x .middle)
+
+-- what is read at the node, and what is stored
+pub record Follows (w w' : Words) (r : Regs) (h p : ℕ) : Type 0 where
+  pub i : ℕ
+  pub v : ℕ
+  pub first : Words
+  pub second : Words
+  pub some : 0 < r .depth
+  pub todo : todoAt w (r .depth - 1) ≡ 3
+  pub more : currentAt w (r .depth - 1) < lastAt w (r .depth - 1)
+  pub head : h ≡ headAt w (r .depth - 1)
+  pub rest : p ≡ restAt w (r .depth - 1)
+  pub slot : i ≡ slotAt w (r .depth - 1)
+  pub value : v ≡ currentAt w (r .depth - 1) + 1
+  pub current : first ≡ set w (6144 + 12 * (r .depth - 1) + 6) v
+  pub flag : second ≡ set first i 1
+  pub word : w' ≡ set second (i + 1) v
+
+module _ {c : World} {w w' : Words} {r : Regs} {h p : ℕ} (g : Follows w w' r h p) {α : Valuation} {l : ℕ} {x : ℤ} {i m : ℕ} {F : Formula} {is : List Item}
+    {β : Valuation} {fr : List Frame} (P : Path c w (r .depth) α (range l x i (suc m) F is β ∷ fr)) where
+  more-here : currentAt w (len fr) < lastAt w (len fr)
+  more-here = rw (top-index P) at (g .more)
+
+  value-is : g .v ≡ currentAt w (len fr) + 1
+  value-is = g .value ∙ ap (λ k. currentAt w k + 1) (top-index P)
+
+  current-is : g .first ≡ set w (6144 + 12 * len fr + 6) (g .v)
+  current-is = rw (top-index P) at (g .current)
+
+  current-kept : Kept (len fr) w (g .first)
+  current-kept = word-kept (len fr) (6144 + 12 * len fr + 6) (g .v) (omega arith) current-is
+
+  altered : Altered (g .first) w' (local l) (full (x +ℤ pos (suc i)))
+  altered =
+      let a = P .stack .0 in
+      let ch = a .1 in
+      alter-two (local l) (g .slot ∙ ap (slotAt w) (top-index P) ∙ ch .slot) (ch .inside) (omega (arith, current-kept .size, P .size))
+      (full (x +ℤ pos (suc i))) 1 (g .v) (refl, value-is ∙ next-word x i (a .3) more-here) (g .flag) (g .word)
+
+  next-kept : Kept (len fr) w w'
+  next-kept = kept-both current-kept (altered-kept (len fr) (P .stack .0 .1 .inside) altered)
+
+  -- the words of the node
+  from-first : (j : ℕ) → 6144 ≤ j → getD w' j 0 ≡ getD (g .first) j 0
+  from-first j low =
+      let z = in-table (local l) (P .stack .0 .1 .inside) in
+      altered .others j (λ y. omega (arith, z .high)) (λ y. omega (arith, z .high))
+
+  same-word : (j : ℕ) → 6144 ≤ j → ¬ (j ≡ 6144 + 12 * len fr + 6) → getD w' j 0 ≡ getD w j 0
+  same-word j low n = from-first j low ∙ rw current-is (getD-set-other w (6144 + 12 * len fr + 6) j (g .v) 0 (λ y. n (omega arith)))
+
+  same : (k : ℕ) → ¬ (k ≡ 6) → getD w' (6144 + 12 * len fr + k) 0 ≡ getD w (6144 + 12 * len fr + k) 0
+  same k n = same-word (6144 + 12 * len fr + k) (omega arith) (λ y. n (omega arith))
+
+  now : currentAt w' (len fr) ≡ currentAt w (len fr) + 1
+  now =
+      let deep = P .deep in
+      from-first (6144 + 12 * len fr + 6) (omega arith) ∙
+      rw current-is (getD-set-same w (6144 + 12 * len fr + 6) (g .v) 0 (omega (arith, P .size, P .inside)) ∙ value-is)
+
+  next-frame : FrameAt c w' (len fr) (innerIn fr) (range l x (suc i) m F is β)
+  next-frame =
+      let a = P .stack .0 in
+      let ch = a .1 in (
+        same 2 (λ y. omega arith) ∙ a .0,
+        record { slot = same 3 (λ y. omega arith) ∙ ch .slot; inside = ch .inside; saved = rw (same 4 (λ y. omega arith), same 5 (λ y. omega arith)) (ch .saved) },
+        rw (same-word (6144 + 12 * len fr) (omega arith) (λ y. omega arith)) (a .2),
+        rw (now, same 7 (λ y. omega arith)) (next-left x i (a .3) more-here m refl),
+        rw now (next-value x i (a .3) more-here),
+        rw (same 1 (λ y. omega arith)) (pend-keep c w w' (len fr) (restAt w (len fr)) is (next-kept .nodes) (a .5)),
+      )
+
+  next-path : Path c w' (r .depth) (put β (local l) (full (x +ℤ pos (suc i)))) (range l x (suc i) m F is β ∷ fr)
+  next-path =
+      let a = P .stack .0 in
+      path-top P next-kept (range l x (suc i) m F is β) refl next-frame
+      (holds-again altered (a .1 .inside) β (full (x +ℤ pos i))
+      (holds-keep (word-slots (6144 + 12 * len fr + 6) (g .v) (omega arith) current-is) (subst (Holds w) (P .chain .0) (P .holds))))
+      (valid-put β (local l) (full (x +ℤ pos (suc i))) (P .chain .1) (next-in x i (a .3) more-here))
+
+  -- the formula under the quantifier
+  body-is : {e n : ℕ} → e ≡ endAt w (h + 2) → n ≡ endAt w e → n ≡ bodyOf (c .tables) (headAt w (len fr))
+  body-is ee en =
+      let eh : h ≡ headAt w (len fr) = g .head ∙ ap (headAt w) (top-index P) in
+      let two : h + 2 ≡ suc (suc (headAt w (len fr))) = omega arith in
+      en ∙ ap (endAt w) (ee ∙ ap (endAt w) two) ∙ body-here (c .tables) w (P .tokens) (P .stack .0 .2)
+
+-- ---- the next son
+
+pub next-up : {c : World} {o : Bytes} {w w' : Words} {r : Regs} {h p e n : ℕ} → Follows w w' r h p → e ≡ endAt w (h + 2) → n ≡ endAt w e → Up c o w r →
+    Down c o w' (dueRegs r (r .depth) (dueOf 0 n p) (r .inner) (r .bad))
+unfolding sonsFrom
+next-up {c} {o} {w} {w'} {r} {h} {p} {e} {n} g ee en u =
+    top-range
+    (λ fr. r .inner ≡ bit (innerIn fr) → no c fr (u .e) (r .tallies) (u .b) ≡ c .result → Down c o w' (dueRegs r (r .depth) (dueOf 0 n p) (r .inner) (r .bad)))
+    (g .some) (g .todo) (λ l x i m F is β fr P k q. go l x i m F is β fr P k q) (u .fr) (u .path) (u .inner) (u .result)
+  where
+    go : (l : ℕ) (x : ℤ) (i m : ℕ) (F : Formula) (is : List Item) (β : Valuation) (fr : List Frame) →
+        Path c w (r .depth) (u .α) (range l x i m F is β ∷ fr) → r .inner ≡ bit (innerIn fr) →
+        no c (range l x i m F is β ∷ fr) (u .e) (r .tallies) (u .b) ≡ c .result →
+        Down c o w' (dueRegs r (r .depth) (dueOf 0 n p) (r .inner) (r .bad))
+    go l x i zero F is β fr P k q =
+        let more : currentAt w (len fr) < lastAt w (len fr) = rw (top-index P) at (g .more) in
+        absurd (omega (arith, P .stack .0 .3 .count))
+    go l x i (suc m) F is β fr P k q =
+        let b = P .stack .0 .2 in
+        let at = body-is g P ee en in
+        son-due r (u .e) (u .b) (the (form F ∷ is)) (next-path g P) k (u .bad)
+        (refl, rw at (b .inside), rw at (b .body), rest-under P (next-kept g P) is (g .rest) (P .stack .0 .5)) (u .out) (u .count) q

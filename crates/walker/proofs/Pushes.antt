@@ -1,0 +1,92 @@
+-- The words after a node goes onto the path, with or without a changed slot: the rest of its list is there, and the node is a cell of a
+-- longer list. Assumes nothing.
+use Prim.Native.Nat.{ℕ, suc, _+_, _≤_, _<_}
+use native.Mathlib.Omega.{arith}
+use native.Mathlib.Numerals.{add-one}
+use mathlib.Core.Path.{_≡_, _∙_}
+use mathlib.Core.List.{List, _∷_}
+use lib.IntN.{ℤ}
+use Rattle.specification.specs.Bytes.{Bytes}
+use Rattle.specification.specs.Ast.{Formula}
+use Rattle.specification.specs.Place.{Place}
+use Rattle.specification.specs.Value.{Slot, Valuation}
+use Rattle.specification.proofs.Laws.Place.{SlotIn}
+use Rattle.sheet.specs.Tables.{Words}
+use Rattle.sheet.specs.Held.{codeAt, endAt, slotOf}
+use Rattle.walker.specs.declared.Regs.{Regs}
+use Rattle.walker.specs.Frame.{Item, form, again}
+use Rattle.walker.specs.Path.{World, Stands, Binds, LeftAfter, Pend, Saved, InTable}
+use Rattle.walker.specs.Sim.{In}
+use Rattle.walker.specs.Steps.{Pushed, Leads}
+use Rattle.walker.proofs.Keep.{pend-keep, pend-onto}
+use Rattle.walker.proofs.Slots.{Altered}
+use Rattle.walker.proofs.Whole.{Kept, kept-both, pushed-kept, altered-kept}
+
+-- the node goes onto the path, and p has the slot s in place of the one that the node saves
+pub record Alters (w w' : Words) (r : Regs) (α : Valuation) (p : Place) (s : Slot) (todo current last : ℕ) : Type 0 where
+  pub mid : Words
+  pub slot : ℕ
+  pub had : ℕ
+  pub old : ℕ
+  pub pushed : Pushed w mid r todo slot had old current last
+  pub place : slot ≡ slotOf p
+  pub inside : InTable p
+  pub saved : Saved had old (α p)
+  pub good : SlotIn s
+  pub altered : Altered mid w' p s
+
+pub alters-kept : {w w' : Words} {r : Regs} {α : Valuation} {p : Place} {s : Slot} {todo current last : ℕ} →
+    Alters w w' r α p s todo current last → Kept (r .depth) w w'
+alters-kept {r = r} a = kept-both (pushed-kept (a .pushed)) (altered-kept (r .depth) (a .inside) (a .altered))
+
+module _ {c : World} {o : Bytes} {w : Words} {r : Regs} (i : In c o w r) where
+  -- ---- the rest of the list
+
+  pub rest-onto : {w' : Words} (is : List Item) (n : ℕ) → Kept (r .depth) w w' → r .depth ≤ n → Pend c w (r .depth) (r .due .rest) is →
+      Pend c w' n (r .due .rest) is
+  rest-onto {w'} is n k h q = pend-onto c w w' (r .depth) n (r .due .rest) is h (k .nodes) q
+
+  pub rest-leads : {w' : Words} (is : List Item) → Kept (r .depth) w w' → Pend c w (r .depth) (r .due .rest) is → Leads w' (r .due .rest)
+  rest-leads is k q = record {
+    c = c;
+    n = r .depth;
+    is = is;
+    tokens = λ j a. k .tokens j a ∙ i .path .tokens j a;
+    size = omega (arith, k .size, i .path .size, i .path .inside);
+    pend = rest-onto is (r .depth) k (omega arith) q;
+  }
+
+  -- ---- the node as a cell
+
+  -- of an `and`: its second part
+  pub cons-form : {w' : Words} {todo slot had old current last : ℕ} → Pushed w w' r todo slot had old current last → (G : Formula) (is : List Item) →
+      suc (r .due .head) < 1024 → codeAt (c .tables) (r .due .head) ≡ 2 → endAt (c .tables) (suc (r .due .head)) < 1024 →
+      Stands (c .declared) (c .tables) (endAt (c .tables) (suc (r .due .head))) G → Pend c w (r .depth) (r .due .rest) is →
+      Pend c w' (r .depth + 1) (r .depth + 1) (form G ∷ is)
+  cons-form g G is small code far st q = (
+    r .depth,
+    add-one (r .depth),
+    omega arith,
+    rw (g .head) small,
+    rw (g .head) code,
+    rw (g .head) far,
+    rw (g .head) st,
+    rw (g .rest) (rest-onto is (r .depth) (pushed-kept g) (omega arith) q),
+  )
+
+  -- of an `all`: the same over the values left
+  pub cons-again : {w' : Words} {todo current last : ℕ} {α : Valuation} {p : Place} {s : Slot} → Alters w w' r α p s todo current last →
+      (l : ℕ) (F : Formula) (n : ℕ) (v : ℤ) (is : List Item) → codeAt (c .tables) (r .due .head) ≡ 14 → Binds (c .declared) (c .tables) (r .due .head) l F →
+      LeftAfter current last n v → Pend c w (r .depth) (r .due .rest) is → Pend c w' (r .depth + 1) (r .depth + 1) (again l F n v ∷ is)
+  cons-again {w'} a l F n v is code bi le q =
+      let g = a .pushed in
+      let k = altered-kept (r .depth + 1) (a .inside) (a .altered) in
+      pend-keep c (a .mid) w' (r .depth + 1) (r .depth + 1) (again l F n v ∷ is) (k .nodes) (
+        r .depth,
+        add-one (r .depth),
+        omega arith,
+        rw (g .head) code,
+        rw (g .head) bi,
+        rw (g .now, g .upper) le,
+        rw (g .rest) (rest-onto is (r .depth) (pushed-kept g) (omega arith) q),
+      )

@@ -1,0 +1,279 @@
+-- The bounds of a quantifier: an error, no value, or a first value and how many come after it. Assumes nothing.
+use Prim.Native.Nat.{ℕ, suc, _+_, _-_, _≤_, _<_}
+use native.Mathlib.Omega.{arith}
+use mathlib.Core.Path.{_≡_, refl, sym, _∙_, ap, subst}
+use mathlib.Core.Bool.{Bool}
+use mathlib.Core.List.{List}
+use lib.IntN.{ℤ, pos, _+ℤ_}
+use Rattle.specification.specs.Bytes.{Bytes}
+use Rattle.specification.specs.Lines.{Declared}
+use Rattle.specification.specs.Ast.{Term, Formula, some, all}
+use Rattle.specification.specs.Place.{local, put}
+use Rattle.specification.specs.Arithmetic.{count}
+use Rattle.specification.specs.Value.{full, Valuation, pairOf, side}
+use Rattle.specification.specs.Tree.{Rest, bounded, sons, rounds, grow}
+use Rattle.specification.proofs.Laws.Value.{sane-val}
+use Rattle.values.specs.Word.{signed}
+use Rattle.values.proofs.Laws.Word.{signed-biased, signed-count, signed-add, biased-word}
+use Rattle.sheet.specs.Tables.{Words}
+use Rattle.sheet.specs.Held.{endAt}
+use Rattle.terms.specs.declared.Sides.{Sides}
+use Rattle.terms.specs.Results.{Valued}
+use Rattle.walker.specs.declared.Regs.{Regs}
+use Rattle.walker.specs.Frame as frames
+use Rattle.walker.specs.Frame.{Item, treeItems, innerIn}
+use Rattle.walker.specs.Path.{World, Pend, Binds, bodyOf, LeftAfter}
+use Rattle.walker.specs.Sim.{tree, In}
+use Rattle.walker.specs.Steps.{dueOf, Visited, Entered, GoesOn, OneLeaf, Opens, Rounds}
+use Rattle.walker.proofs.Here.{body-here, code-here}
+use Rattle.walker.proofs.Under.{Ranges, Says}
+use Rattle.walker.proofs.Keep.{pend-keep}
+use Rattle.walker.proofs.Whole.{spare-kept}
+use Rattle.walker.proofs.Heads.{at-form, form-tree, at-again, again-tree, in-spare, visited-spare, entered-spare}
+use Rattle.walker.proofs.Sided.{Terms, Errs, back, left-value, right-value}
+
+-- the place of the lower bound, as the code has it
+pub two : (h : ℕ) → h + 2 ≡ suc (suc h)
+two h = omega arith
+
+-- the formula's token, after the bounds
+pub body-of : (w : Words) (h : ℕ) {e b : ℕ} → e ≡ endAt w (h + 2) → b ≡ endAt w e → b ≡ bodyOf w h
+body-of w h p q = q ∙ ap (endAt w) (p ∙ ap (endAt w) (two h))
+
+-- ---- how many values there are
+
+-- the bounds' values by their words
+pub record Bounds (low high : ℕ) (x y : ℤ) : Type 0 where
+  pub first : signed low ≡ x
+  pub last : signed high ≡ y
+  pub fits : high < 4294967296
+
+module _ (low high : ℕ) (x y : ℤ) (b : Bounds low high x y) where
+  count-is : count x y ≡ suc high - low
+  count-is = ap (λ z. count z y) (sym (b .first)) ∙ ap (count (signed low)) (sym (b .last)) ∙ signed-count low high
+
+  pub count-none : high < low → count x y ≡ 0
+  count-none h = count-is ∙ omega arith
+
+  pub count-some : low ≤ high → count x y ≡ suc (high - low)
+  count-some h = count-is ∙ omega arith
+
+  pub left-after : low ≤ high → LeftAfter low high (high - low) (x +ℤ pos 1)
+  left-after h = record { fits = b .fits; order = h; count = refl; lowest = ap (_+ℤ pos 1) (sym (b .first)) }
+
+-- ---- a bounded quantifier: its code, its formula and what its values lead to
+
+module _
+    (n : ℕ) (make : ℕ → ℕ → Term → Term → Formula → Formula) (K : Declared → Bool → ℕ → Formula → Rest → ℤ → ℤ → Rest)
+    (says : (D : Declared) (t : Words) (h : ℕ) (F : Formula) → Says D t h n F → Ranges D t h (make h) F)
+    (grows : (D : Declared) (m : Bool) (tok l : ℕ) (a b : Term) (F : Formula) (k : Rest) (α : Valuation) →
+    grow D m (make tok l a b F) k α ≡ bounded tok (pairOf (side D α a) (side D α b)) (K D m l F k) α)
+    {w : Words} {r : Regs} (x : Entered w r n) where
+  abbrev pub quantifier : (c : World) (o : Bytes) (i : In c o w r) → Ranges (c .declared) (c .tables) (r .due .head) (make (r .due .head)) (at-form i (x .job) (x .code) .F)
+  quantifier c o i = let a = at-form i (x .job) (x .code) in says (c .declared) (c .tables) (r .due .head) (a .F) (a .under)
+
+  -- the tree, by its bounds
+  pub grown : (c : World) (o : Bytes) (i : In c o w r) →
+      tree c (i .fr) (i .x) (i .α) ≡
+      bounded (r .due .head) (pairOf (side (c .declared) (i .α) (quantifier c o i .low)) (side (c .declared) (i .α) (quantifier c o i .high)))
+      (K (c .declared) (innerIn (i .fr)) (quantifier c o i .l) (quantifier c o i .body) (λ β. treeItems (c .declared) (innerIn (i .fr)) (at-form i (x .job) (x .code) .is) β))
+      (i .α)
+  grown c o i =
+      let a = at-form i (x .job) (x .code) in
+      let q = quantifier c o i in
+      let k : Rest = λ β. treeItems (c .declared) (innerIn (i .fr)) (a .is) β in
+      form-tree i a ∙ ap (λ F. grow (c .declared) (innerIn (i .fr)) F k (i .α)) (q .is) ∙
+      grows (c .declared) (innerIn (i .fr)) (r .due .head) (q .l) (q .low) (q .high) (q .body) k (i .α)
+
+  unfoldable pub range-terms : Terms w r (r .due .head + 2) (bodyOf w (r .due .head))
+  range-terms = record {
+    at = x .at;
+    both = λ c o i.
+        let q = quantifier c o i in
+        (q .low, q .high, rw (two (r .due .head), body-here (c .tables) w (i .path .tokens) (q .binds)) (q .terms));
+  }
+
+  pub range-errs : Errs w r (r .due .head + 2) (bodyOf w (r .due .head)) range-terms
+  unfolding bounded range-terms
+  range-errs c o i κ e = grown c o i ∙ rw e
+
+  module _ {w' : Words} {s : Sides} (v : Valued w w' (r .due .head + 2) (bodyOf w (r .due .head)) s) (l : s .ltag ≡ 0) (h : s .rtag ≡ 0) where
+    -- the values of the bounds, and the tree by them
+    pub record Valuable (c : World) (o : Bytes) (i : In c o w' r) : Type 0 where
+      pub y : ℤ
+      pub z : ℤ
+      pub bounds : Bounds (s .left) (s .right) y z
+      pub is : List Item
+      pub local : ℕ
+      pub body : Formula
+      pub binds : Binds (c .declared) (c .tables) (r .due .head) local body
+      pub rest : Pend c w' (r .depth) (r .due .rest) is
+      pub grown : tree c (i .fr) (i .x) (i .α) ≡ K (c .declared) (innerIn (i .fr)) local body (λ β. treeItems (c .declared) (innerIn (i .fr)) is β) y z (i .α)
+
+    pub valuable : (c : World) (o : Bytes) (i : In c o w' r) → Valuable c o i
+    unfolding range-terms back in-spare bounded pairOf
+    valuable c o i =
+        let j = back range-terms v i in
+        let a = at-form j (x .job) (x .code) in
+        let t = quantifier c o j in
+        let p = left-value range-terms v l c o i in
+        let q = right-value range-terms v h c o i in
+        let in-left = sane-val (c .declared) (t .terms .scope) (i .α) (i .path .valid) (t .low) (t .terms .left) (p .z) (p .is) in
+        let in-right = sane-val (c .declared) (t .terms .scope) (i .α) (i .path .valid) (t .high) (t .terms .right) (q .z) (q .is) in
+        record {
+          y = p .z;
+          z = q .z;
+          bounds = record {
+            first = ap signed (p .word) ∙ signed-biased (p .z) in-left;
+            last = ap signed (q .word) ∙ signed-biased (q .z) in-right;
+            fits = subst (_< 4294967296) (sym (q .word)) (biased-word (q .z) in-right);
+          };
+          is = a .is;
+          local = t .l;
+          body = t .body;
+          binds = t .binds;
+          rest = pend-keep c w w' (r .depth) (r .due .rest) (a .is) (spare-kept w w' (v .kept) (v .size) (r .depth) .nodes) (a .rest);
+          grown = grown c o j ∙ rw (p .is, q .is);
+        }
+
+-- ---- `some`
+
+abbrev pub someOf : Declared → Bool → ℕ → Formula → Rest → ℤ → ℤ → Rest
+someOf D m l F k x y β = sons (count x y) (λ i. grow D m F k (put β (local l) (full (x +ℤ pos i))))
+
+pub some-grows : (D : Declared) (m : Bool) (tok l : ℕ) (a b : Term) (F : Formula) (k : Rest) (α : Valuation) →
+    grow D m (some tok l a b F) k α ≡ bounded tok (pairOf (side D α a) (side D α b)) (someOf D m l F k) α
+unfolding grow
+some-grows D m tok l a b F k α = refl
+
+abbrev pub allOf : Declared → Bool → ℕ → Formula → Rest → ℤ → ℤ → Rest
+allOf D m l F k x y = rounds (λ k′ β. grow D m F k′ β) l k (count x y) x
+
+pub all-grows : (D : Declared) (m : Bool) (tok l : ℕ) (a b : Term) (F : Formula) (k : Rest) (α : Valuation) →
+    grow D m (all tok l a b F) k α ≡ bounded tok (pairOf (side D α a) (side D α b)) (allOf D m l F k) α
+unfolding grow
+all-grows D m tok l a b F k α = refl
+
+abbrev pub some-terms : {w : Words} {r : Regs} → Entered w r 13 → Terms w r (r .due .head + 2) (bodyOf w (r .due .head))
+some-terms x = range-terms 13 some someOf (λ D t h F q. q) some-grows x
+
+pub some-errs : {w : Words} {r : Regs} (x : Entered w r 13) → Errs w r (r .due .head + 2) (bodyOf w (r .due .head)) (some-terms x)
+some-errs x = range-errs 13 some someOf (λ D t h F q. q) some-grows x
+
+abbrev pub all-terms : {w : Words} {r : Regs} → Entered w r 14 → Terms w r (r .due .head + 2) (bodyOf w (r .due .head))
+all-terms x = range-terms 14 all allOf (λ D t h F q. q) all-grows x
+
+pub all-errs : {w : Words} {r : Regs} (x : Entered w r 14) → Errs w r (r .due .head + 2) (bodyOf w (r .due .head)) (all-terms x)
+all-errs x = range-errs 14 all allOf (λ D t h F q. q) all-grows x
+
+module _ {w w' : Words} {r : Regs} {s : Sides} where
+  module _ (x : Entered w r 13) where
+    module _ (v : Valued w w' (r .due .head + 2) (bodyOf w (r .due .head)) s) (l : s .ltag ≡ 0) (h : s .rtag ≡ 0) where
+      abbrev some-values : (c : World) (o : Bytes) (i : In c o w' r) → Valuable 13 some someOf (λ D t h F q. q) some-grows x v l h c o i
+      some-values = valuable 13 some someOf (λ D t h F q. q) some-grows x v l h
+
+      -- no value: a failure leaf
+      pub some-none : s .right < s .left → OneLeaf w' r (dueOf 4 0 0)
+      unfolding sons
+      some-none less = record {
+        at = visited-spare w w' (v .kept) (v .size) (x .at);
+        son = λ c o i.
+            let a = some-values c o i in
+            (frames.failure, a .grown ∙ rw (count-none (s .left) (s .right) (a .y) (a .z) (a .bounds) less), refl, omega arith);
+      }
+
+      pub some-opens : s .left ≤ s .right → Opens w' r (s .left) (s .right)
+      unfolding sons treeItems
+      some-opens more = record {
+        at = entered-spare w w' (v .kept) (v .size) x;
+        sons = λ c o i.
+            let a = some-values c o i in (
+              a .local,
+              a .body,
+              s .right - s .left,
+              a .y,
+              a .is,
+              a .grown ∙ rw (count-some (s .left) (s .right) (a .y) (a .z) (a .bounds) more),
+              a .binds,
+              left-after (s .left) (s .right) (a .y) (a .z) (a .bounds) more,
+              a .bounds .first,
+              a .rest,
+            );
+      }
+
+  -- ---- `all`
+
+  module _ (x : Entered w r 14) where
+    module _ (v : Valued w w' (r .due .head + 2) (bodyOf w (r .due .head)) s) (l : s .ltag ≡ 0) (h : s .rtag ≡ 0) where
+      abbrev all-values : (c : World) (o : Bytes) (i : In c o w' r) → Valuable 14 all allOf (λ D t h F q. q) all-grows x v l h c o i
+      all-values = valuable 14 all allOf (λ D t h F q. q) all-grows x v l h
+
+      -- no value: go on
+      pub all-none : s .right < s .left → GoesOn w' r
+      unfolding rounds
+      all-none less = record {
+        at = visited-spare w w' (v .kept) (v .size) (x .at);
+        son = λ c o i.
+            let a = all-values c o i in
+            (a .is, a .grown ∙ rw (count-none (s .left) (s .right) (a .y) (a .z) (a .bounds) less), a .rest);
+      }
+
+      pub all-rounds : s .left ≤ s .right → Rounds w' r (s .left) (s .right)
+      unfolding rounds treeItems
+      all-rounds more = record {
+        at = visited-spare w w' (v .kept) (v .size) (x .at);
+        code = entered-spare w w' (v .kept) (v .size) x .code;
+        son = λ c o i.
+            let a = all-values c o i in (
+              a .local,
+              a .body,
+              s .right - s .left,
+              a .y,
+              a .is,
+              a .grown ∙ rw (count-some (s .left) (s .right) (a .y) (a .z) (a .bounds) more),
+              a .binds,
+              left-after (s .left) (s .right) (a .y) (a .z) (a .bounds) more,
+              a .bounds .first,
+              a .rest,
+            );
+      }
+
+-- ---- an `all` that goes on
+
+module _ {w : Words} {r : Regs} (x : Visited w r) (j : r .due .job ≡ 2) where
+  pub again-small : (r .due .current ≤ r .due .last) × (r .due .last < 4294967296)
+  again-small = let a = at-again (x .ins) j in (a .left .order, a .left .fits)
+
+  pub again-none : r .due .current ≡ r .due .last → GoesOn w r
+  unfolding rounds
+  again-none e = record {
+    at = x;
+    son = λ c o i.
+        let a = at-again i j in
+        let none : a .m ≡ 0 = a .left .count ∙ omega arith in
+        (a .is, again-tree i a ∙ rw none, a .rest);
+  }
+
+  pub again-rounds : ¬ (r .due .current ≡ r .due .last) → Rounds w r (r .due .current + 1) (r .due .last)
+  unfolding rounds treeItems
+  again-rounds n = record {
+    at = x;
+    code = (let i = x .ins in let a = at-again i j in code-here (x .c .tables) w (i .path .tokens) (omega (arith, a .binds .near)) ∙ a .code);
+    son = λ c o i.
+        let a = at-again i j in
+        let order = a .left .order in
+        let fits = a .left .fits in
+        let more : a .m ≡ suc (r .due .last - (r .due .current + 1)) = a .left .count ∙ (let q : ¬ (r .due .current ≡ r .due .last) = n in omega arith) in
+        let next : signed (r .due .current + 1) ≡ a .v = sym (signed-add (r .due .current) 1) ∙ sym (a .left .lowest) in (
+          a .l,
+          a .F,
+          r .due .last - (r .due .current + 1),
+          a .v,
+          a .is,
+          again-tree i a ∙ rw more,
+          a .binds,
+          record { fits = fits; order = (let q : ¬ (r .due .current ≡ r .due .last) = n in omega arith); count = refl; lowest = ap (_+ℤ pos 1) (sym next) },
+          next,
+          a .rest,
+        );
+  }

@@ -1,0 +1,224 @@
+-- Going up: the topmost node is left, with its slot as it was. Assumes nothing.
+use Prim.Native.Nat.{ℕ, _+_, _*_, _-_, _<_}
+use native.Mathlib.Omega.{arith}
+use mathlib.Core.Path.{_≡_, refl, sym, _∙_, ap, subst}
+use mathlib.Core.List.{List, [], _∷_}
+use mathlib.Core.Logic.{_⊎_, inl, inr}
+use lib.ListN.{set}
+use lib.IntN.{ℤ, pos, _+ℤ_}
+use Rattle.specification.specs.Bytes.{Bytes}
+use Rattle.specification.specs.Ast.{Formula}
+use Rattle.specification.specs.Place.{Place, local, put}
+use Rattle.specification.specs.Value.{Slot, full, Valuation}
+use Rattle.specification.specs.Run.{going}
+use Rattle.sheet.specs.Tables.{Words}
+use Rattle.sheet.specs.Held.{Holds}
+use Rattle.walker.specs.declared.Regs.{Regs}
+use Rattle.walker.specs.Walk.{sonsFrom}
+use Rattle.walker.specs.Node.{todoAt, slotAt, hadAt, oldAt, currentAt, lastAt}
+use Rattle.walker.specs.Frame.{Item, Frame, pass, other, undo, range, asks, here, below, len}
+use Rattle.walker.specs.Path.{World, bit, Saved, Changed, Path}
+use Rattle.walker.specs.Sim.{yes, no, Up, Yes, ended, Sim, over, up, won}
+use Rattle.walker.specs.Steps.{popRegs, stopRegs}
+use Rattle.walker.specs.Loop.{Topped, Rising, Rose, Exhausted, Leaves, Restores}
+use Rattle.walker.proofs.Slots.{in-table, Altered, alter-two, holds-back}
+use Rattle.walker.proofs.Whole.{Kept, altered-kept, path-pop}
+use Rattle.walker.proofs.Tops.{top-index, top-undo, top-range}
+
+-- by the mode, a son is finished
+pub son-finished : {w : Words} {r : Regs} → Rising w r → (r .mode ≡ 3 → ⊥) → r .mode ≡ 2
+son-finished {w} {r} u n = go (u .mode)
+  where
+    go : (r .mode ≡ 2) ⊎ (r .mode ≡ 3) → r .mode ≡ 2
+    go (inl e) = e
+    go (inr e) = absurd (n e)
+
+pub topped : {w : Words} {r : Regs} {n : ℕ} → Rising w r → 0 < r .depth → todoAt w (r .depth - 1) ≡ n → Topped w r n
+topped u some t = record { c = u .c; α = u .α; fr = u .fr; path = u .path; some = some; todo = t }
+
+-- ---- nothing is left to do there
+
+module _ {w : Words} {r : Regs} (u : Rising w r) (some : 0 < r .depth) where
+  pub leaves : (todoAt w (r .depth - 1) ≡ 2 → ⊥) → (todoAt w (r .depth - 1) ≡ 3 → ⊥) → (todoAt w (r .depth - 1) ≡ 4 → ⊥) →
+      (todoAt w (r .depth - 1) ≡ 1 → r .mode ≡ 2 → ⊥) → Leaves w r
+  leaves n2 n3 n4 n1 = record { at = u; some = some; back = λ c α fr P. go c α fr P }
+    where
+      go : (c : World) (α : Valuation) (fr : List Frame) → Path c w (r .depth) α fr → (s : Exhausted c r fr) × (below (s .top) ≡ here (s .top))
+      go c α [] P = let deep = P .deep in absurd (omega arith)
+      go c α (pass β ∷ fr) P =
+          (record { top = pass β; under = fr; parts = refl; same-inner = refl; same-no = λ m. refl; same-yes = refl }, refl)
+      go c α (other G is β ∷ fr) P = (
+        record {
+          top = other G is β;
+          under = fr;
+          parts = refl;
+          same-inner = refl;
+          same-no = λ m. absurd (n1 (ap (todoAt w) (top-index P) ∙ P .stack .0 .0) m);
+          same-yes = refl;
+        },
+        refl,
+      )
+      go c α (undo p s β ∷ fr) P = absurd (n2 (ap (todoAt w) (top-index P) ∙ P .stack .0 .0))
+      go c α (range l x i n F is β ∷ fr) P = absurd (n3 (ap (todoAt w) (top-index P) ∙ P .stack .0 .0))
+      go c α (asks tok q is β e ∷ fr) P = absurd (n4 (ap (todoAt w) (top-index P) ∙ P .stack .0 .0))
+
+  -- a slot is to be put back
+  abbrev Backed : World → List Frame → Type 0
+  Backed c fr =
+      (s : Exhausted c r fr) × (p : Place) × (v : Slot) × (below (s .top) ≡ put (here (s .top)) p v) × Changed w (len (s .under)) p (here (s .top))
+
+  pub undo-restores : todoAt w (r .depth - 1) ≡ 2 → Restores w r
+  undo-restores t = record {
+    at = u;
+    some = some;
+    back = λ c α fr P. top-undo (Backed c) some t
+        (λ p s β fr P.
+        (record { top = undo p s β; under = fr; parts = refl; same-inner = refl; same-no = λ m. refl; same-yes = refl }, p, s, refl, P .stack .0 .1)) fr P;
+  }
+
+  -- no value is left
+  none-left : (c : World) (l : ℕ) (x : ℤ) (i n : ℕ) (F : Formula) (is : List Item) (β : Valuation) (fr : List Frame) → n ≡ 0 →
+      no c (range l x i n F is β ∷ fr) ≡ no c fr
+  unfolding sonsFrom
+  none-left c l x i n F is β fr e = rw e
+
+  pub range-restores : todoAt w (r .depth - 1) ≡ 3 → (r .mode ≡ 2 → ¬ (currentAt w (r .depth - 1) < lastAt w (r .depth - 1))) → Restores w r
+  range-restores t last = record {
+    at = u;
+    some = some;
+    back = λ c α fr P. top-range (Backed c) some t
+        (λ l x i n F is β fr P.
+        let e = top-index P in
+        let a = P .stack .0 .3 in (
+          record {
+            top = range l x i n F is β;
+            under = fr;
+            parts = refl;
+            same-inner = refl;
+            same-no = λ m.
+                let h : ¬ (currentAt w (len fr) < lastAt w (len fr)) = rw e at (last m) in
+                none-left c l x i n F is β fr (omega (arith, a .count, h));
+            same-yes = refl;
+          },
+          local l,
+          full (x +ℤ pos i),
+          refl,
+          P .stack .0 .1,
+        )) fr P;
+  }
+
+-- ---- the node is left
+
+module _ {c : World} {w : Words} {r : Regs} {α : Valuation} {fr : List Frame} (P : Path c w (r .depth) α fr) (x : Exhausted c r fr) where
+  -- the frame on top
+  parted : Path c w (r .depth) α (x .top ∷ x .under)
+  parted = subst (Path c w (r .depth) α) (x .parts) P
+
+  popped : {w' : Words} → Kept (len (x .under)) w w' → Holds w' (here (x .top)) → Path c w' (r .depth - 1) (here (x .top)) (x .under)
+  popped k h = path-pop parted k h
+
+module _ {c : World} {o : Bytes} {w w' : Words} {r : Regs} where
+  leave-up : (u : Up c o w r) (x : Exhausted c r (u .fr)) → r .mode ≡ 2 → Kept (len (x .under)) w w' → Holds w' (here (x .top)) → Sim c o w' (popRegs r)
+  leave-up u x m k h =
+      up m
+      (record {
+        fr = x .under;
+        α = here (x .top);
+        e = u .e;
+        b = u .b;
+        path = popped (u .path) x k h;
+        inner = u .inner ∙ ap bit (x .same-inner);
+        bad = u .bad;
+        out = u .out;
+        count = u .count;
+        result = ap (λ f. f (u .e) (r .tallies) (u .b)) (sym (x .same-no m)) ∙ u .result;
+      })
+
+  leave-yes : (u : Yes c o w r) (x : Exhausted c r (u .fr)) → r .mode ≡ 3 → Kept (len (x .under)) w w' → Holds w' (here (x .top)) → Sim c o w' (popRegs r)
+  leave-yes u x m k h =
+      won m
+      (record {
+        fr = x .under;
+        α = here (x .top);
+        b = u .b;
+        path = popped (u .path) x k h;
+        out = u .out;
+        count = u .count;
+        result = ap (λ f. f (r .tallies) (u .b)) (sym (x .same-yes)) ∙ u .result;
+      })
+
+-- words where the frame on top can be left
+record Leavable (c : World) (w w' : Words) (r : Regs) (fr : List Frame) : Type 0 where
+  gone : Exhausted c r fr
+  kept : Kept (len (gone .under)) w w'
+  holds : Holds w' (here (gone .top))
+
+rose : {w w' : Words} {r : Regs} → 0 < r .depth → ((c : World) (α : Valuation) (fr : List Frame) → Path c w (r .depth) α fr → Leavable c w w' r fr) →
+    Rose w w' r (popRegs r)
+rose some f = record {
+  ups = λ c o m u. let s = f c (u .α) (u .fr) (u .path) in leave-up u (s .gone) m (s .kept) (s .holds);
+  yes = λ c o m u. let s = f c (u .α) (u .fr) (u .path) in leave-yes u (s .gone) m (s .kept) (s .holds);
+  nodes = refl;
+  falls = omega arith;
+}
+
+kept-same : (n : ℕ) (w : Words) → Kept n w w
+kept-same n w = record { tokens = λ j h. refl; firsts = λ j h k. refl; nodes = record { same = λ j h k. refl }; size = refl }
+
+pub left : {w : Words} {r : Regs} → Leaves w r → Rose w w r (popRegs r)
+left {w} x = rose (x .some) (λ c α fr P.
+    let s = x .back c α fr P in
+    record { gone = s .0; kept = kept-same (len (s .0 .under)) w; holds = subst (Holds w) (parted P (s .0) .chain .0 ∙ s .1) (P .holds) })
+
+module _ {w : Words} {r : Regs} (x : Restores w r) where
+  -- the slot's two words are there
+  pub slot-there : slotAt w (r .depth - 1) + 1 < 6144
+  slot-there =
+      let P = x .at .path in
+      let s = x .back (x .at .c) (x .at .α) (x .at .fr) P in
+      let h = s .4 in
+      let e : r .depth - 1 ≡ len (s .0 .under) = top-index (parted P (s .0)) in
+      let z = in-table (s .1) (h .inside) in
+      rw e (omega (arith, h .slot, z .high))
+
+  pub restored : {w1 w' : Words} {i had old : ℕ} → i ≡ slotAt w (r .depth - 1) → had ≡ hadAt w (r .depth - 1) → old ≡ oldAt w (r .depth - 1) →
+      w1 ≡ set w i had → w' ≡ set w1 (i + 1) old → Rose w w' r (popRegs r)
+  restored {w1} {w'} {i} {had} {old} ei eh eo e1 e2 = rose (x .some) (λ c α fr P.
+      let s = x .back c α fr P in
+      let p = s .1 in
+      let β = here (s .0 .top) in
+      let h = s .4 in
+      let e : r .depth - 1 ≡ len (s .0 .under) = top-index (parted P (s .0)) in
+      let saved : Saved had old (β p) = rw (eh, eo, e) (h .saved) in
+      let a : Altered w w' p (β p) = alter-two p (ei ∙ ap (slotAt w) e ∙ h .slot) (h .inside) (omega (arith, P .size)) (β p) had old saved e1 e2 in
+      record {
+        gone = s .0;
+        kept = altered-kept (len (s .0 .under)) (h .inside) a;
+        holds = holds-back a (h .inside) β (s .2) refl (subst (Holds w) (parted P (s .0) .chain .0 ∙ s .3) (P .holds));
+      })
+
+-- ---- the path has no node
+
+module _ {c : World} {o : Bytes} {w : Words} {r : Regs} (none : r .depth ≡ 0) where
+  over-up : Up c o w r → Sim c o w (stopRegs r 0)
+  unfolding ended
+  over-up u = over refl (record { b = u .b; out = u .out; result = go (u .fr) (u .path .deep) (u .result) })
+    where
+      go : (fr : List Frame) → r .depth ≡ len fr → no c fr (u .e) (r .tallies) (u .b) ≡ c .result → going (r .tallies) (u .b) ≡ c .result
+      go [] e q = q
+      go (f ∷ fr) e q = absurd (omega arith)
+
+  over-yes : Yes c o w r → Sim c o w (stopRegs r 0)
+  unfolding ended
+  over-yes u = over refl (record { b = u .b; out = u .out; result = go (u .fr) (u .path .deep) (u .result) })
+    where
+      go : (fr : List Frame) → r .depth ≡ len fr → yes c fr (r .tallies) (u .b) ≡ c .result → going (r .tallies) (u .b) ≡ c .result
+      go [] e q = q
+      go (f ∷ fr) e q = absurd (omega arith)
+
+pub finished : {w : Words} {r : Regs} → Rising w r → r .depth ≡ 0 → Rose w w r (stopRegs r 0)
+finished {w} {r} u none = record { ups = λ c o m. over-up none; yes = λ c o m. over-yes none; nodes = refl; falls = go (u .mode) }
+  where
+    go : (r .mode ≡ 2) ⊎ (r .mode ≡ 3) → 2 * r .depth + 0 < 2 * r .depth + r .mode
+    go (inl e) = omega arith
+    go (inr e) = omega arith

@@ -1,0 +1,139 @@
+-- Two terms of the node's formula, as `terms::sides` gives them: an error on either side leads to an error leaf, or both have values.
+-- Assumes nothing.
+use Prim.Native.Nat.{ℕ, suc, _+_, _*_, _≤_, _<_}
+use native.Mathlib.Omega.{arith}
+use mathlib.Core.Path.{_≡_, refl, sym, _∙_, ap, subst}
+use mathlib.Core.Logic.{_⊎_}
+use lib.ListN.{length, getD}
+use lib.Dec.{T}
+use lib.IntN.{ℤ}
+use Rattle.specification.specs.Bytes.{Bytes}
+use Rattle.specification.specs.Number.{in32}
+use Rattle.specification.specs.Ast.{Term}
+use Rattle.specification.specs.Value.{Side, val, bare, err, Pair, values, faulty, pairOf, side}
+use Rattle.specification.specs.Inner.{errorLeaf, step}
+use Rattle.specification.proofs.Laws.Value.{sane-val}
+use Rattle.values.specs.Word.{biased}
+use Rattle.sheet.specs.Tables.{Words}
+use Rattle.terms.specs.declared.Sides.{Sides}
+use Rattle.terms.specs.Results.{tagOf, wordOf, sidesOf, Given, Asked, Valued}
+use Rattle.walker.specs.declared.Regs.{Regs}
+use Rattle.walker.specs.Frame as frames
+use Rattle.walker.specs.Path.{World}
+use Rattle.walker.specs.Sim.{tree, In}
+use Rattle.walker.specs.Steps.{errorDue, Visited, OneLeaf, KindOf}
+use Rattle.walker.proofs.Here.{terms-here}
+use Rattle.walker.proofs.Under.{TermsIn}
+use Rattle.walker.proofs.Heads.{in-spare}
+
+-- ---- what `sides` asks
+
+module _ {c : World} {o : Bytes} {w : Words} {r : Regs} (i : In c o w r) where
+  pub given : (from to : ℕ) (a b : Term) → TermsIn (c .declared) (c .tables) from to a b → Given w from to (c .declared) (i .α) a b
+  given from to a b t = record {
+    terms = terms-here (c .tables) w (i .path .tokens) from to a b (t .terms);
+    holds = i .path .holds;
+    arrays = i .path .arrays;
+    valid = i .path .valid;
+    cells = i .path .cells;
+    few = i .path .few;
+    scope = t .scope;
+    locals = t .locals;
+    left = t .left;
+    right = t .right;
+    left-low = t .left-low;
+    right-low = t .right-low;
+    size = omega (arith, i .path .size);
+  }
+
+-- ---- by the tags
+
+left-bad : (x y : Side) (k : ℕ) → ¬ (tagOf x ≡ 0) → KindOf (tagOf x) (wordOf x) k → pairOf x y ≡ faulty k
+unfolding pairOf
+left-bad (val z) y k n h = absurd (n refl)
+left-bad (bare p) y k n h = ap faulty (sym (h .0 refl))
+left-bad (err κ) y k n h = ap faulty (sym (h .1 (λ e. omega arith)))
+
+right-bad : (x y : Side) (k : ℕ) → tagOf x ≡ 0 → ¬ (tagOf y ≡ 0) → KindOf (tagOf y) (wordOf y) k → pairOf x y ≡ faulty k
+unfolding pairOf
+right-bad (val z) (val u) k e n h = absurd (n refl)
+right-bad (val z) (bare p) k e n h = ap faulty (sym (h .0 refl))
+right-bad (val z) (err κ) k e n h = ap faulty (sym (h .1 (λ q. omega arith)))
+right-bad (bare p) y k e n h = absurd (omega arith)
+right-bad (err κ) y k e n h = absurd (omega arith)
+
+-- a side with a value, whose word is w
+pub record Has (x : Side) (w : ℕ) : Type 0 where
+  pub z : ℤ
+  pub is : x ≡ val z
+  pub word : w ≡ biased z
+
+pub has-value : (x : Side) (w : ℕ) → tagOf x ≡ 0 → w ≡ wordOf x → Has x w
+has-value (val z) w e h = record { z = z; is = refl; word = h }
+has-value (bare p) w e h = absurd (omega arith)
+has-value (err κ) w e h = absurd (omega arith)
+
+-- ---- the two terms of the node's formula
+
+pub record Terms (w : Words) (r : Regs) (from to : ℕ) : Type 0 where
+  pub at : Visited w r
+  pub both : (c : World) (o : Bytes) → In c o w r → (a : Term) × (b : Term) × TermsIn (c .declared) (c .tables) from to a b
+
+pub terms-asked : {w : Words} {r : Regs} {from to : ℕ} → Terms w r from to → Asked w from to
+terms-asked {from = from} {to = to} p =
+    let q = p .both (p .at .c) (p .at .o) (p .at .ins) in
+    record { declared = p .at .c .declared; valuation = p .at .ins .α; left = q .0; right = q .1; given = given (p .at .ins) from to (q .0) (q .1) (q .2) }
+
+-- an error on either side leads to an error leaf
+abbrev pub Errs : (w : Words) (r : Regs) (from to : ℕ) → Terms w r from to → Type 0
+Errs w r from to p =
+    (c : World) (o : Bytes) (i : In c o w r) (κ : ℕ) →
+    pairOf (side (c .declared) (i .α) (p .both c o i .0)) (side (c .declared) (i .α) (p .both c o i .1)) ≡ faulty κ →
+    tree c (i .fr) (i .x) (i .α) ≡ step (errorLeaf κ (r .due .head) (i .α))
+
+module _ {w w' : Words} {r : Regs} {from to : ℕ} {s : Sides} (p : Terms w r from to) (v : Valued w w' from to s) where
+  -- the invariant before the evaluation, from the one after it
+  unfoldable pub back : {c : World} {o : Bytes} → In c o w' r → In c o w r
+  back i = in-spare w' w (λ k h. sym (v .kept k h)) (sym (v .size)) i
+
+  pub forth : {c : World} {o : Bytes} → In c o w r → In c o w' r
+  forth i = in-spare w w' (v .kept) (v .size) i
+
+  abbrev pub left-side : (c : World) (o : Bytes) → In c o w' r → Side
+  left-side c o i = side (c .declared) (i .α) (p .both c o (back i) .0)
+
+  abbrev pub right-side : (c : World) (o : Bytes) → In c o w' r → Side
+  right-side c o i = side (c .declared) (i .α) (p .both c o (back i) .1)
+
+  pub sides-are : (c : World) (o : Bytes) (i : In c o w' r) → s ≡ sidesOf (left-side c o i) (right-side c o i)
+  unfolding back in-spare
+  sides-are c o i =
+      let q = p .both c o (back i) in
+      v .sides (c .declared) (i .α) (q .0) (q .1) (given (back i) from to (q .0) (q .1) (q .2))
+
+  error-leaf : Errs w r from to p → (k : ℕ) → ((c : World) (o : Bytes) (i : In c o w' r) → pairOf (left-side c o i) (right-side c o i) ≡ faulty k) → OneLeaf w' r (errorDue k (r .due .head))
+  unfolding back in-spare
+  error-leaf errs k f = record {
+    at = record { c = p .at .c; o = p .at .o; ins = forth (p .at .ins) };
+    son = λ c o i. (frames.error k (r .due .head), errs c o (back i) k (f c o i), (refl, refl, refl), omega arith);
+  }
+
+  pub left-error : Errs w r from to p → (k : ℕ) → ¬ (s .ltag ≡ 0) → KindOf (s .ltag) (s .left) k → OneLeaf w' r (errorDue k (r .due .head))
+  left-error errs k n h =
+      error-leaf errs k (λ c o i.
+      let e = sides-are c o i in
+      left-bad (left-side c o i) (right-side c o i) k (λ z. n (ap (λ y. y .ltag) e ∙ z)) (subst (λ y. KindOf (y .ltag) (y .left) k) e h))
+
+  pub right-error : Errs w r from to p → (k : ℕ) → s .ltag ≡ 0 → ¬ (s .rtag ≡ 0) → KindOf (s .rtag) (s .right) k → OneLeaf w' r (errorDue k (r .due .head))
+  right-error errs k z n h =
+      error-leaf errs k (λ c o i.
+      let e = sides-are c o i in
+      right-bad (left-side c o i) (right-side c o i) k (sym (ap (λ y. y .ltag) e) ∙ z) (λ x. n (ap (λ y. y .rtag) e ∙ x))
+      (subst (λ y. KindOf (y .rtag) (y .right) k) e h))
+
+  -- both have values
+  pub left-value : s .ltag ≡ 0 → (c : World) (o : Bytes) (i : In c o w' r) → Has (left-side c o i) (s .left)
+  left-value z c o i = let e = sides-are c o i in has-value (left-side c o i) (s .left) (sym (ap (λ y. y .ltag) e) ∙ z) (ap (λ y. y .left) e)
+
+  pub right-value : s .rtag ≡ 0 → (c : World) (o : Bytes) (i : In c o w' r) → Has (right-side c o i) (s .right)
+  right-value z c o i = let e = sides-are c o i in has-value (right-side c o i) (s .right) (sym (ap (λ y. y .rtag) e) ∙ z) (ap (λ y. y .right) e)

@@ -1,0 +1,120 @@
+-- The walk is the scan of the tree's visits, in the main tree and in an inner tree. So a run is a walk, and a walk may go on from an inner
+-- tree by what it has seen there, in place of its verdict. Assumes nothing.
+use Prim.Native.Nat.{ℕ, zero, suc}
+use mathlib.Core.Path.{_≡_, refl, sym, _∙_, ap, fun-ext}
+use mathlib.Core.Bool.{Bool, true, false}
+use mathlib.Core.List.{List, [], _∷_}
+use Rattle.specification.specs.declared.Setting.{Setting}
+use Rattle.specification.specs.declared.Tallies.{Tallies}
+use Rattle.specification.specs.Bytes.{Bytes}
+use Rattle.specification.specs.Lines.{Declared}
+use Rattle.specification.specs.Sheet.{Sheet}
+use Rattle.specification.specs.Inner.{Tree, successLeaf, failureLeaf, errorLeaf, step, fork, fan, ask, Verdict, succeeds, join, joined, verdict}
+use Rattle.specification.specs.Tree.{treeOf}
+use Rattle.specification.specs.Visits.{node, Visit, at, _then_, each, inside, visits}
+use Rattle.specification.specs.Run.{tallies, addNode, Run, going, stopped}
+use Rattle.specification.specs.Outcome.{start, visitsOf, runOf}
+use Rattle.walker.specs.Walk.{Next, onto, flagged, gated, sonsFrom, within, walk}
+use Rattle.walker.proofs.Answers.{answered-visits}
+use Rattle.walker.proofs.Continuation.{choose, after, seen, seen-nil, seen-node, seen-inside, after-fails, by-flags, through, through-nil, through-then, through-leaf, through-node, through-both}
+
+-- ---- equal continuations
+
+module _ (D : Declared) (S : Setting) (size : ℕ) where
+  pub gated-same : (d : ℕ) (k k′ : Next) → ((t : Tallies) (w : Bytes) → k t w ≡ k′ t w) →
+      (t : Tallies) (w : Bytes) → gated D S size d k t w ≡ gated D S size d k′ t w
+  unfolding gated
+  gated-same d k k′ h t w = rw (h (addNode t) w)
+
+  pub within-same : (m : Bool) (d : ℕ) (T : Tree) (y y′ : Next) (k k′ : Bool → Next) →
+      ((t : Tallies) (w : Bytes) → y t w ≡ y′ t w) → ((e : Bool) (t : Tallies) (w : Bytes) → k e t w ≡ k′ e t w) →
+      (e : Bool) (t : Tallies) (w : Bytes) → within D S size m d T y k e t w ≡ within D S size m d T y′ k′ e t w
+  within-same m d T y y′ k k′ h g e t w =
+      let p : y ≡ y′ = fun-ext (λ t. fun-ext (λ w. h t w)) in
+      let q : k ≡ k′ = fun-ext (λ e. fun-ext (λ t. fun-ext (λ w. g e t w))) in
+      cc
+
+  -- ---- the walk of a tree is the scan of its visits
+
+  abbrev Scans : Bool → ℕ → Tree → Type 0
+  Scans m d T =
+      (y : Next) (k : Bool → Next) (e : Bool) → walk D S size m d T y k e ≡ through D S size (after m (verdict T) y k e) (seen m (visits d T))
+
+  -- a node, where what follows its visit is known
+  scans-node : (m : Bool) (d : ℕ) (k k′ : Next) (vs : List Visit) →
+      k ≡ through D S size k′ (seen m vs) → gated D S size d k ≡ through D S size k′ (seen m (at d node ∷ vs))
+  scans-node m d k k′ vs h = rw (seen-node, through-node, h)
+
+  -- n sons from the i-th on
+  scans-sons : (m : Bool) (d : ℕ) (f : ℕ → Tree) → ((j : ℕ) → Scans m d (f j)) → (n i : ℕ) (y : Next) (k : Bool → Next) (e : Bool) →
+      sonsFrom D S size n i (λ j. walk D S size m d (f j) y) k e ≡
+      through D S size (after m (joined n i (λ j. verdict (f j))) y k e) (seen m (each n i (λ j. visits d (f j))))
+  unfolding sonsFrom joined each
+  scans-sons m d f h zero i y k e = rw (after-fails, seen-nil, through-nil)
+  scans-sons m d f h (suc n) i y k e =
+      let others = sonsFrom D S size n (suc i) (λ j. walk D S size m d (f j) y) k in
+      h i y others e ∙
+      through-both D S size m (verdict (f i)) (joined n (suc i) (λ j. verdict (f j))) (visits d (f i)) (each n (suc i) (λ j. visits d (f j)))
+      y k others e (answered-visits (f i) d) (scans-sons m d f h n (suc i) y k)
+
+  -- an inner tree, and then what goes on by its verdict, which the walk knows by its flags
+  scans-ask : (I : Tree) (d : ℕ) → Scans true d I → (K : Verdict → Next) →
+      walk D S size true d I (K succeeds) (λ e. K (flagged e)) false ≡ through D S size (K (verdict I)) (inside (visits d I))
+  scans-ask I d h K = h (K succeeds) (λ e. K (flagged e)) false ∙ ap (λ k. through D S size k (inside (visits d I))) (by-flags K (verdict I))
+
+  scans : (m : Bool) (T : Tree) (d : ℕ) → Scans m d T
+  unfolding within visits verdict inside
+  scans true (successLeaf β) d y k e = rw (through-node, through-nil)
+  scans true failureLeaf d y k e = rw (through-node, through-nil)
+  scans true (errorLeaf κ t β) d y k e = rw (through-node, through-nil)
+  scans false (successLeaf β) d y k e = rw (through-leaf, through-nil)
+  scans false failureLeaf d y k e = rw (through-leaf, through-nil)
+  scans false (errorLeaf κ t β) d y k e = rw (through-leaf, through-nil)
+  scans m (step T) d y k e =
+      scans-node m d (within D S size m d (step T) y k e) (after m (verdict T) y k e) (visits (suc d) T) (scans m T (suc d) y k e)
+  scans m (fork T U) d y k e =
+      let second = walk D S size m (suc d) U y k in
+      scans-node m d (within D S size m d (fork T U) y k e) (after m (join (verdict T) (verdict U)) y k e)
+      (visits (suc d) T then visits (suc d) U)
+      (scans m T (suc d) y second e ∙
+      through-both D S size m (verdict T) (verdict U) (visits (suc d) T) (visits (suc d) U) y k second e (answered-visits T (suc d))
+      (scans m U (suc d) y k))
+  scans m (fan n f) d y k e =
+      scans-node m d (within D S size m d (fan n f) y k e) (after m (verdict (fan n f)) y k e) (each n 0 (λ i. visits (suc d) (f i)))
+      (scans-sons m (suc d) f (λ j. scans m (f j) (suc d)) n 0 y k e)
+  scans m (ask I T) d y k e =
+      scans-node m d (within D S size m d (ask I T) y k e) (after m (verdict T) y k e) (inside (visits (suc d) I) then visits (suc d) T)
+      (scans-ask I (suc d) (scans true I (suc d)) (λ v. walk D S size m (suc d) T y k e) ∙
+      rw (seen-inside, through-then, scans m T (suc d) y k e))
+
+  module _ (d : ℕ) (T : Tree) (y : Next) (k : Bool → Next) (e : Bool) (t : Tallies) (w : Bytes) where
+    pub walk-main : walk D S size false d T y k e t w ≡ through D S size (k e) (visits d T) t w
+    walk-main = ap (λ r. r t w) (scans false T d y k e)
+
+    pub walk-inner : walk D S size true d T y k e t w ≡ through D S size (choose (verdict T) y k e) (inside (visits d T)) t w
+    walk-inner = ap (λ r. r t w) (scans true T d y k e)
+
+  -- the son of a node of `not` or `imp` may be chosen after its inner tree, by what was seen there
+  pub within-ask : (I : Tree) (son : Verdict → Tree) (m : Bool) (d : ℕ) (y : Next) (k : Bool → Next) (e : Bool) (t : Tallies) (w : Bytes) →
+      within D S size m d (ask I (son (verdict I))) y k e t w ≡
+      walk D S size true (suc d) I (walk D S size m (suc d) (son succeeds) y k e) (λ e′. walk D S size m (suc d) (son (flagged e′)) y k e) false t w
+  unfolding within
+  within-ask I son m d y k e t w =
+      let h = scans true I (suc d) in
+      let K : Verdict → Next = λ v. walk D S size m (suc d) (son v) y k e in
+      ap (λ r. r t w) (scans-ask I (suc d) h (λ v. K (verdict I)) ∙ sym (scans-ask I (suc d) h K))
+
+-- ---- a run is a walk
+
+onto-going : (r : Run) → onto (λ t w. going t w) r ≡ r
+onto-going (going t w) = refl
+onto-going (stopped e t w) = refl
+
+pub walk-run : (s : Sheet) (S : Setting) (size : ℕ) → runOf s S size ≡
+    walk (s .declared) S size false 1 (treeOf (s .declared) (s .formula ∷ []) (start (s .given))) (λ t w. going t w) (λ e t w. going t w) false
+    (tallies 0 0 0 0) []
+unfolding runOf visitsOf through
+walk-run s S size =
+    let D = s .declared in
+    let T = treeOf D (s .formula ∷ []) (start (s .given)) in
+    sym (walk-main D S size 1 T (λ t w. going t w) (λ e t w. going t w) false (tallies 0 0 0 0) [] ∙ onto-going (runOf s S size))

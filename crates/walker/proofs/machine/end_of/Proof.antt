@@ -1,0 +1,18 @@
+-- `machine::end_of` meets its contract.
+use Rattle.walker.proofs.machine.end_of.Statement.{statement}
+use Rattle.walker.proofs.machine.end_of.Tie as tie
+
+returns : tie.Need-returns
+returns c = c .match .keys1
+
+returns-2 : tie.Need-returns-2
+returns-2 c = c .match .keys2
+
+returns-3 : tie.Need-returns-3
+returns-3 c = c .match .keys3
+
+returns-4 : tie.Need-returns-4
+returns-4 c = let n = (c .match .rest) in (n .0 .0 .1, n .0 .1, n .1)
+
+pub end-of-spec : {M : Type 1} → statement M
+end-of-spec = tie.close (tie.spec returns returns-2 returns-3 returns-4)

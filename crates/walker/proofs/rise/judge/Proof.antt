@@ -1,0 +1,195 @@
+-- `rise::judge` meets its contract: a return for each verdict and connective.
+use Prim.Native.Nat.{_<_}
+use borrow.Author.Needs.{needs}
+use borrow.Rule.Slice.Mut.{setVals}
+use denote.Ref.{now}
+use native.Mathlib.Omega.{arith}
+use mathlib.Core.Path.{refl, sym, _∙_, ap}
+use lib.ListN.{length, length-set}
+use Rattle.walker.specs.Loop.{Topped, Rising}
+use Rattle.walker.proofs.Rises.{son-finished}
+use Rattle.walker.proofs.Turns.{rose-up, rose-yes, Judges, judging, judge-small, judge-leads, judge-bad, judge-on, judge-not, judge-imp}
+use Rattle.walker.proofs.rise.judge.Statement.{statement}
+use Rattle.walker.proofs.rise.judge.Tie as tie
+
+-- what is known at the start
+known : (c : tie.After-put) →
+    (let s = c .before .before .before .before in
+    let k = s .before .before .before .before in
+    let a = k .before .before .before .before .args in
+    Topped (now (a .w)) (a .r) 4 × Rising (now (a .w)) (a .r))
+known c =
+    let s = c .before .before .before .before in
+    let k = s .before .before .before .before in
+    k .before .before .before .before .pre
+
+token-small : (c : tie.After-put) →
+    (let s = c .before .before .before .before in
+    s .before .before .before .before .head-of .result < 1024)
+token-small c =
+    let s = c .before .before .before .before in
+    let h = s .before .before .before .before in
+    omega (arith, h .head-of .ensures, judge-small (known c .0))
+
+-- what was read at the node, which has nothing left to do now
+read : (c : tie.After-put) →
+    (let inner = c .before .before .before .before in
+    let head = inner .before .before .before .before in
+    let a = head .before .before .before .before .args in
+    Judges (now (a .w)) (now (setVals (c .put .last .0) (a .w))) (a .r) (head .head-of .result) (inner .before .before .rest-of .result)
+    (inner .inner-of .result) (c .before .before .bad-of .result))
+read c =
+    let inner = c .before .before .before .before in
+    let head = inner .before .before .before .before in
+    judging (known c .0) (head .head-of .ensures) (inner .before .before .rest-of .ensures) (inner .inner-of .ensures) (c .before .before .bad-of .ensures)
+    (c .put .ensures)
+
+sub-k : tie.Need-sub-k
+sub-k c = search needs
+
+head-of-requires : tie.Need-head-of-requires
+head-of-requires c κs = search needs
+
+rest-of-requires : tie.Need-rest-of-requires
+rest-of-requires c κs = search needs
+
+inner-of-requires : tie.Need-inner-of-requires
+inner-of-requires c κs = search needs
+
+bad-of-requires : tie.Need-bad-of-requires
+bad-of-requires c κs = search needs
+
+cast-put : tie.Need-cast-put
+cast-put c = search needs
+
+mul-put : tie.Need-mul-put
+mul-put c = search needs
+
+add-put : tie.Need-add-put
+add-put c = search needs
+
+add-put-2 : tie.Need-add-put-2
+add-put-2 c = search needs
+
+put-requires : tie.Need-put-requires
+put-requires c κs = search needs
+
+code-requires : tie.Need-code-requires
+code-requires c κs =
+    let put = c .before .before .before .before .before in
+    omega (arith, token-small put, known put .0 .path .size, simp length-set at (ap length (put .put .ensures)))
+
+add-end : tie.Need-add-end
+add-end c =
+    let mode = c .before .before .before .before in
+    let put = mode .before .before .before .before in
+    omega (arith, token-small put)
+
+end-requires : tie.Need-end-requires
+end-requires c κs =
+    let mode = c .before .before .before .before in
+    let put = mode .before .before .before .before in
+    omega (arith, token-small put, known put .0 .path .size, simp length-set at (ap length (put .put .ensures)))
+
+plain-due-requires : tie.Need-plain-due-requires
+plain-due-requires c κs = search needs
+
+due-requires : tie.Need-due-requires
+due-requires c κs = search needs
+
+same-length : tie.Need-same-length
+same-length c = search needs
+
+returns : tie.Need-returns
+returns c =
+    let test = c .before .before .before .before in
+    let mode = test .before .before .before in
+    let put = mode .before .before .before .before in
+    rose-yes (c .due .ensures) (c .before .plain-due .ensures) (mode .if1 .taken)
+    (λ d o. judge-imp (read put) (sym (test .before .code .ensures) ∙ test .if2 .taken) (c .before .before .end .ensures))
+
+plain-due-requires-2 : tie.Need-plain-due-requires-2
+plain-due-requires-2 c κs = search needs
+
+due-requires-2 : tie.Need-due-requires-2
+due-requires-2 c κs = search needs
+
+same-length-2 : tie.Need-same-length-2
+same-length-2 c = search needs
+
+returns-2 : tie.Need-returns-2
+returns-2 c =
+    let test = c .before .before in
+    let mode = test .before .before .before in
+    let put = mode .before .before .before .before in
+    rose-yes (c .due2 .ensures) (c .before .plain-due2 .ensures) (mode .if1 .taken)
+    (λ d o. judge-not (read put) (λ e. test .if2 .left (test .before .code .ensures ∙ e)))
+
+error-due-requires : tie.Need-error-due-requires
+error-due-requires c κs = search needs
+
+due-requires-3 : tie.Need-due-requires-3
+due-requires-3 c κs = search needs
+
+same-length-3 : tie.Need-same-length-3
+same-length-3 c = search needs
+
+returns-3 : tie.Need-returns-3
+returns-3 c =
+    let test = c .before .before in
+    let mode = test .before .before in
+    let put = mode .before .before .before .before in
+    rose-up (c .due3 .ensures) (c .before .error-due .ensures) (son-finished (known put .1) (mode .if1 .left)) (λ d o. judge-bad (read put) (test .if3 .taken))
+
+list-at-requires : tie.Need-list-at-requires
+list-at-requires c κs =
+    let mode = c .before .before .before in
+    let put = mode .before .before .before .before in
+    judge-leads (read put) (known put .0)
+
+due-requires-4 : tie.Need-due-requires-4
+due-requires-4 c κs = search needs
+
+same-length-4 : tie.Need-same-length-4
+same-length-4 c = search needs
+
+returns-4 : tie.Need-returns-4
+returns-4 c =
+    let test = c .before .before .before in
+    let mode = test .before .before in
+    let put = mode .before .before .before .before in
+    rose-up (c .due4 .ensures) refl (son-finished (known put .1) (mode .if1 .left)) (λ d o. judge-on (read put) (test .if3 .left) (c .before .list-at .ensures))
+
+pub judge-spec : {M : Type 1} → statement M
+judge-spec =
+    tie.close
+    (tie.spec
+    sub-k
+    head-of-requires
+    rest-of-requires
+    inner-of-requires
+    bad-of-requires
+    cast-put
+    mul-put
+    add-put
+    add-put-2
+    put-requires
+    code-requires
+    add-end
+    end-requires
+    plain-due-requires
+    due-requires
+    same-length
+    returns
+    plain-due-requires-2
+    due-requires-2
+    same-length-2
+    returns-2
+    error-due-requires
+    due-requires-3
+    same-length-3
+    returns-3
+    list-at-requires
+    due-requires-4
+    same-length-4
+    returns-4)

@@ -1,0 +1,33 @@
+-- `sons::to_leaf` meets its contract.
+use borrow.Author.Needs.{needs}
+use Rattle.walker.proofs.Onto.{stepped}
+use Rattle.walker.proofs.Simple.{leaf-down}
+use Rattle.walker.proofs.sons.to_leaf.Statement.{statement}
+use Rattle.walker.proofs.sons.to_leaf.Tie as tie
+
+push-requires : tie.Need-push-requires
+push-requires c κs = search needs
+
+add-due : tie.Need-add-due
+add-due c = search needs
+
+due-requires : tie.Need-due-requires
+due-requires c κs = search needs
+
+same-length : tie.Need-same-length
+same-length c = search needs
+
+returns : tie.Need-returns
+returns c =
+    let p = c .before .before .before .before in
+    stepped (c .due .ensures) (leaf-down (p .push .ensures) (p .before .before .before .pre))
+
+pub to-leaf-spec : {M : Type 1} → statement M
+to-leaf-spec =
+    tie.close
+    (tie.spec
+    push-requires
+    add-due
+    due-requires
+    same-length
+    returns)

@@ -1,0 +1,204 @@
+-- How the work words hold the path: frames, list pointers and what is due. Meaning is given by recursion on the frames and items, never on
+-- memory. A frame at index i mentions only nodes below i. Assumes nothing.
+use Prim.Native.Nat.{ℕ, suc, _+_, _*_, _-_, _≤_, _<_}
+use mathlib.Core.Path.{_≡_}
+use mathlib.Core.Bool.{Bool, true, false}
+use mathlib.Core.List.{List, [], _∷_, _++_}
+use lib.ListN.{length, getD, drop}
+use lib.Dec.{T}
+use lib.IntN.{ℤ, pos, _+ℤ_}
+use Rattle.specification.specs.declared.Setting.{Setting}
+use Rattle.specification.specs.declared.Tallies.{Tallies}
+use Rattle.specification.specs.Bytes.{Bytes}
+use Rattle.specification.specs.Number.{in32}
+use Rattle.specification.specs.Lines.{Declared, cells}
+use Rattle.specification.specs.Ast.{Term, Formula, truth, and, or, imp, neg, eq, compare, ex, some, all}
+use Rattle.specification.specs.Place.{Place, cell, local}
+use Rattle.specification.specs.Value.{Slot, empty, full, Valuation}
+use Rattle.specification.specs.Run.{Run}
+use Rattle.specification.proofs.Laws.Scope.{Scope, Ok, Valid}
+use Rattle.values.specs.Word.{biased, signed}
+use Rattle.sheet.specs.Tables.{Words}
+use Rattle.sheet.specs.Held.{codeAt, endAt, TermsAt, LocalAt, FormulaAt, Shallow, slotOf, Holds, ArraysAt}
+use Rattle.walker.specs.declared.Due.{Due}
+use Rattle.walker.specs.Node.{headAt, restAt, todoAt, slotAt, hadAt, oldAt, currentAt, lastAt, innerAt, badAt}
+use Rattle.walker.specs.Frame.{Item, form, again, What, the, success, failure, error, Question, denying, implying, Frame, pass, other, undo, range, asks, here, below, len, innerIn}
+
+-- ---- formulas that the tables can hold
+
+pub record Good (D : Declared) (F : Formula) : Type 0 where
+  pub scope : Scope
+  pub locals : (l : ℕ) → T (scope l) → l < 32
+  pub ok : Ok D scope F
+  pub shallow : Shallow F
+
+-- F stands from token i of the tables t on
+pub record Stands (D : Declared) (t : Words) (i : ℕ) (F : Formula) : Type 0 where
+  pub held : FormulaAt t i F
+  pub good : Good D F
+
+-- the formula under a `some` or `all` whose token is h
+abbrev pub bodyOf : Words → ℕ → ℕ
+bodyOf t h = endAt t (endAt t (suc (suc h)))
+
+-- token h is a quantifier over the local l, of F
+pub record Binds (D : Declared) (t : Words) (h l : ℕ) (F : Formula) : Type 0 where
+  pub near : suc (suc h) < 1024
+  pub middle : endAt t (suc (suc h)) < 1024
+  pub local : LocalAt t (suc h) l
+  pub small : l < 32
+  pub inside : bodyOf t h < 1024
+  pub body : Stands D t (bodyOf t h) F
+
+-- n values are left after the word `current`, up to the word `last`, and v is the lowest
+pub record LeftAfter (current last n : ℕ) (v : ℤ) : Type 0 where
+  pub fits : last < 4294967296
+  pub order : current ≤ last
+  pub count : n ≡ last - current
+  pub lowest : v ≡ signed current +ℤ pos 1
+
+-- ---- what a run is about: the tables and the output at entry, the sheet's declarations, the setting, and the run's result
+
+pub record World : Type 0 where
+  pub tables : Words
+  pub declared : Declared
+  pub setting : Setting
+  pub output : Bytes
+  pub result : Run
+
+-- ---- lists and what is due
+
+-- pointer p, 0 or one more than the number of a node below n, stands for the items
+abbrev pub Pend : World → Words → ℕ → ℕ → List Item → Type 0
+Pend c w n p [] = p ≡ 0
+Pend c w n p (form G ∷ is) =
+    (k : ℕ)
+    × (p ≡ suc k)
+    × (k < n)
+    × (suc (headAt w k) < 1024)
+    × (codeAt (c .tables) (headAt w k) ≡ 2)
+    × (endAt (c .tables) (suc (headAt w k)) < 1024)
+    × Stands (c .declared) (c .tables) (endAt (c .tables) (suc (headAt w k))) G
+    × Pend c w k (restAt w k) is
+Pend c w n p (again l F m v ∷ is) =
+    (k : ℕ)
+    × (p ≡ suc k)
+    × (k < n)
+    × (codeAt (c .tables) (headAt w k) ≡ 14)
+    × Binds (c .declared) (c .tables) (headAt w k) l F
+    × LeftAfter (currentAt w k) (lastAt w k) m v
+    × Pend c w k (restAt w k) is
+
+-- the words of what is due (job 0 a formula, 1 the empty list, 2 an `all` that goes on, 3 a success leaf, 4 a failure leaf, 5 an error leaf)
+abbrev pub Job : World → Words → ℕ → Due → What → Type 0
+Job c w n d (the []) = d .job ≡ 1
+Job c w n d (the (form F ∷ is)) =
+    (d .job ≡ 0) × (d .head < 1024) × Stands (c .declared) (c .tables) (d .head) F × Pend c w n (d .rest) is
+Job c w n d (the (again l F m v ∷ is)) =
+    (d .job ≡ 2)
+    × (codeAt (c .tables) (d .head) ≡ 14)
+    × Binds (c .declared) (c .tables) (d .head) l F
+    × LeftAfter (d .current) (d .last) m v
+    × Pend c w n (d .rest) is
+Job c w n d success = d .job ≡ 3
+Job c w n d failure = d .job ≡ 4
+Job c w n d (error κ tok) = (d .job ≡ 5) × (d .kind ≡ κ) × (d .head ≡ tok)
+
+-- ---- frames
+
+abbrev pub bit : Bool → ℕ
+bit true = 1
+bit false = 0
+
+-- two words that hold a slot
+abbrev pub Saved : ℕ → ℕ → Slot → Type 0
+Saved had old empty = had ≡ 0
+Saved had old (full z) = (had ≡ 1) × (old ≡ biased z)
+
+-- a place that has a slot in the tables
+abbrev pub InTable : Place → Type 0
+InTable (cell c) = c < 512
+InTable (local l) = l < 32
+
+-- node i changed p, and keeps what α had there
+pub record Changed (w : Words) (i : ℕ) (p : Place) (α : Valuation) : Type 0 where
+  pub slot : slotAt w i ≡ slotOf p
+  pub inside : InTable p
+  pub saved : Saved (hadAt w i) (oldAt w i) (α p)
+
+-- the question of the node whose token is h
+abbrev pub Asks : World → ℕ → Question → Type 0
+Asks c h denying = codeAt (c .tables) h ≡ 5
+Asks c h (implying G) =
+    (codeAt (c .tables) h ≡ 4)
+    × (suc h < 1024)
+    × (endAt (c .tables) (suc h) < 1024)
+    × Stands (c .declared) (c .tables) (endAt (c .tables) (suc h)) G
+
+-- node i; m says whether it stands in an inner tree
+abbrev pub FrameAt : World → Words → ℕ → Bool → Frame → Type 0
+FrameAt c w i m (pass α) = todoAt w i ≡ 0
+FrameAt c w i m (other G is α) =
+    (todoAt w i ≡ 1)
+    × (suc (headAt w i) < 1024)
+    × (endAt (c .tables) (suc (headAt w i)) < 1024)
+    × Stands (c .declared) (c .tables) (endAt (c .tables) (suc (headAt w i))) G
+    × Pend c w i (restAt w i) is
+FrameAt c w i m (undo p s α) = (todoAt w i ≡ 2) × Changed w i p α
+FrameAt c w i m (range l x j n F is α) =
+    (todoAt w i ≡ 3)
+    × Changed w i (local l) α
+    × Binds (c .declared) (c .tables) (headAt w i) l F
+    × LeftAfter (currentAt w i) (lastAt w i) n (x +ℤ pos (suc j))
+    × (signed (currentAt w i) ≡ x +ℤ pos j)
+    × Pend c w i (restAt w i) is
+FrameAt c w i m (asks tok q is α e) =
+    (todoAt w i ≡ 4)
+    × (headAt w i ≡ tok)
+    × (tok < 1024)
+    × Asks c tok q
+    × (innerAt w i ≡ bit m)
+    × (badAt w i ≡ bit e)
+    × Pend c w i (restAt w i) is
+
+abbrev pub Stack : World → Words → List Frame → Type 0
+Stack c w [] = Unit {0}
+Stack c w (f ∷ fr) = FrameAt c w (len fr) (innerIn fr) f × Stack c w fr
+
+-- α is the valuation below the topmost frame, and so on down
+abbrev pub Chain : Valuation → List Frame → Type 0
+Chain α [] = Unit {0}
+Chain α (f ∷ fr) = (α ≡ below f) × Valid (here f) × Chain (here f) fr
+
+-- ---- the path as a whole
+
+-- the tokens of the tables
+abbrev pub SameTokens : Words → Words → Type 0
+SameTokens t w = (j : ℕ) → j < 4096 → getD w j 0 ≡ getD t j 0
+
+-- d nodes, at most as many as the path limit
+pub record Path (c : World) (w : Words) (d : ℕ) (α : Valuation) (fr : List Frame) : Type 0 where
+  pub size : 6144 + 12 * c .setting .path ≤ length w
+  pub limit : c .setting .path ≤ 32768
+  pub tokens : SameTokens (c .tables) w
+  pub arrays : ArraysAt w (c .declared)
+  pub cells : cells (c .declared) ≤ 512
+  pub few : length (c .declared .arrays) ≤ 16
+  pub deep : d ≡ len fr
+  pub inside : d ≤ c .setting .path
+  pub stack : Stack c w fr
+  pub chain : Chain α fr
+  pub holds : Holds w α
+  pub valid : Valid α
+
+-- the output o holds the n bytes b written, and beyond them what it held
+pub record Output (c : World) (o : Bytes) (n : ℕ) (b : Bytes) : Type 0 where
+  pub count : n ≡ length b
+  pub inside : n ≤ length (c .output)
+  pub bytes : o ≡ b ++ drop n (c .output)
+
+-- the tallies stay within words
+pub record Count (c : World) (t : Tallies) : Type 0 where
+  pub fits : c .setting .budget < 4294967296
+  pub budget : t .nodes ≤ c .setting .budget
+  pub leaves : t .answers + t .errors + t .fails ≤ t .nodes

@@ -1,0 +1,140 @@
+-- The invariant of the walk: what is left to visit gives the run's result. And the contracts of the functions that keep it.
+-- Assumes nothing.
+use Prim.Native.Nat.{ℕ, suc, _+_, _*_, _-_, _≤_, _<_}
+use mathlib.Core.Path.{_≡_}
+use mathlib.Core.Bool.{Bool, true, false}
+use mathlib.Core.List.{List, [], _∷_}
+use lib.ListN.{length, getD}
+use lib.Dec.{T, eqb}
+use lib.IntN.{ℤ, pos, _+ℤ_}
+use Rattle.specification.specs.declared.Tallies.{Tallies}
+use Rattle.specification.specs.Bytes.{Bytes, pick}
+use Rattle.specification.specs.Number.{in32}
+use Rattle.specification.specs.Place.{Place, put}
+use Rattle.specification.specs.Value.{empty, full, Valuation}
+use Rattle.specification.specs.Inner.{Tree, step}
+use Rattle.specification.specs.Visits.{Event, answer, error}
+use Rattle.specification.specs.Tree.{isElement}
+use Rattle.specification.specs.Run.{Run, going, stopped, spent, path, output}
+use Rattle.values.specs.Word.{biased}
+use Rattle.sheet.specs.Tables.{Words}
+use Rattle.sheet.specs.Held.{codeAt, slotOf}
+use Rattle.walker.specs.declared.Due.{Due}
+use Rattle.walker.specs.declared.Regs.{Regs}
+use Rattle.walker.specs.Walk as walks
+use Rattle.walker.specs.Node.{headAt, restAt, todoAt, slotAt, hadAt, oldAt, currentAt, lastAt, innerAt, badAt}
+use Rattle.walker.specs.Frame as frames
+use Rattle.walker.specs.Frame.{Item, What, the, treeItems, treeWhat, Frame, innerIn, resumeYes, resume}
+use Rattle.walker.specs.Path.{World, Pend, Job, bit, InTable, Path, Output, Count}
+
+-- ---- the states of a walk
+
+module _ (c : World) where
+  abbrev pub yes : List Frame → walks.Next
+  yes fr = resumeYes (c .declared) (c .setting) (length (c .output)) fr
+
+  abbrev pub no : List Frame → Bool → walks.Next
+  no fr = resume (c .declared) (c .setting) (length (c .output)) fr
+
+  abbrev pub tree : List Frame → What → Valuation → Tree
+  tree fr x α = treeWhat (c .declared) (innerIn fr) x α
+
+-- about to visit a node or leaf
+pub record Down (c : World) (o : Bytes) (w : Words) (r : Regs) : Type 0 where
+  pub x : What
+  pub fr : List Frame
+  pub α : Valuation
+  pub e : Bool
+  pub b : Bytes
+  pub path : Path c w (r .depth) α fr
+  pub inner : r .inner ≡ bit (innerIn fr)
+  pub bad : r .bad ≡ bit e
+  pub job : Job c w (r .depth) (r .due) x
+  pub out : Output c o (r .written) b
+  pub count : Count c (r .tallies)
+  pub result :
+      walks.walk (c .declared) (c .setting) (length (c .output)) (innerIn fr) (suc (r .depth)) (tree c fr x α) (yes c fr) (no c fr) e (r .tallies) b
+      ≡ c .result
+
+-- its visit counted
+pub record In (c : World) (o : Bytes) (w : Words) (r : Regs) : Type 0 where
+  pub x : What
+  pub fr : List Frame
+  pub α : Valuation
+  pub e : Bool
+  pub b : Bytes
+  pub path : Path c w (r .depth) α fr
+  pub inner : r .inner ≡ bit (innerIn fr)
+  pub bad : r .bad ≡ bit e
+  pub job : Job c w (r .depth) (r .due) x
+  pub out : Output c o (r .written) b
+  pub count : Count c (r .tallies)
+  pub room : r .depth < c .setting .path
+  pub leaves : r .tallies .answers + r .tallies .errors + r .tallies .fails < r .tallies .nodes
+  pub result :
+      walks.within (c .declared) (c .setting) (length (c .output)) (innerIn fr) (suc (r .depth)) (tree c fr x α) (yes c fr) (no c fr) e (r .tallies) b
+      ≡ c .result
+
+-- the present son of the topmost node is finished
+pub record Up (c : World) (o : Bytes) (w : Words) (r : Regs) : Type 0 where
+  pub fr : List Frame
+  pub α : Valuation
+  pub e : Bool
+  pub b : Bytes
+  pub path : Path c w (r .depth) α fr
+  pub inner : r .inner ≡ bit (innerIn fr)
+  pub bad : r .bad ≡ bit e
+  pub out : Output c o (r .written) b
+  pub count : Count c (r .tallies)
+  pub result : no c fr e (r .tallies) b ≡ c .result
+
+-- an inner tree has had a success leaf
+pub record Yes (c : World) (o : Bytes) (w : Words) (r : Regs) : Type 0 where
+  pub fr : List Frame
+  pub α : Valuation
+  pub b : Bytes
+  pub path : Path c w (r .depth) α fr
+  pub out : Output c o (r .written) b
+  pub count : Count c (r .tallies)
+  pub result : yes c fr (r .tallies) b ≡ c .result
+
+-- the event of a leaf with a block
+abbrev pub BlockOf : Due → Valuation → Event → Type 0
+BlockOf d α (answer β) = (d .job ≡ 3) × (β ≡ α)
+BlockOf d α (error κ tok β) = (d .job ≡ 5) × (d .kind ≡ κ) × (d .head ≡ tok) × (β ≡ α)
+BlockOf d α Event.node = ⊥
+BlockOf d α Event.fail = ⊥
+
+-- a leaf of the main tree is visited, and its block is due
+pub record Leaf (c : World) (o : Bytes) (w : Words) (r : Regs) : Type 0 where
+  pub v : Event
+  pub fr : List Frame
+  pub α : Valuation
+  pub e : Bool
+  pub b : Bytes
+  pub path : Path c w (r .depth) α fr
+  pub main : innerIn fr ≡ false
+  pub inner : r .inner ≡ 0
+  pub bad : r .bad ≡ bit e
+  pub block : BlockOf (r .due) α v
+  pub out : Output c o (r .written) b
+  pub count : Count c (r .tallies)
+  pub leaves : r .tallies .answers + r .tallies .errors + r .tallies .fails < r .tallies .nodes
+  pub result : walks.leaf (c .declared) (c .setting) (length (c .output)) v (no c fr e) (r .tallies) b ≡ c .result
+
+-- how the walk ended: 0 done, 1 spent, 2 path, 3 output
+unfoldable pub ended : ℕ → Tallies → Bytes → Run
+ended n t b =
+    pick (eqb n 0) (going t b) (pick (eqb n 1) (stopped spent t b) (pick (eqb n 2) (stopped path t b) (stopped output t b)))
+
+pub record Over (c : World) (o : Bytes) (r : Regs) : Type 0 where
+  pub b : Bytes
+  pub out : Output c o (r .written) b
+  pub result : ended (r .end) (r .tallies) b ≡ c .result
+
+pub data Sim (c : World) (o : Bytes) (w : Words) (r : Regs) : Type 0 where
+  over : r .mode ≡ 0 → Over c o r → Sim c o w r
+  down : r .mode ≡ 1 → Down c o w r → Sim c o w r
+  up : r .mode ≡ 2 → Up c o w r → Sim c o w r
+  won : r .mode ≡ 3 → Yes c o w r → Sim c o w r
+  block : r .mode ≡ 4 → Leaf c o w r → Sim c o w r

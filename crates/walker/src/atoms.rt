@@ -1,0 +1,116 @@
+// Entering a node whose first formula is an atom.
+ghost use mathlib.Core.Path.{_≡_};
+ghost use Prim.Native.Nat.{ℕ, _+_, _*_, _≤_, _<_};
+ghost use Rattle.walker.specs.Steps.{Entered, Stepped, Assigns, Sets, Tested, KindOf, Compares};
+use crate::Regs;
+use crate::nodes;
+use crate::registers;
+use crate::sons;
+
+// The value goes into the empty slot, then the rest.
+fn set(w: &mut [u32], r: Regs, slot: u32, value: u32) -> Regs
+    requires { ⌜ Sets (now w) r slot value ⌝ }
+    ensures { λ q. ⌜ Stepped (now (w .entry)) (now (w .exit)) r q ⌝ }
+{
+    let i = slot as usize;
+    let old = nodes::word(w, i + 1);
+    nodes::push(w, r, 2, slot, 0, old, 0, 0);
+    nodes::put(w, i, 1);
+    nodes::put(w, i + 1, value);
+    let d = nodes::list_at(w, r.due.rest);
+    registers::due(r, r.depth + 1, d, r.inner, r.bad)
+}
+
+// An `eq` with a bare side. In an inner tree no array element is assigned.
+fn assign(w: &mut [u32], r: Regs, slot: u32, value: u32) -> Regs
+    requires { ⌜ Assigns (now w) r slot value ⌝ }
+    ensures { λ q. ⌜ Stepped (now (w .entry)) (now (w .exit)) r q ⌝ }
+{
+    if r.inner == 0 {
+        return set(w, r, slot, value);
+    }
+    // the first element's slot: array 0 begins after the scalars
+    let first = 4096 + 2 * nodes::word(w, 5184);
+    if slot < first {
+        return set(w, r, slot, value);
+    }
+    if 5120 <= slot {
+        return set(w, r, slot, value);
+    }
+    sons::err(w, r, 1)
+}
+
+fn check(w: &mut [u32], r: Regs, holds: bool) -> Regs
+    requires { ⌜ Tested (now w) r holds ⌝ }
+    ensures { λ q. ⌜ Stepped (now (w .entry)) (now (w .exit)) r q ⌝ }
+{
+    if holds {
+        return sons::go_on(w, r);
+    }
+    sons::fail(w, r)
+}
+
+// `eq`: a bare side raises nothing if the other side has an error of its own; two bare sides are kind 1.
+pub(crate) fn enter_eq(w: &mut [u32], r: Regs) -> Regs
+    requires { ⌜ Entered (now w) r 6 ⌝ }
+    ensures { λ q. ⌜ Stepped (now (w .entry)) (now (w .exit)) r q ⌝ }
+{
+    let h = r.due.head;
+    let e = nodes::end(w, h);
+    let s = terms::evaluation::sides(w, h + 1, e);
+    if s.ltag == 2 {
+        return sons::err(w, r, s.left);
+    }
+    if s.rtag == 2 {
+        return sons::err(w, r, s.right);
+    }
+    if s.ltag == 1 {
+        if s.rtag == 1 {
+            return sons::err(w, r, 1);
+        }
+        return assign(w, r, s.left, s.right);
+    }
+    if s.rtag == 1 {
+        return assign(w, r, s.right, s.left);
+    }
+    check(w, r, s.left == s.right)
+}
+
+// The kind of the error of a side without a value.
+pub(crate) fn kind_of(tag: u32, value: u32) -> u32
+    ensures { λ k. ⌜ KindOf tag value k ⌝ }
+{
+    if tag == 1 {
+        return 1;
+    }
+    value
+}
+
+fn test(code: u32, x: u32, y: u32) -> bool
+    ensures { λ b. ⌜ Compares code x y b ⌝ }
+{
+    match code {
+        7 => x != y,
+        8 => x < y,
+        9 => x <= y,
+        10 => y < x,
+        _ => y <= x,
+    }
+}
+
+// The atoms that compare: words compare as their values do.
+pub(crate) fn enter_compare(w: &mut [u32], r: Regs, code: u32) -> Regs
+    requires { ⌜ (Entered (now w) r code) × (7 ≤ code) × (code ≤ 11) ⌝ }
+    ensures { λ q. ⌜ Stepped (now (w .entry)) (now (w .exit)) r q ⌝ }
+{
+    let h = r.due.head;
+    let e = nodes::end(w, h);
+    let s = terms::evaluation::sides(w, h + 1, e);
+    if s.ltag != 0 {
+        return sons::err(w, r, kind_of(s.ltag, s.left));
+    }
+    if s.rtag != 0 {
+        return sons::err(w, r, kind_of(s.rtag, s.right));
+    }
+    check(w, r, test(code, s.left, s.right))
+}

@@ -1,0 +1,219 @@
+// The loop: a visit, a step up, or a block.
+ghost use mathlib.Core.Path.{_≡_};
+ghost use Prim.Native.Nat.{_<_};
+ghost use Rattle.walker.specs.Steps.{Visited, Stepped};
+ghost use Rattle.walker.specs.Loop.{AtLeaf, LeafDone, VisitDue, Arrived, BlockDue, Blocked, Live, Moved, Readied, startRegs, Finished, EndOf, Walked};
+ghost use Rattle.walker.specs.Blocks.{HeadDue, headDue, passedRegs};
+use crate::Regs;
+use crate::atoms;
+use crate::connectives;
+use crate::inner;
+use crate::nodes;
+use crate::quantifiers;
+use crate::registers;
+use crate::rise;
+use listing::Head;
+use listing::Written;
+use specification::End;
+use specification::Outcome;
+use specification::Setting;
+use specification::Tallies;
+
+// A node whose visit is counted, by the code of its first formula.
+fn enter(w: &mut [u32], r: Regs) -> Regs
+    requires { ⌜ (Visited (now w) r) × (r .due .job < 3) ⌝ }
+    ensures { λ q. ⌜ Stepped (now (w .entry)) (now (w .exit)) r q ⌝ }
+{
+    if r.due.job == 1 {
+        return connectives::enter_empty(w, r);
+    }
+    if r.due.job == 2 {
+        return quantifiers::enter_again(w, r);
+    }
+    let c = nodes::code(w, r.due.head);
+    match c {
+        1 => connectives::enter_true(w, r),
+        2 => connectives::enter_and(w, r),
+        3 => connectives::enter_or(w, r),
+        4 | 5 => inner::enter_inner(w, r),
+        6 => atoms::enter_eq(w, r),
+        12 => quantifiers::enter_ex(w, r),
+        13 => quantifiers::enter_some(w, r),
+        14 => quantifiers::enter_all(w, r),
+        _ => atoms::enter_compare(w, r, c),
+    }
+}
+
+// A leaf whose visit is counted. In an inner tree a success ends it and an error leaves its mark; in the main tree an answer or an error
+// has a block.
+fn at_leaf(r: Regs) -> Regs
+    requires { ⌜ AtLeaf r ⌝ }
+    ensures { λ q. ⌜ LeafDone r q ⌝ }
+{
+    let t = r.tallies;
+    if r.inner == 1 {
+        if r.due.job == 3 {
+            return registers::leaf(r, 3, r.bad, t, r.written);
+        }
+        if r.due.job == 4 {
+            return registers::leaf(r, 2, r.bad, t, r.written);
+        }
+        return registers::leaf(r, 2, 1, t, r.written);
+    }
+    if r.due.job == 4 {
+        let u = registers::counted(t, 3);
+        return registers::leaf(r, 2, r.bad, u, r.written);
+    }
+    registers::leaf(r, 4, r.bad, t, r.written)
+}
+
+// The visit that is due: the two limits, then the node is counted.
+fn visit(w: &mut [u32], r: Regs, path: u32, budget: u32) -> Regs
+    requires { ⌜ VisitDue (now w) r path budget ⌝ }
+    ensures { λ q. ⌜ Arrived (now (w .entry)) (now (w .exit)) r q path budget ⌝ }
+{
+    let t = r.tallies;
+    if t.nodes == budget {
+        return registers::stop(r, 1);
+    }
+    if path <= r.depth {
+        return registers::stop(r, 2);
+    }
+    let u = registers::counted(t, 0);
+    let q = registers::leaf(r, 1, r.bad, u, r.written);
+    if 3 <= r.due.job {
+        return at_leaf(q);
+    }
+    enter(w, q)
+}
+
+// The head of the block that is due.
+fn head(r: Regs) -> Head
+    requires { ⌜ HeadDue r ⌝ }
+    ensures { λ h. ⌜ h ≡ headDue r ⌝ }
+{
+    let t = r.tallies;
+    if r.due.job == 3 {
+        return Head::Answer {
+            number: t.answers + 1,
+        };
+    }
+    Head::Error {
+        number: t.errors + 1,
+        kind: r.due.kind,
+        token: r.due.head,
+    }
+}
+
+// A leaf with a block, its tally added: an answer or an error.
+fn passed(r: Regs, written: usize) -> Regs
+    requires { ⌜ HeadDue r ⌝ }
+    ensures { λ q. ⌜ q ≡ passedRegs r written ⌝ }
+{
+    let t = r.tallies;
+    if r.due.job == 3 {
+        let u = registers::counted(t, 1);
+        return registers::leaf(r, 2, r.bad, u, written);
+    }
+    let u = registers::counted(t, 2);
+    registers::leaf(r, 2, r.bad, u, written)
+}
+
+// The block that is due: skipped, written into the rest of the output, or without room there.
+fn block(w: &[u32], out: &mut [u8], r: Regs, setting: Setting, scalars: u32, arrays: u32) -> Regs
+    requires { ⌜ BlockDue (now w) (now out) r setting scalars arrays ⌝ }
+    ensures { λ q. ⌜ Blocked (now (w .entry)) (now (out .entry)) (now (out .exit)) r q setting scalars arrays ⌝ }
+{
+    let t = r.tallies;
+    let written = r.written;
+    if t.answers + t.errors < setting.skip {
+        return passed(r, written);
+    }
+    let h = head(r);
+    let rest = &mut out[written..];
+    match listing::write(rest, w, scalars, arrays, h) {
+        Written::Full => registers::stop(r, 3),
+        Written::Bytes(n) => passed(r, written + n),
+    }
+}
+
+fn step(w: &mut [u32], out: &mut [u8], r: Regs, setting: Setting, scalars: u32, arrays: u32) -> Regs
+    requires { ⌜ Live (now w) (now out) r setting scalars arrays ⌝ }
+    ensures { λ q. ⌜ Moved (now (w .entry)) (now (w .exit)) (now (out .entry)) (now (out .exit)) r q setting scalars arrays ⌝ }
+{
+    if r.mode == 1 {
+        return visit(w, r, setting.path, setting.budget);
+    }
+    if r.mode == 4 {
+        return block(w, out, r, setting, scalars, arrays);
+    }
+    rise::ascend(w, r)
+}
+
+// The walk from the root, before its first visit.
+fn start() -> Regs
+    ensures { λ r. ⌜ r ≡ startRegs ⌝ }
+{
+    let d = registers::plain_due(0, 0, 0);
+    let t = Tallies {
+        nodes: 0,
+        answers: 0,
+        errors: 0,
+        fails: 0,
+    };
+    Regs {
+        mode: 1,
+        depth: 0,
+        due: d,
+        inner: 0,
+        bad: 0,
+        end: 0,
+        tallies: t,
+        written: 0,
+    }
+}
+
+fn walk(w: &mut [u32], out: &mut [u8], setting: Setting, scalars: u32, arrays: u32) -> Regs
+    requires { ⌜ Readied (now w) setting scalars arrays ⌝ }
+    ensures { λ r. ⌜ Finished (now (w .entry)) (now (w .exit)) (now (out .entry)) (now (out .exit)) setting scalars arrays r ⌝ }
+{
+    let mut r = start();
+    while r.mode != 0 {
+        r = step(w, out, r, setting, scalars, arrays);
+    }
+    r
+}
+
+// How the walk ended.
+fn end_of(code: u32) -> End
+    ensures { λ e. ⌜ EndOf code e ⌝ }
+{
+    match code {
+        0 => End::Done,
+        1 => End::Spent,
+        2 => End::Path,
+        _ => End::Output,
+    }
+}
+
+// Walks the tree of the sheet whose tables the work words hold, writes its listing, and leaves the work words all zero.
+pub fn walk_tables(
+    w: &mut [u32],
+    out: &mut [u8],
+    setting: Setting,
+    scalars: u32,
+    arrays: u32,
+) -> Outcome
+    requires { ⌜ Readied (now w) setting scalars arrays ⌝ }
+    ensures { λ r. ⌜ Walked (now (w .entry)) (now (w .exit)) (now (out .entry)) (now (out .exit)) setting scalars arrays r ⌝ }
+{
+    let r = walk(w, out, setting, scalars, arrays);
+    sheet::clear(w);
+    let end = end_of(r.end);
+    let t = r.tallies;
+    Outcome::Ran {
+        end,
+        tallies: t,
+        written: r.written,
+    }
+}

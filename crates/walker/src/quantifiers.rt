@@ -1,0 +1,134 @@
+// Entering a node whose first formula is a quantifier.
+ghost use mathlib.Core.Path.{_≡_};
+ghost use Prim.Native.Nat.{_+_};
+ghost use Rattle.terms.specs.Results.{Asked, Valued};
+ghost use Rattle.walker.specs.Path.{bodyOf};
+ghost use Rattle.walker.specs.Binding.{Local, Middle, Keeps, Takes};
+ghost use Rattle.walker.specs.Steps.{Visited, Entered, Stepped, Opens, Rounds};
+use crate::Regs;
+use crate::atoms;
+use crate::nodes;
+use crate::registers;
+use crate::sons;
+use terms::Sides;
+
+// Pushes the node with the slot of the local that its quantifier binds, and gives the slot's first word.
+fn keep(w: &mut [u32], r: Regs, todo: u32, current: u32, last: u32) -> usize
+    requires { ⌜ Local (now w) r ⌝ }
+    ensures { λ i. ⌜ Keeps (now (w .entry)) (now (w .exit)) r todo i current last ⌝ }
+{
+    let slot = 5120 + 2 * nodes::operand(w, r.due.head + 1);
+    let i = slot as usize;
+    let had = nodes::word(w, i);
+    let old = nodes::word(w, i + 1);
+    nodes::push(w, r, todo, slot, had, old, current, last);
+    i
+}
+
+// The first token of the formula under a bounded quantifier at token h.
+fn body(w: &[u32], h: u32) -> u32
+    requires { ⌜ Middle (now w) h ⌝ }
+    ensures { λ i. ⌜ i ≡ bodyOf (now (w .entry)) h ⌝ }
+{
+    let e = nodes::end(w, h + 2);
+    nodes::end(w, e)
+}
+
+// The values of the two bounds of the quantifier at token h.
+fn bounds(w: &mut [u32], h: u32) -> Sides
+    requires { ⌜ Middle (now w) h × Asked (now w) (h + 2) (bodyOf (now w) h) ⌝ }
+    ensures { λ s. ⌜ Valued (now (w .entry)) (now (w .exit)) (h + 2) (bodyOf (now (w .entry)) h) s ⌝ }
+{
+    let e = body(w, h);
+    terms::evaluation::sides(w, h + 2, e)
+}
+
+// Pushes the node of a bounded quantifier, gives its local the value, and tells the token of its formula.
+fn take(w: &mut [u32], r: Regs, todo: u32, value: u32, last: u32) -> u32
+    requires { ⌜ Local (now w) r × Middle (now w) (r .due .head) ⌝ }
+    ensures { λ b. ⌜ Takes (now (w .entry)) (now (w .exit)) r todo value last b ⌝ }
+{
+    let b = body(w, r.due.head);
+    let i = keep(w, r, todo, value, last);
+    nodes::put(w, i, 1);
+    nodes::put(w, i + 1, value);
+    b
+}
+
+// `ex`: its formula, the local without a value, then the rest.
+pub(crate) fn enter_ex(w: &mut [u32], r: Regs) -> Regs
+    requires { ⌜ Entered (now w) r 12 ⌝ }
+    ensures { λ q. ⌜ Stepped (now (w .entry)) (now (w .exit)) r q ⌝ }
+{
+    let i = keep(w, r, 2, 0, 0);
+    nodes::put(w, i, 0);
+    let d = registers::plain_due(0, r.due.head + 2, r.due.rest);
+    registers::due(r, r.depth + 1, d, r.inner, r.bad)
+}
+
+// `some` with its first value.
+fn open(w: &mut [u32], r: Regs, low: u32, high: u32) -> Regs
+    requires { ⌜ Opens (now w) r low high ⌝ }
+    ensures { λ q. ⌜ Stepped (now (w .entry)) (now (w .exit)) r q ⌝ }
+{
+    let b = take(w, r, 3, low, high);
+    let d = registers::plain_due(0, b, r.due.rest);
+    registers::due(r, r.depth + 1, d, r.inner, r.bad)
+}
+
+pub(crate) fn enter_some(w: &mut [u32], r: Regs) -> Regs
+    requires { ⌜ Entered (now w) r 13 ⌝ }
+    ensures { λ q. ⌜ Stepped (now (w .entry)) (now (w .exit)) r q ⌝ }
+{
+    let s = bounds(w, r.due.head);
+    if s.ltag != 0 {
+        return sons::err(w, r, atoms::kind_of(s.ltag, s.left));
+    }
+    if s.rtag != 0 {
+        return sons::err(w, r, atoms::kind_of(s.rtag, s.right));
+    }
+    if s.right < s.left {
+        return sons::fail(w, r);
+    }
+    open(w, r, s.left, s.right)
+}
+
+// `all` with the value `value`: its formula, then the same `all` over the values left, then the rest: this node is the list's next cell.
+fn round(w: &mut [u32], r: Regs, value: u32, last: u32) -> Regs
+    requires { ⌜ Rounds (now w) r value last ⌝ }
+    ensures { λ q. ⌜ Stepped (now (w .entry)) (now (w .exit)) r q ⌝ }
+{
+    let b = take(w, r, 2, value, last);
+    let d = registers::plain_due(0, b, r.depth + 1);
+    registers::due(r, r.depth + 1, d, r.inner, r.bad)
+}
+
+pub(crate) fn enter_all(w: &mut [u32], r: Regs) -> Regs
+    requires { ⌜ Entered (now w) r 14 ⌝ }
+    ensures { λ q. ⌜ Stepped (now (w .entry)) (now (w .exit)) r q ⌝ }
+{
+    let s = bounds(w, r.due.head);
+    if s.ltag != 0 {
+        return sons::err(w, r, atoms::kind_of(s.ltag, s.left));
+    }
+    if s.rtag != 0 {
+        return sons::err(w, r, atoms::kind_of(s.rtag, s.right));
+    }
+    if s.right < s.left {
+        return sons::go_on(w, r);
+    }
+    round(w, r, s.left, s.right)
+}
+
+// An `all` that comes first again: the next value, or no value left.
+pub(crate) fn enter_again(w: &mut [u32], r: Regs) -> Regs
+    requires { ⌜ (Visited (now w) r) × (r .due .job ≡ 2) ⌝ }
+    ensures { λ q. ⌜ Stepped (now (w .entry)) (now (w .exit)) r q ⌝ }
+{
+    let last = r.due.last;
+    let current = r.due.current;
+    if current == last {
+        return sons::go_on(w, r);
+    }
+    round(w, r, current + 1, last)
+}
