@@ -1,0 +1,72 @@
+-- The first and the third demand (specs/Demands.antt) hold of every answered call. Assumes nothing.
+use Prim.Native.Nat.{ℕ, _≤_}
+use native.Mathlib.Omega.{arith}
+use mathlib.Core.Path.{_≡_, refl, sym, _∙_, ap, subst}
+use mathlib.Core.List.{List, [], _∷_, _++_}
+use lib.ListN.{length, take, drop}
+use lib.Seq.{take-at, drop-at}
+use Rattle.specification.specs.declared.Setting.{Setting}
+use Rattle.specification.specs.declared.Tallies.{Tallies}
+use Rattle.specification.specs.declared.End.{End}
+use Rattle.specification.specs.declared.End.the-variants.{Done}
+use Rattle.specification.specs.declared.Outcome.{Outcome}
+use Rattle.specification.specs.declared.Outcome.the-variants.{Refused, Ran}
+use Rattle.specification.specs.Bytes.{Bytes}
+use Rattle.specification.specs.Listing.{Block, listingText}
+use Rattle.specification.specs.Outcome.{Result, refusal, ran, call, written, outcome, outputAfter, wordsAfter}
+use Rattle.specification.specs.Demand3.{Demand3}
+use Rattle.specification.proofs.Laws.Demand3.{demand3}
+use Rattle.specification.proofs.Laws.Whole.{whole-blocks}
+use Rattle.vodlasim.specs.Answered.{Answered}
+use Rattle.vodlasim.specs.Demands.{Memory, Agrees}
+
+-- a result by its outcome
+ran-of : (x : Result) (e : End) (t : Tallies) (n : ℕ) → outcome x ≡ Ran e t n → (w : Bytes) × (x ≡ ran e t w) × (length w ≡ n)
+ran-of (refusal k p) e t n h = let z : _≡_ {A = ℕ} 0 1 = cc in absurd (omega arith)
+ran-of (ran e′ t′ w) e t n h =
+    let p : e′ ≡ e = cc in
+    let q : t′ ≡ t = cc in
+    (w, ap (λ x. ran x t′ w) p ∙ ap (λ x. ran e x w) q, cc)
+
+refused-of : (x : Result) (k p : ℕ) → outcome x ≡ Refused k p → x ≡ refusal k p
+refused-of (refusal k′ p′) k p h =
+    let a : k′ ≡ k = cc in
+    let b : p′ ≡ p = cc in
+    ap (λ x. refusal x p′) a ∙ ap (refusal k) b
+refused-of (ran e t w) k p h = let z : _≡_ {A = ℕ} 0 1 = cc in absurd (omega arith)
+
+module _ (sheet : Bytes) (S : Setting) (work work' : List ℕ) (output output' : Bytes) (r : Outcome) (a : Answered sheet S work work' output output' r) where
+  abbrev result : Result
+  result = call sheet S (length work) (length output)
+
+  -- what stands in the output where the call ran
+  stands : (e : End) (t : Tallies) (n : ℕ) → r ≡ Ran e t n →
+      (w : Bytes) × (result ≡ ran e t w) × (length w ≡ n) × (output' ≡ w ++ drop n output)
+  unfolding outputAfter
+  stands e t n h =
+      let (w, is, count) = ran-of result e t n (sym (a .result) ∙ h) in
+      (w, is, count, a .output ∙ ap (λ x. written x ++ drop (length (written x)) output) is ∙ ap (λ k. w ++ drop k output) count)
+
+  pub memory : Memory sheet S work work' output output' r
+  unfolding wordsAfter outputAfter
+  memory = record {
+    zero = a .work;
+    blocks = λ e t n h.
+        let (w, is, count, bytes) = stands e t n h in
+        let (bs, whole, fits) = whole-blocks sheet S (length work) (length output) e t w is in (
+          subst (_≤ length output) count fits,
+          (bs, ap (take n) bytes ∙ take-at w (drop n output) n count ∙ whole),
+          ap (drop n) bytes ∙ drop-at w (drop n output) n count,
+        );
+    refused = λ k p h.
+        let is : result ≡ refusal k p = refused-of result k p (sym (a .result) ∙ h) in
+        (a .output ∙ ap (λ x. written x ++ drop (length (written x)) output) is, is);
+  }
+
+  pub agrees : Agrees sheet S output' r
+  agrees = record {
+    done = λ t n skip h.
+        let (w, is, count, bytes) = stands Done t n h in
+        subst (Demand3 sheet) (sym (ap (take n) bytes ∙ take-at w (drop n output) n count))
+        (demand3 sheet S (length work) (length output) t w skip is);
+  }

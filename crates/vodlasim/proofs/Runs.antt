@@ -1,0 +1,173 @@
+-- The call by its parts: a sheet that is read leaves what the walk wants, and each of the four ways of the call answers. Assumes nothing.
+use Prim.Native.Nat.{ℕ, _+_, _*_, _≤_, _<_}
+use native.Mathlib.Omega.{arith}
+use mathlib.Core.Path.{_≡_, refl, sym, _∙_, ap, subst}
+use mathlib.Core.Bool.{Bool, true, false, _&&_}
+use mathlib.Core.List.{List, []}
+use lib.ListN.{length, replicate}
+use lib.Dec.{leb}
+use borrow.Author.Tests.{leb-true, le-leb, lt-leb}
+use Rattle.specification.specs.declared.Setting.{Setting}
+use Rattle.specification.specs.declared.Outcome.{Outcome}
+use Rattle.specification.specs.declared.Outcome.the-variants as outcomes
+use Rattle.specification.specs.Bytes.{Bytes, bytes, feed, pick, between}
+use Rattle.specification.specs.Parser.{Reader, Read, refused, found, mark, key, finish}
+use Rattle.specification.specs.Lines.{Declared, line, arraysLine}
+use Rattle.specification.specs.Given.{givenLine}
+use Rattle.specification.specs.Sheet.{Sheet, sheet, opened, read}
+use Rattle.specification.specs.Outcome.{Result, refusal, afterReading, enoughMemory, call, outcome, outputAfter, wordsAfter}
+use Rattle.specification.proofs.Laws.Scope.{nowhere}
+use Rattle.specification.proofs.Laws.Parser.{Post, holds, of-found, bind-post, after}
+use Rattle.specification.proofs.Laws.ReadLines.{line-post}
+use Rattle.specification.proofs.Laws.ReadSheet.{read-well-formed}
+use Rattle.sheet.specs.declared.Reading.the-variants as reading
+use Rattle.sheet.specs.Tables.{Words, tables}
+use Rattle.sheet.specs.Held.{Shallow}
+use Rattle.sheet.specs.Whole.{readingOf, wordsOf}
+use Rattle.sheet.proofs.Tables.{tables-length}
+use Rattle.sheet.proofs.ReadSheet.{read-counts, read-ready}
+use Rattle.sheet.proofs.Shallow.{formula-shallow}
+use Rattle.walker.specs.Loop.{Ready, Readied, Walked}
+use Rattle.vodlasim.specs.Answered.{Answered}
+
+-- ---- a sheet that is read has a shallow formula
+
+sheet-shallow : (r : Reader) → Post (λ s r′. Shallow (s .formula)) (sheet r)
+unfolding sheet
+sheet-shallow r =
+    after (line (bytes "edition=") 1 1 r) λ edition r₁.
+    after (line (bytes "scalars=") 0 64 r₁) λ scalars r₂.
+    bind-post (line-post 0 32 (bytes "locals=") r₂) λ locals r₃ l.
+    after (arraysLine scalars r₃) λ arrays r₄.
+    let D : Declared = record { edition = edition; scalars = scalars; locals = locals; arrays = arrays } in
+    after (givenLine D r₄) λ is r₅.
+    after (key (bytes "formula=") r₅) λ u r₆.
+    bind-post (formula-shallow D (l .1) 64 (omega arith) [] r₆) λ F r₇ f.
+    after (mark feed r₇) λ u r₈.
+    after (finish r₈) λ u r₉.
+    holds f
+
+read-shallow : (b : Bytes) (s : Sheet) (r : Reader) → read b ≡ found s r → Shallow (s .formula)
+unfolding read
+read-shallow b s r e = of-found (sheet-shallow (opened b)) e
+
+-- ---- the setting's tests
+
+both : (x y : Bool) → (x && y) ≡ true → (x ≡ true) × (y ≡ true)
+both true y e = (refl, e)
+both false y e = let z : _≡_ {A = ℕ} 0 1 = cc in absurd (omega arith)
+
+pub memory-of : (path words : ℕ) → (between 1 32768 path && leb (6144 + 12 * path) words) ≡ true → (path ≤ 32768) × (6144 + 12 * path ≤ words)
+memory-of path words e =
+    let (a, b) = both (between 1 32768 path) (leb (6144 + 12 * path) words) e in
+    let (c, d) = both (leb 1 path) (leb path 32768) a in
+    (leb-true path 32768 d, leb-true (6144 + 12 * path) words b)
+
+and-false : (x : Bool) → (x && false) ≡ false
+and-false true = refl
+and-false false = refl
+
+module _ (path words : ℕ) where
+  abbrev wide : Bool
+  wide = leb (6144 + 12 * path) words
+
+  pub low : path < 1 → (between 1 32768 path && wide) ≡ false
+  low h = ap (λ t. (t && leb path 32768) && wide) (lt-leb 1 path h)
+
+  pub high : 32768 < path → (between 1 32768 path && wide) ≡ false
+  high h = ap (λ t. (leb 1 path && t) && wide) (lt-leb path 32768 h) ∙ ap (λ t. t && wide) (and-false (leb 1 path))
+
+  pub within : 1 ≤ path → path ≤ 32768 → (between 1 32768 path && wide) ≡ wide
+  within a b = ap (λ t. (t && leb path 32768) && wide) (le-leb 1 path a) ∙ ap (λ t. t && wide) (le-leb path 32768 b)
+
+module _ (b : Bytes) (S : Setting) (n m : ℕ) where
+  pub first-refused : enoughMemory S n ≡ false → call b S n m ≡ refusal 1 0
+  unfolding call
+  first-refused e = ap (λ t. pick t (pick (leb (length b) 4096) (afterReading S m (read b)) (refusal 2 4096)) (refusal 1 0)) e
+
+  past-first : enoughMemory S n ≡ true → call b S n m ≡ pick (leb (length b) 4096) (afterReading S m (read b)) (refusal 2 4096)
+  unfolding call
+  past-first e = ap (λ t. pick t (pick (leb (length b) 4096) (afterReading S m (read b)) (refusal 2 4096)) (refusal 1 0)) e
+
+  pub second-refused : enoughMemory S n ≡ true → leb (length b) 4096 ≡ false → call b S n m ≡ refusal 2 4096
+  second-refused e l = past-first e ∙ ap (λ t. pick t (afterReading S m (read b)) (refusal 2 4096)) l
+
+  pub reads : enoughMemory S n ≡ true → leb (length b) 4096 ≡ true → call b S n m ≡ afterReading S m (read b)
+  reads e l = past-first e ∙ ap (λ t. pick t (afterReading S m (read b)) (refusal 2 4096)) l
+
+-- ---- what the walk wants
+
+-- the sheet that was read, and its tables in the words w
+record Found (b : Bytes) (S : Setting) (n : ℕ) (w : Words) (scalars arrays : ℕ) : Type 0 where
+  pub sheet : Sheet
+  pub after : Reader
+  pub is : read b ≡ found sheet after
+  pub long : length w ≡ n
+  pub ready : Ready w S scalars arrays sheet
+
+module _ (b : Bytes) (S : Setting) (n : ℕ) (limit : S .path ≤ 32768) (size : 6144 + 12 * S .path ≤ n) (w : Words) (scalars arrays : ℕ) where
+  found-of : (x : Read Sheet) → read b ≡ x → reading.Read scalars arrays ≡ readingOf x → w ≡ wordsOf n x → Found b S n w scalars arrays
+  found-of (refused k p) e t h = let z : _≡_ {A = ℕ} 0 1 = cc in absurd (omega arith)
+  found-of (found s r) e t h =
+      let enough : 6144 ≤ n = omega (arith, size) in
+      let count = read-counts b s r e in
+      let held = read-ready b s r n e enough in
+      let well = read-well-formed b s r e in
+      let long : length w ≡ n = ap length h ∙ tables-length s n enough (count .1) in
+      let p : scalars ≡ s .declared .scalars = cc in
+      let q : arrays ≡ length (s .declared .arrays) = cc in
+      record {
+        sheet = s;
+        after = r;
+        is = e;
+        long = long;
+        ready = subst (λ x. Ready x S scalars arrays s) (sym h) (record {
+          well = well;
+          formula = record {
+            held = held .formula;
+            good = record { scope = nowhere; locals = λ l x. absurd x; ok = well .formula; shallow = read-shallow b s r e };
+          };
+          holds = held .values;
+          firsts = held .arrays;
+          scalar-count = p;
+          array-count = q;
+          limit = limit;
+          size = subst (λ k. 6144 + 12 * S .path ≤ k) (sym (tables-length s n enough (count .1))) size;
+        });
+      }
+
+  pub readied : reading.Read scalars arrays ≡ readingOf (read b) → w ≡ wordsOf n (read b) → Readied w S scalars arrays
+  readied t h = let f = found-of (read b) refl t h in record { sheet = f .sheet; ready = f .ready }
+
+-- ---- the four ways of the call
+
+module _ (b : Bytes) (S : Setting) (w w' : List ℕ) (o : Bytes) where
+  pub refused-answers : (k p : ℕ) → call b S (length w) (length o) ≡ refusal k p → w' ≡ replicate (length w) 0 → Answered b S w w' o o (outcomes.Refused k p)
+  unfolding outputAfter wordsAfter
+  refused-answers k p c z = record { result = sym (ap outcome c); output = sym (ap (λ x. outputAfter x o) c); work = z }
+
+  module _ (e : enoughMemory S (length w) ≡ true) (l : leb (length b) 4096 ≡ true) where
+    unread-of : (x : Read Sheet) (k p : ℕ) → reading.Refused k p ≡ readingOf x → x ≡ refused k p
+    unread-of (refused k′ p′) k p h =
+        let a : k′ ≡ k = cc in
+        let b : p′ ≡ p = cc in
+        ap (λ x. refused x p′) a ∙ ap (refused k) b
+    unread-of (found s r) k p h = let z : _≡_ {A = ℕ} 0 1 = cc in absurd (omega arith)
+
+    pub unread-answers : (k p : ℕ) → reading.Refused k p ≡ readingOf (read b) → w' ≡ wordsOf (length w) (read b) → Answered b S w w' o o (outcomes.Refused k p)
+    unread-answers k p t h =
+        let is = unread-of (read b) k p t in
+        refused-answers k p (reads b S (length w) (length o) e l ∙ ap (afterReading S (length o)) is) (h ∙ ap (wordsOf (length w)) is)
+
+    pub walk-answers : (v : Words) (o' : Bytes) (scalars arrays : ℕ) (r : Outcome) → reading.Read scalars arrays ≡ readingOf (read b) →
+        v ≡ wordsOf (length w) (read b) → Walked v w' o o' S scalars arrays r → Answered b S w w' o o' r
+    unfolding wordsAfter
+    walk-answers v o' scalars arrays r t h walked =
+        let (limit, size) = memory-of (S .path) (length w) e in
+        let f = found-of b S (length w) limit size v scalars arrays (read b) refl t h in
+        let c = reads b S (length w) (length o) e l ∙ ap (afterReading S (length o)) (f .is) in
+        record {
+          result = walked .result (f .sheet) (f .ready) ∙ sym (ap outcome c);
+          output = walked .output (f .sheet) (f .ready) ∙ sym (ap (λ x. outputAfter x o) c);
+          work = walked .words ∙ ap (λ k. replicate k 0) (f .long);
+        }

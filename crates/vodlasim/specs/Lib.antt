@@ -1,0 +1,3 @@
+-- The promises of the public call.
+pub mod Answered
+pub mod Demands

@@ -1,0 +1,50 @@
+// The public call.
+ghost use mathlib.Core.Path.{_≡_};
+ghost use mathlib.Core.Bool.{_&&_};
+ghost use Prim.Native.Nat.{_+_, _*_};
+ghost use lib.Dec.{leb};
+ghost use Rattle.specification.specs.Bytes.{between};
+ghost use Rattle.vodlasim.specs.Answered.{Answered};
+use sheet::Reading;
+use sheet::clear;
+use sheet::read_sheet;
+use specification::Outcome;
+use specification::Setting;
+use walker::machine::walk_tables;
+
+// Whether the path limit and the number of work words are as document 01 wants them.
+fn enough(path: u32, words: usize) -> bool
+    ensures { λ r. ⌜ r ≡ (between 1 32768 path && leb (6144 + 12 * path) words) ⌝ }
+{
+    if path < 1 {
+        return false;
+    }
+    if path > 32768 {
+        return false;
+    }
+    6144 + 12 * (path as usize) <= words
+}
+
+// Reads the sheet, walks its tree and writes the listing; every length of the slices is allowed.
+pub fn run(sheet: &[u8], setting: Setting, work: &mut [u32], output: &mut [u8]) -> Outcome
+    ensures { λ r. ⌜ Answered (now (sheet .entry)) setting (now (work .entry)) (now (work .exit)) (now (output .entry)) (now (output .exit)) r ⌝ }
+{
+    if !enough(setting.path, work.len()) {
+        clear(work);
+        return Outcome::Refused {
+            number: 1,
+            place: 0,
+        };
+    }
+    if sheet.len() > 4096 {
+        clear(work);
+        return Outcome::Refused {
+            number: 2,
+            place: 4096,
+        };
+    }
+    match read_sheet(sheet, work) {
+        Reading::Refused(number, place) => Outcome::Refused { number, place },
+        Reading::Read(scalars, arrays) => walk_tables(work, output, setting, scalars, arrays),
+    }
+}
