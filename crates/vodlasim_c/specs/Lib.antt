@@ -1,0 +1,2 @@
+-- What the contract of the call for C and Rust hosts cites.
+pub mod Report

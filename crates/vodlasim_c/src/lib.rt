@@ -1,0 +1,62 @@
+// The public call for C and Rust hosts, over numbers and slices.
+use specification::End;
+use specification::Outcome;
+use specification::Setting;
+ghost use mathlib.Core.Path.{_≡_};
+ghost use Rattle.vodlasim_c.specs.Report.{endNumber, numbersOf, Reported};
+
+// `vodlasim::run`, with its outcome in `report`: refused number or 0, place, end (0 done, 1 spent, 2 path, 3 output), nodes, answers,
+// errors, fails, bytes written. Every length of the slices is allowed.
+#[no_mangle]
+pub extern "C" fn vodlasim_run(
+    sheet: &[u8],
+    path_limit: u32,
+    budget: u32,
+    skip: u32,
+    work: &mut [u32],
+    output: &mut [u8],
+    report: &mut [u64; 8],
+)
+    ensures { λ _. ⌜ Reported (now (sheet .entry)) (record { path = «path_limit»; budget = budget; skip = skip }) (now (work .entry)) (now (work .exit)) (now (output .entry)) (now (output .exit)) (now (report .exit)) ⌝ }
+{
+    let setting = Setting {
+        path: path_limit,
+        budget,
+        skip,
+    };
+    let outcome = vodlasim::run(sheet, setting, work, output);
+    *report = numbers(outcome);
+}
+
+fn numbers(outcome: Outcome) -> [u64; 8]
+    ensures { λ r. ⌜ r ≡ numbersOf outcome ⌝ }
+{
+    match outcome {
+        Outcome::Refused { number, place } => [number as u64, place as u64, 0, 0, 0, 0, 0, 0],
+        Outcome::Ran {
+            end,
+            tallies,
+            written,
+        } => [
+            0,
+            0,
+            end_number(end),
+            tallies.nodes as u64,
+            tallies.answers as u64,
+            tallies.errors as u64,
+            tallies.fails as u64,
+            written as u64,
+        ],
+    }
+}
+
+fn end_number(end: End) -> u64
+    ensures { λ r. ⌜ r ≡ endNumber end ⌝ }
+{
+    match end {
+        End::Done => 0,
+        End::Spent => 1,
+        End::Path => 2,
+        End::Output => 3,
+    }
+}

@@ -1,0 +1,624 @@
+#!/usr/bin/env python3
+"""The cases of the test program (crates/cases): their list, and the files that hold them.
+
+  tools/cases.py                     writes crates/cases/stdin
+  tools/cases.py --expect FOLDER     writes crates/cases/stdout too: what a reference reading of document 01 gives, FOLDER/document01.py
+  tools/cases.py --random FOLDER     draws the random cases anew, with FOLDER/sheets.py; else those that stand in stdin are kept
+  tools/cases.py --list              prints each case's number and name, and writes nothing
+
+crates/cases/src/main.rt says how a case stands in stdin. The work words default to what the path limit asks.
+"""
+import argparse
+import pathlib
+import random
+import re
+import sys
+from collections import namedtuple
+
+FILES = pathlib.Path(__file__).resolve().parent.parent / "crates" / "cases"
+RANDOM = 150                            # so many random cases, the last ones
+Case = namedtuple("Case", "name sheet path budget skip output words")
+cases = []
+
+
+# ---------------------------------------------------------------- how a case is written down
+
+def case(name, sheet, path=512, budget=1000000, skip=0, output=4096, words=None):
+    if words is None:
+        words = 6144 + 12 * min(path, 32768)
+    cases.append(Case(name, sheet if isinstance(sheet, bytes) else sheet.encode(), path, budget, skip, output, words))
+
+
+def lines(edition="1", scalars="1", locals="1", arrays="", given="", formula="true"):
+    """A sheet by the values of its six lines."""
+    return "edition=%s\nscalars=%s\nlocals=%s\narrays=%s\ngiven=%s\nformula=%s\n" % (edition, scalars, locals, arrays, given, formula)
+
+
+def formulas(text, setting={}, **declared):
+    """A case for each line of the text, a formula."""
+    for formula in text.strip("\n").split("\n"):
+        case(formula, lines(formula=formula, **declared), **setting)
+
+
+def givens(text, **declared):
+    """A case for each line of the text, the value of the given line."""
+    for given in text.strip("\n").split("\n"):
+        case("given=" + given, lines(given=given, **declared))
+
+
+def ones(n):
+    """A sum of 2^n ones: 2^(n+1) - 1 tokens."""
+    return "1" if n == 0 else "add %s %s" % (ones(n - 1), ones(n - 1))
+
+
+def padded(size):
+    """An accepted sheet of so many bytes: conjunctions of `true`, and one long comparison to make up the size."""
+    head = lines(formula="")[:-1]
+    whole, rest = divmod(size - len(head) - 1 - len("eq 1 1"), len("and true "))
+    return head + "and true " * whole + "eq " + "1" * (1 + rest) + " 1\n"
+
+
+FORMULA_11 = lines(scalars="2", locals="0", formula="and and or eq v0 2 eq v0 3 or eq v1 add v0 1 eq 2 v1 eq mul 2 v0 mul 3 v1")
+LOW, HIGH = "-2147483648", "2147483647"
+
+
+# ---------------------------------------------------------------- the marked cases of document 01
+
+def marked():
+    case("formula (1.1)", FORMULA_11)
+    case("formula (1.1), budget 19", FORMULA_11, budget=19)
+    case("formula (1.1), path limit 8", FORMULA_11, path=8)
+    case("formula (1.1), budget 20, path limit 9", FORMULA_11, path=9, budget=20)
+    formulas("""
+true
+and eq v0 0 lt v0 1
+and lt v0 1 eq v0 0
+or eq v0 div 1 0 eq v0 3
+not eq v0 0
+not or eq 1 1 eq 1 div 1 0
+not or eq 1 2 eq 1 div 1 0
+all l0 1 0 eq 1 2
+some l0 1 0 true
+eq v0 div -7 2
+eq v0 mod -7 2
+eq v0 add 2147483647 1
+eq v0 2147483648
+""")
+    formulas("all l0 0 2 eq a0 l0 mul l0 l0", arrays="3")
+
+
+# ---------------------------------------------------------------- the readings (docs/DECISIONS.md)
+
+def readings():
+    formulas("""
+2147483648
+ex 00 true
+eq v00 1
+and true
+and true 
+true x
+ex v0 true
+ex l1 true
+ex l0 ex l0 true
+some l0 l0 3 true
+some l0 1 l0 true
+eq l1 1
+eq a0
+eq v99999999999999999999 1
+all l0 0 0 true
+not or true eq v0 1
+not all l0 v0 0 true
+not eq a0 v0 1
+some l0 v0 3 true
+some l0 1 v0 true
+all l0 v0 3 true
+eq v0 mod -2147483648 -1
+eq v0 div -2147483648 -1
+some l0 2147483646 2147483647 eq v0 l0
+all l0 1 2 ex l1 true
+""")
+    givens("""
+v00:1
+5
+v:1
+v1:2147483648
+v1:1;
+v0:1,v1:1
+""")
+    formulas("""
+eq a0 v0 div 1 0
+eq a0 0 div 1 0
+eq a0 1 v0
+eq div 1 0 a0 v0
+eq v0 a0 1
+not imp true eq a0 0 1
+not not eq a0 0 1
+not all l0 0 0 eq a0 l0 1
+imp not true eq a0 0 1
+imp true eq a0 0 1
+""", arrays="1")
+    givens("a0.1:1,a0.0:2;\na0.1:1,a0.1:2\na0.0:1,v0:1\nv0:1,a0.0:1,a0.1:2", arrays="2")
+    case("the seventeenth array", lines(arrays=",".join("1" * 17)))
+    case("scalars=3-", "edition=1\nscalars=3-\n")
+    case("edition=2x", "edition=2x")
+    case("arrays=1,", lines(arrays="1,"))
+    case("ex under all", lines(scalars="0", locals="2", formula="all l0 1 2 ex l1 eq l1 l0"))
+    case("all 32-bit values", lines(formula="some l0 %s %s eq v0 l0" % (LOW, HIGH)), budget=7)
+    case("all of all 32-bit values", lines(formula="all l0 %s %s ne l0 3" % (LOW, HIGH)), budget=9)
+    case("a skipped block is not due", lines(), skip=1, output=0)
+    for output in (0, 10, 13, 14):
+        case("v0=1 in %d bytes" % output, lines(formula="eq v0 1"), output=output)
+    case("spent before path", lines(), path=2, budget=2)
+    case("path limit 2", lines(), path=2)
+    case("budget 0", lines(), budget=0)
+
+
+# ---------------------------------------------------------------- slips of the loom
+
+def slips():
+    formulas("""
+some l0 -1 1 eq v0 div 6 l0
+or or lt v0 1 eq v0 1 or gt v0 2 eq v0 2
+some l0 2147483647 2147483647 eq v0 l0
+all l0 2147483647 2147483647 true
+all l0 2147483646 2147483647 ne l0 0
+some l0 -2147483648 -2147483647 eq v0 l0
+some l0 2147483647 -2147483648 true
+all l0 2147483647 -2147483648 eq 1 2
+not eq 1 div 1 0
+imp eq 1 div 1 0 eq v0 1
+not and eq 1 1 eq 1 div 1 0
+not and eq 1 2 eq 1 div 1 0
+not or eq 1 div 1 0 eq 1 2
+not or eq 1 div 1 0 eq 1 1
+""")
+    formulas("""
+or eq a0 0 1 eq a0 1 2
+or and eq a0 0 1 eq 1 2 eq a0 1 5
+some l0 0 1 eq a0 l0 7
+and or eq a0 0 1 eq a0 1 2 or eq a0 0 3 eq a0 1 4
+and some l0 0 1 eq a0 l0 7 some l1 0 1 eq a0 l1 8
+and or and eq a0 0 1 lt a0 1 0 true eq a0 0 2
+all l0 0 1 ex l1 and eq l1 add l0 10 eq a0 l0 l1
+all l0 0 1 ex l1 or eq l1 l0 eq a0 l0 l1
+and ex l0 eq l0 1 and ex l1 eq l1 2 eq a0 0 3
+""", locals="2", arrays="2")
+
+
+# ---------------------------------------------------------------- limits
+
+def declared_limits():
+    case("64 scalars", lines(scalars="64", formula="and eq v63 1 eq v0 2"))
+    case("65 scalars", lines(scalars="65"))
+    case("v64 of 64", lines(scalars="64", formula="eq v64 1"))
+    case("given v64 of 64", lines(scalars="64", given="v63:1,v64:1"))
+    case("32 locals", lines(locals="32", formula=" ".join("ex l%d" % n for n in range(32)) + " and eq l31 3 eq v0 l31"))
+    case("32 locals, l32", lines(locals="32", formula="ex l32 true"))
+    case("33 locals", lines(locals="33"))
+    case("16 arrays", lines(arrays=",".join("2" * 16), formula="all l0 0 1 eq a15 l0 l0"))
+    case("a16 of 16", lines(arrays=",".join("2" * 16), formula="eq a16 0 1"))
+    case("17 arrays of 2", lines(arrays=",".join("2" * 17)))
+    case("512 cells, one array", lines(scalars="0", arrays="512", formula="and eq a0 511 1 eq a0 0 2"))
+    case("512 cells, all valued", lines(scalars="0", arrays="512", formula="all l0 0 511 eq a0 l0 sub 0 l0"), path=1100, output=8192)
+    case("512 cells, all valued, output too small", lines(scalars="0", arrays="512", formula="all l0 0 511 eq a0 l0 l0"), path=1100)
+    case("512 cells, two arrays", lines(scalars="0", arrays="500,12", given="a0.499:1,a1.11:2"))
+    case("513 cells, two arrays", lines(scalars="0", arrays="500,13"))
+    case("512 cells with one scalar", lines(arrays="511"))
+    case("513 cells with one scalar", lines(arrays="500,12"))
+    case("512 cells with 64 scalars", lines(scalars="64", arrays="448", given="v63:1,a0.0:2,a0.447:3"))
+    case("513 cells with 64 scalars", lines(scalars="64", arrays="449"))
+    case("an array of 513", lines(scalars="0", arrays="513"))
+    case("an array of 0", lines(arrays="0"))
+    case("element 512 of 512", lines(scalars="0", arrays="512", given="a0.512:1"))
+    case("every scalar given", lines(scalars="64", given=",".join("v%d:%d" % (n, -n) for n in range(64))))
+    case("every element given", lines(scalars="1", arrays="3,4", given="v0:1," + ",".join(
+        "a%d.%d:%d" % (a, e, 10 * a + e) for a, n in ((0, 3), (1, 4)) for e in range(n))))
+
+
+def text_limits():
+    case("1,024 tokens", lines(formula="not eq %s %s" % (ones(8), ones(8))))
+    case("1,025 tokens", lines(formula="not not eq %s %s" % (ones(8), ones(8))))
+    case("1,025 tokens, the last one empty", lines(formula="not not eq %s %s" % (ones(8), ones(8)))[:-2] + "\n")
+    case("nesting 64", lines(formula="not " * 63 + "true"))
+    case("nesting 65", lines(formula="not " * 64 + "true"))
+    case("nesting 65, an empty token", lines(scalars="0", locals="0", formula="not " * 64))
+    case("nesting 64, terms", lines(formula="eq v0 " + "add 1 " * 61 + "1"))
+    case("nesting 65, terms", lines(formula="eq v0 " + "add 1 " * 63 + "1"))
+    case("nesting 64, indices", lines(arrays="1", given="a0.0:0", formula="eq " + "a0 " * 62 + "0 0"))
+    case("nesting 65, a bad constant", lines(formula="not " * 64 + "00"))
+    for size in (4095, 4096, 4097, 4098):
+        case("%d bytes" % size, padded(size))
+        case("%d bytes, two line feeds at the end" % size, padded(size - 1) + "\n")
+    case("4,097 bytes and too few words", padded(4097), words=100)
+
+
+def lent_limits():
+    for path in (0, 1, 2, 3, 32768, 32769, 4294967295):
+        case("path limit %d" % path, lines(), path=path, words=399360)
+    for path in (1, 512, 32768):
+        case("path limit %d, one word too few" % path, lines(), path=path, words=6143 + 12 * path)
+    case("no words", lines(), words=0)
+    case("too few words and a bad sheet", "x", words=6143)
+    deep = lines(locals="2", formula="ex l1 all l0 1 16382 true")
+    case("a path of 32,768 nodes", deep, path=32768)
+    case("a path one too long", deep, path=32767)
+    case("its budget just enough", deep, path=32768, budget=32768)
+    case("its budget one too small", deep, path=32768, budget=32767)
+    three = lines(formula="some l0 1 3 or eq v0 l0 lt v0 0")
+    for skip in (0, 1, 2, 5, 6, 7, 4294967295):
+        case("skip %d of 6" % skip, three, skip=skip)
+    for output in (0, 13, 14, 33, 34, 48, 100, 101, 102):
+        case("three answers and three errors in %d bytes" % output, three, output=output)
+        case("the same after a skip of 1", three, output=output, skip=1)
+    for budget in (0, 1, 2, 3, 4, 10, 11, 12, 13, 14, 4294967295):
+        case("the same under budget %d" % budget, three, budget=budget)
+    case("65,536 output bytes", lines(formula="some l0 -2000 2000 eq v0 mul l0 1000000"), output=65536, skip=1000)
+    case("65,536 output bytes, full", lines(arrays="500", formula="all l0 0 499 eq a0 l0 mul -100000 l0"), path=1100, output=65536)
+    case("a block that just fits, after others", lines(formula="or true or true true"), output=27)
+    case("a block that fails to fit, after others", lines(formula="or true or true true"), output=26)
+
+
+# ---------------------------------------------------------------- kinds, words, inner trees
+
+def kinds():
+    """Every error kind: where it arises, and which of two decides."""
+    formulas("""
+eq v0 v1
+eq v0 v0
+eq v0 add v0 1
+eq add v0 1 v0
+eq v0 add v1 1
+lt v0 1
+ge 1 v0
+ne v0 v0
+eq v0 add 2147483647 1
+eq v0 sub -2147483648 1
+eq v0 mul 65536 65536
+eq v0 mul -2147483648 -1
+eq v0 sub 0 -2147483648
+eq v0 div 1 0
+eq v0 mod 1 0
+eq v0 div 0 0
+eq div 1 0 v0
+eq div 1 0 mul 65536 65536
+eq mul 65536 65536 div 1 0
+lt div 1 0 v0
+lt v0 div 1 0
+eq v0 add div 1 0 v1
+eq v0 add v1 div 1 0
+eq v0 div v1 0
+eq v0 div mul 65536 65536 0
+eq v0 a0 2
+eq v0 a0 -1
+eq v0 a0 v1
+eq a0 2 1
+eq a0 -1 1
+eq a0 2147483647 a0 -2147483648
+eq a0 a0 0 1
+eq a0 0 a0 1
+eq a0 0 a0 0
+and eq v0 1 eq a0 v0 v1
+and eq v0 1 and eq a0 v0 v0 eq a0 0 a0 1
+some l0 div 1 0 v0 true
+some l0 v0 div 1 0 true
+some l0 1 div 1 0 true
+all l0 mul 65536 65536 1 true
+all l0 1 a0 5 true
+all l0 1 a0 0 true
+imp eq v0 1 true
+imp true eq v0 v1
+not lt l0 1
+ex l0 not eq l0 0
+ex l0 imp eq l0 1 true
+ex l0 and eq l0 1 not eq l0 2
+not ex l0 eq l0 1
+not eq a0 0 1
+imp eq a0 0 1 true
+and eq a0 0 1 not eq a0 0 2
+and eq a0 0 1 not eq a0 0 1
+and eq a0 0 1 not eq a0 1 1
+ex l0 eq l0 l0
+ex l0 eq v0 l0
+ex l0 and eq v0 3 and eq l0 v0 eq v1 l0
+eq 5 v0
+eq 5 a0 1
+and eq v0 1 eq v0 2
+and eq v0 1 eq 1 v0
+""", scalars="2", arrays="2")
+
+
+def words():
+    """Every token word, true, false, and with each sign."""
+    for word in ("eq", "ne", "lt", "le", "gt", "ge"):
+        for a, b in ((1, 2), (2, 2), (2, 1), (-1, 0), (LOW, HIGH), (HIGH, LOW), (LOW, LOW)):
+            formulas("%s %s %s" % (word, a, b))
+    for word in ("add", "sub", "mul", "div", "mod"):
+        for a, b in ((7, 2), (-7, 2), (7, -2), (-7, -2), (0, 5), (6, 3), (LOW, 1), (LOW, -1), (HIGH, -1), (HIGH, HIGH), (LOW, LOW),
+                     (46340, 46340), (46341, 46341), (-46341, 46341), (32768, 65536), (-32768, 65536), (1, LOW), (HIGH, LOW)):
+            formulas("eq v0 %s %s %s" % (word, a, b))
+    formulas("""
+and true true
+and eq 1 2 true
+and true eq 1 2
+or true true
+or eq 1 2 true
+or eq 1 2 eq 1 3
+imp true true
+imp eq 1 2 eq 1 2
+imp true eq 1 2
+imp eq 1 2 eq v0 1
+imp true eq v0 1
+not true
+not eq 1 2
+ex l0 true
+ex l0 eq l0 3
+ex l0 and eq l0 3 eq v0 l0
+some l0 1 3 true
+some l0 1 3 eq v0 l0
+some l0 3 3 eq v0 l0
+some l0 3 2 eq v0 l0
+some l0 -1 1 and ne l0 0 eq v0 l0
+all l0 1 3 true
+all l0 1 3 lt l0 3
+all l0 3 3 eq v0 l0
+all l0 1 2 eq v0 l0
+all l0 3 2 eq v0 l0
+or or eq v0 1 eq v0 2 or eq v0 3 eq v0 4
+and or eq v0 1 eq v0 2 or eq v0 2 eq v0 3
+""")
+    formulas("""
+some l0 1 2 some l1 l0 2 eq v0 add l0 l1
+all l0 1 2 some l1 1 2 eq a0 l0 l1
+some l0 1 2 all l1 l0 2 eq a0 l1 l0
+all l0 0 2 all l1 0 l0 ne a0 l0 5
+all l0 0 2 eq a0 l0 sub 2 l0
+and eq a0 0 1 and eq a0 a0 0 2 eq a0 a0 a0 0 v0
+and eq a0 0 a1 0 true
+eq a1 0 3
+and all l0 0 2 eq a0 l0 l0 some l1 0 2 and gt a0 l1 0 eq v0 a0 l1
+""", locals="2", arrays="3,1")
+    formulas("""
+true
+eq v0 8
+eq v0 7
+eq a0 0 1
+eq a0 1 -1
+eq v1 add v0 a0 1
+not eq v0 7
+imp eq v0 7 eq a1 0 v0
+""", scalars="2", arrays="2,1", given="v0:7,a0.1:-1")
+
+
+def inner_trees():
+    formulas("""
+not not true
+not not eq 1 2
+not not not eq 1 2
+not not or eq 1 2 eq 1 div 1 0
+not imp true eq 1 2
+not imp true eq 1 1
+not imp eq 1 2 eq 1 2
+imp imp true true eq v0 1
+imp not eq 1 1 eq v0 1
+imp not eq 1 2 eq v0 1
+imp imp eq 1 2 eq 1 1 eq v0 1
+not some l0 1 3 eq l0 4
+not some l0 1 3 eq l0 2
+not all l0 1 3 lt l0 3
+not all l0 1 3 lt l0 4
+not ex l0 and eq l0 1 eq l0 2
+not ex l0 and eq l0 1 not eq l0 2
+not ex l0 not eq l0 2
+and eq v0 1 not eq v0 2
+and eq v0 1 not not eq v0 1
+and eq v0 1 imp eq v0 1 lt v0 2
+and eq v0 1 imp eq v0 2 lt v0 1
+some l0 1 4 and not eq l0 2 eq v0 l0
+some l0 1 4 and imp lt l0 3 eq v0 1 eq l0 l0
+all l0 1 4 not eq l0 5
+all l0 1 4 imp gt l0 2 ge l0 3
+or not true eq v0 1
+or not eq 1 2 eq v0 1
+and not eq 1 2 eq v0 1
+""")
+    for n in range(58, 62):
+        formulas("not " * n + "eq 1 1")
+        formulas("not " * n + "eq 1 div 1 0")
+    for n in (10, 30):
+        formulas("imp " * n + "true" + " eq 1 1" * n)
+        formulas("imp true " * n + "eq v0 %d" % n)
+        formulas("imp not " * n + "eq 1 2" + " true" * n)
+    nested = lines(locals="3", formula="and eq v0 2 not some l0 0 2 and eq l0 v0 not some l1 0 2 and eq l1 l0 not eq l1 2")
+    case("nested inner trees", nested)
+    for path in range(1, 17):
+        case("the same under path limit %d" % path, nested, path=path)
+    for budget in range(0, 40, 3):
+        case("the same under budget %d" % budget, nested, budget=budget)
+    queens = "all l0 0 3 some l1 0 3 and eq a0 l0 l1 all l2 0 sub l0 1 and ne a0 l2 l1 and ne sub a0 l2 l1 sub l0 l2 ne sub l1 a0 l2 sub l0 l2"
+    case("four queens", lines(scalars="0", locals="3", arrays="4", formula=queens))
+    case("no three queens", lines(scalars="0", locals="3", arrays="3", formula=queens.replace("3 ", "2 ")))
+
+
+# ---------------------------------------------------------------- damaged sheets
+
+def damaged():
+    good = lines(scalars="2", locals="1", arrays="2,3", given="v0:7,a0.1:-1", formula="ex l0 and eq v1 l0 true")
+    case("whole", good)
+    for k in range(len(good)):
+        case("cut to %d bytes" % k, good[:k])
+    for k in range(len(good)):
+        case("byte %d an x" % k, good[:k] + "x" + good[k + 1:])
+    rows = good.split("\n")[:-1]
+    for k, row in enumerate(rows):
+        def instead(new):
+            return "".join(line + "\n" for line in rows[:k] + new + rows[k + 1:])
+        key, value = row.split("=")
+        case("no line %d" % k, instead([]))
+        case("line %d twice" % k, instead([row, row]))
+        case("line %d empty" % k, instead([""]))
+        case("line %d without its value" % k, instead([key + "="]))
+        case("line %d without its equals sign" % k, instead([key + value]))
+        case("line %d with a capital" % k, instead([row.capitalize()]))
+        for mark in (" ", ",", ":", ".", "=", "-", "\r", "\t", "\x00", "a", "0"):
+            case("line %d with %r after it" % (k, mark), instead([row + mark]))
+            case("line %d with %r before its value" % (k, mark), instead([key + "=" + mark + value]))
+        case("line %d with byte 255 after it" % k, instead([row]).encode().replace(row.encode() + b"\n", row.encode() + b"\xff\n"))
+    for number in ("00", "01", "-0", "-1", "--1", "-", "+1", "1-", "2", "99999999999999999999", "4294967297", "1" * 4000):
+        case("edition=%.8s" % number, lines(edition=number))
+        case("scalars=%.8s" % number, lines(scalars=number))
+        case("locals=%.8s" % number, lines(locals=number))
+        case("arrays=%.8s" % number, lines(arrays=number))
+    for number in ("00", "01", "-0", "-", "--1", "+1", "1-", "2147483647", "2147483648", LOW, "-2147483649", "1" * 3900):
+        case("given=v0:%.12s" % number, lines(given="v0:" + number))
+        case("given=v%.12s:1" % number, lines(given="v%s:1" % number))
+        case("given=a0.%.12s:1" % number, lines(arrays="2", given="a0.%s:1" % number))
+        case("given=a%.12s.0:1" % number, lines(arrays="2", given="a%s.0:1" % number))
+        case("eq v0 %.12s" % number, lines(formula="eq v0 " + number))
+        case("eq v%.12s 1" % number, lines(formula="eq v%s 1" % number))
+        case("eq a%.12s 0 1" % number, lines(formula="eq a%s 0 1" % number, arrays="2"))
+        case("ex l%.12s true" % number, lines(formula="ex l%s true" % number))
+    givens("v0:1,\nv0:1,,v1:1\nv0:1 \nv0 :1\nv0\nv0:\nv0:1v1:1\nv0:1,v0:1\nv1:1,v0:1\nv2:1\nv2:1,v0:\na0:1\na0.0\na0.0:1\nl0:1\nV0:1\nv0:1,v1:2x", scalars="2")
+    formulas("""
+ true
+true 
+and  true true
+and true true 
+x
+eq
+eq 
+eq 1
+eq 1 
+eq 1 1 1
+eq true 1
+eq 1 true
+true true
+add 1 1
+not
+not 1
+not v0
+not l0
+and 1 true
+v0
+l0
+a0
+ex
+ex 1 true
+ex l0
+ex l0 1
+ex v0 true
+ex true true
+ex eq true
+ex l0 eq l0 1 
+ex l0 and true ex l0 true
+and ex l0 true ex l0 true
+and ex l0 true eq l0 1
+or eq l0 1 ex l0 true
+some l0 1 true
+some l0 true 1 true
+some l0 l0 1 true
+all l0 1 l0 true
+all l0 1 2 eq l1 1
+eq v1 1
+eq V0 1
+eq v 1
+eq l 1
+eq v0x 1
+eq v0.0 1
+eq 1x 1
+eq 1.0 1
+eq trUe 1
+TRUE
+tru
+truee
+andtrue true
+eq v0, 1
+eq 2147483648 true
+not 00
+""")
+    for n in (0, 1, 4096, 4097):
+        case("%d zero bytes" % n, b"\0" * n)
+    case("all byte values", bytes(range(256)))
+    case("all byte values in a token", lines(formula="").encode()[:-1] + bytes(b for b in range(256) if b not in (10, 32)) + b"\n")
+    for b in (0, 9, 11, 13, 31, 33, 47, 58, 64, 91, 96, 123, 127, 128, 160, 255):
+        case("byte %d in a token" % b, lines(formula="eq v0 1").encode().replace(b"v0", b"v" + bytes([b])))
+        case("byte %d for a space" % b, lines(formula="eq v0 1").encode().replace(b" 1", bytes([b]) + b"1"))
+    case("only a line feed", "\n")
+    case("4,096 line feeds", "\n" * 4096)
+    case("a run of 4,000 digits", "1" * 4000)
+    case("a run of 4,000 minus signs", lines(scalars="-" * 4000))
+    case("a token of 4,000 letters", lines(formula="t" * 4000))
+
+
+# ---------------------------------------------------------------- random cases
+
+def drawn():
+    """Random and damaged sheets under random settings, from the reference's generator."""
+    import sheets
+    rng = random.Random(20011)
+    out = []
+    while len(out) < RANDOM:
+        x = rng.random()
+        sheet = sheets.edge(rng) if x < 0.08 else sheets.Gen(rng, x < 0.85).sheet()
+        if rng.random() < 0.35:
+            sheet = sheets.mutate(rng, sheet)
+        path = rng.choice((1, 2, 3, 5, 8, 13, 40, 512, 512, 512, 3000))
+        budget = rng.choice((0, 1, 5, 20, 100, 1000, 5000, 5000))
+        skip = rng.choice((0, 0, 0, 1, 2, 7, 100))
+        output = rng.choice((0, 9, 30, 100, 1000, 4096, 4096))
+        words = 6144 + 12 * path - (rng.random() < 0.03) + rng.choice((0, 0, 1, 77))
+        out.append(Case("random %d" % (len(out) + 1), sheet, path, budget, skip, output, words))
+    return out
+
+
+# ---------------------------------------------------------------- the files
+
+def packed(c):
+    return b"case %d %d %d %d %d %d\n%s\n" % (c.path, c.budget, c.skip, c.output, c.words, len(c.sheet), c.sheet)
+
+
+def unpacked(data):
+    """The cases that stand in a file, without their names."""
+    out, at = [], 0
+    while at < len(data):
+        head = re.compile(rb"case (\d+) (\d+) (\d+) (\d+) (\d+) (\d+)\n").match(data, at)
+        path, budget, skip, output, words, size = map(int, head.groups())
+        out.append(Case("", data[head.end():head.end() + size], path, budget, skip, output, words))
+        at = head.end() + size + 1
+    return out
+
+
+def stored():
+    old = unpacked((FILES / "stdin").read_bytes())[-RANDOM:]
+    return [c._replace(name="random %d" % (n + 1)) for n, c in enumerate(old)]
+
+
+def expected(reference):
+    out = b""
+    for n, c in enumerate(cases):
+        result = reference.run(c.sheet, c.path, c.budget, c.skip, c.words, c.output)
+        out += b"case %d\n%s" % (n + 1, reference.show(result))
+    return out
+
+
+def main():
+    parser = argparse.ArgumentParser()
+    parser.add_argument("--expect", metavar="FOLDER")
+    parser.add_argument("--random", metavar="FOLDER")
+    parser.add_argument("--list", action="store_true")
+    given = parser.parse_args()
+    sys.path[:0] = [folder for folder in (given.expect, given.random) if folder]
+    for group in (marked, readings, slips, declared_limits, text_limits, lent_limits, kinds, words, inner_trees, damaged):
+        group()
+    cases.extend(drawn() if given.random else stored())
+    if given.list:
+        for n, c in enumerate(cases):
+            print(n + 1, repr(c.name)[1:-1], "| path %d budget %d skip %d output %d words %d" % c[2:])
+        return
+    (FILES / "stdin").write_bytes(b"".join(map(packed, cases)))
+    if given.expect:
+        import document01
+        (FILES / "stdout").write_bytes(expected(document01))
+
+
+if __name__ == "__main__":
+    main()
