@@ -1,0 +1,407 @@
+//! The sheet: six lines, read into a tree of formulas and terms, or refused with a number and a byte place.
+
+/// Why and where a sheet is refused.
+#[derive(Debug)]
+pub struct Refused {
+    pub number: u32,
+    pub place: usize,
+}
+
+/// A slot holds the value of a cell or, after all cells, of a local.
+pub type Slot = u16;
+
+pub struct Sheet {
+    /// The cells' names, in cell order.
+    pub names: Vec<String>,
+    pub slots: usize,
+    pub given: Vec<(Slot, i32)>,
+    pub formula: Formula,
+}
+
+pub enum Formula {
+    True,
+    Atom {
+        at: u32,
+        comparison: Comparison,
+        sides: [Term; 2],
+    },
+    And(Box<[Formula; 2]>),
+    Or(Box<[Formula; 2]>),
+    /// `open`: the scalars, and locals bound outside, that stand in the formula.
+    Not {
+        at: u32,
+        open: Box<[Slot]>,
+        formula: Box<Formula>,
+    },
+    /// `open`: the same of the left part.
+    Imp {
+        at: u32,
+        open: Box<[Slot]>,
+        parts: Box<[Formula; 2]>,
+    },
+    Ex {
+        local: Slot,
+        formula: Box<Formula>,
+    },
+    Some(Box<Range>),
+    All(Box<Range>),
+}
+
+pub struct Range {
+    pub at: u32,
+    pub local: Slot,
+    pub bounds: [Term; 2],
+    pub formula: Formula,
+}
+
+pub enum Term {
+    Constant(i32),
+    Slot(Slot),
+    Element { first: Slot, length: u16, index: Box<Term> },
+    Operation(Operation, Box<[Term; 2]>),
+}
+
+#[derive(Clone, Copy, PartialEq)]
+pub enum Comparison {
+    Eq,
+    Ne,
+    Lt,
+    Le,
+    Gt,
+    Ge,
+}
+
+#[derive(Clone, Copy)]
+pub enum Operation {
+    Add,
+    Sub,
+    Mul,
+    Div,
+    Mod,
+}
+
+pub fn read(bytes: &[u8]) -> Result<Sheet, Refused> {
+    if bytes.len() > 4096 {
+        return Err(Refused { number: 2, place: 4096 });
+    }
+    Reader { bytes, ..Reader::default() }.sheet()
+}
+
+type Read<T> = Result<T, Refused>;
+
+fn refused<T>(number: u32, place: usize) -> Read<T> {
+    Err(Refused { number, place })
+}
+
+#[derive(Default)]
+struct Reader<'a> {
+    bytes: &'a [u8],
+    position: usize,
+    scalars: usize,
+    locals: usize,
+    /// First cell and length of each array.
+    arrays: Vec<(usize, usize)>,
+    cells: usize,
+    tokens: u32,
+    /// Locals that have a binder so far, and those in scope here, a bit each.
+    bound: u32,
+    scope: u32,
+    /// The scalars and locals met so far.
+    standing: Vec<Slot>,
+}
+
+/// A token's text, sorted out as far as it can be by itself.
+enum Word<'a> {
+    Constant(i32),
+    Name(u8, u64),
+    Text(&'a [u8]),
+}
+
+struct Token<'a> {
+    place: usize,
+    at: u32,
+    word: Word<'a>,
+}
+
+/// A number without minus in good form; one beyond 64 bits counts as the largest.
+fn natural(text: &[u8]) -> Option<u64> {
+    let good = !text.is_empty() && text.iter().all(u8::is_ascii_digit) && (text[0] != b'0' || text.len() == 1);
+    let digit = |n: u64, d: &u8| n.saturating_mul(10).saturating_add(u64::from(d - b'0'));
+    good.then(|| text.iter().fold(0, digit))
+}
+
+/// A number, minus allowed, in good form and within 32 bits.
+fn signed(text: &[u8]) -> Option<i32> {
+    match text {
+        [b'-', b'0', ..] => None,
+        [b'-', rest @ ..] => i32::try_from(-i64::try_from(natural(rest)?).ok()?).ok(),
+        _ => i32::try_from(natural(text)?).ok(),
+    }
+}
+
+// The lines.
+impl<'a> Reader<'a> {
+    fn sheet(mut self) -> Read<Sheet> {
+        self.line("edition", |r| r.number(1, 1))?;
+        self.scalars = self.line("scalars", |r| r.number(0, 64))? as usize;
+        self.locals = self.line("locals", |r| r.number(0, 32))? as usize;
+        self.cells = self.scalars;
+        self.line("arrays", |r| r.items(Self::array))?;
+        let mut given = Vec::new();
+        self.line("given", |r| r.items(|r| r.given(&mut given)))?;
+        let formula = self.line("formula", |r| r.formula(1))?;
+        if self.position < self.bytes.len() {
+            return refused(5, self.position);
+        }
+        Ok(Sheet { names: self.names(), slots: self.cells + self.locals, given, formula })
+    }
+
+    fn names(&self) -> Vec<String> {
+        let scalars = (0..self.scalars).map(|n| format!("v{n}"));
+        let elements = self.arrays.iter().enumerate().flat_map(|(n, &(_, length))| (0..length).map(move |e| format!("a{n}.{e}")));
+        scalars.chain(elements).collect()
+    }
+
+    fn line<T>(&mut self, key: &str, value: impl FnOnce(&mut Self) -> Read<T>) -> Read<T> {
+        let rest = &self.bytes[self.position..];
+        if !rest.starts_with(key.as_bytes()) || rest.get(key.len()) != Some(&b'=') {
+            return refused(3, self.position);
+        }
+        self.position += key.len() + 1;
+        let value = value(self)?;
+        self.want(b'\n')?;
+        Ok(value)
+    }
+
+    /// Nothing, or items with commas between.
+    fn items(&mut self, mut item: impl FnMut(&mut Self) -> Read<()>) -> Read<()> {
+        if self.here() == Some(b'\n') {
+            return Ok(());
+        }
+        loop {
+            item(self)?;
+            if self.here() != Some(b',') {
+                return Ok(());
+            }
+            self.position += 1;
+        }
+    }
+
+    fn array(&mut self) -> Read<()> {
+        let place = self.position;
+        let length = self.number(1, 512)? as usize;
+        if self.arrays.len() == 16 || self.cells + length > 512 {
+            return refused(4, place);
+        }
+        self.arrays.push((self.cells, length));
+        self.cells += length;
+        Ok(())
+    }
+
+    fn given(&mut self, given: &mut Vec<(Slot, i32)>) -> Read<()> {
+        let place = self.position;
+        let cell = match self.here() {
+            Some(b'v') => {
+                self.position += 1;
+                let scalar = self.number(0, u64::MAX)?;
+                (scalar < self.scalars as u64).then_some(scalar as usize)
+            }
+            Some(b'a') => {
+                self.position += 1;
+                let array = self.number(0, u64::MAX)?;
+                self.want(b'.')?;
+                let element = self.number(0, u64::MAX)?;
+                let array = usize::try_from(array).ok().and_then(|n| self.arrays.get(n));
+                array.and_then(|&(first, length)| (element < length as u64).then(|| first + element as usize))
+            }
+            _ => return refused(5, place),
+        };
+        self.want(b':')?;
+        let at = self.position;
+        let Some(value) = signed(self.run()) else { return refused(4, at) };
+        let Some(cell) = cell else { return refused(7, place) };
+        if given.last().is_some_and(|&(last, _)| cell <= last.into()) {
+            return refused(10, place);
+        }
+        given.push((cell as Slot, value));
+        Ok(())
+    }
+
+    fn here(&self) -> Option<u8> {
+        self.bytes.get(self.position).copied()
+    }
+
+    fn want(&mut self, byte: u8) -> Read<()> {
+        if self.here() != Some(byte) {
+            return refused(5, self.position);
+        }
+        self.position += 1;
+        Ok(())
+    }
+
+    /// The bytes from here on that satisfy the test.
+    fn take(&mut self, test: impl Fn(u8) -> bool) -> &'a [u8] {
+        let rest = &self.bytes[self.position..];
+        let length = rest.iter().position(|&b| !test(b)).unwrap_or(rest.len());
+        self.position += length;
+        &rest[..length]
+    }
+
+    fn run(&mut self) -> &'a [u8] {
+        self.take(|b| b.is_ascii_digit() || b == b'-')
+    }
+
+    fn number(&mut self, low: u64, high: u64) -> Read<u64> {
+        let place = self.position;
+        match natural(self.run()) {
+            Some(n) if (low..=high).contains(&n) => Ok(n),
+            _ => refused(4, place),
+        }
+    }
+}
+
+// The formula.
+impl<'a> Reader<'a> {
+    fn token(&mut self, depth: u32) -> Read<Token<'a>> {
+        let place = self.position;
+        let text = self.take(|b| b != b' ' && b != b'\n');
+        if self.tokens == 1024 || depth == 65 {
+            return refused(9, place);
+        }
+        let at = self.tokens;
+        self.tokens += 1;
+        let word = match text {
+            [b'0'..=b'9' | b'-', ..] => match signed(text) {
+                Some(value) => Word::Constant(value),
+                None => return refused(4, place),
+            },
+            [letter @ (b'v' | b'l' | b'a'), index @ ..] => match natural(index) {
+                Some(index) => Word::Name(*letter, index),
+                None => Word::Text(text),
+            },
+            _ => Word::Text(text),
+        };
+        Ok(Token { place, at, word })
+    }
+
+    fn formula(&mut self, depth: u32) -> Read<Formula> {
+        let Token { place, at, word } = self.token(depth)?;
+        let Word::Text(word) = word else { return refused(6, place) };
+        let comparison = match word {
+            b"true" => return Ok(Formula::True),
+            b"and" => return Ok(Formula::And(Box::new([self.part(depth)?, self.part(depth)?]))),
+            b"or" => return Ok(Formula::Or(Box::new([self.part(depth)?, self.part(depth)?]))),
+            b"imp" => {
+                let (left, open) = self.judged(depth)?;
+                return Ok(Formula::Imp { at, open, parts: Box::new([left, self.part(depth)?]) });
+            }
+            b"not" => {
+                let (formula, open) = self.judged(depth)?;
+                return Ok(Formula::Not { at, open, formula: Box::new(formula) });
+            }
+            b"ex" => {
+                let local = self.binder(depth)?;
+                return Ok(Formula::Ex { local, formula: Box::new(self.scoped(local, depth)?) });
+            }
+            b"some" => return Ok(Formula::Some(Box::new(self.range(at, depth)?))),
+            b"all" => return Ok(Formula::All(Box::new(self.range(at, depth)?))),
+            b"eq" => Comparison::Eq,
+            b"ne" => Comparison::Ne,
+            b"lt" => Comparison::Lt,
+            b"le" => Comparison::Le,
+            b"gt" => Comparison::Gt,
+            b"ge" => Comparison::Ge,
+            _ => return refused(6, place),
+        };
+        Ok(Formula::Atom { at, comparison, sides: self.terms(depth)? })
+    }
+
+    fn part(&mut self, depth: u32) -> Read<Formula> {
+        self.want(b' ')?;
+        self.formula(depth + 1)
+    }
+
+    /// A formula with an inner tree, and what must have a value before it.
+    fn judged(&mut self, depth: u32) -> Read<(Formula, Box<[Slot]>)> {
+        let start = self.standing.len();
+        let formula = self.part(depth)?;
+        let mut open: Vec<Slot> = self.standing[start..].to_vec();
+        open.retain(|&slot| usize::from(slot) < self.cells || self.scope >> (usize::from(slot) - self.cells) & 1 == 1);
+        open.sort_unstable();
+        open.dedup();
+        Ok((formula, open.into()))
+    }
+
+    fn binder(&mut self, depth: u32) -> Read<Slot> {
+        self.want(b' ')?;
+        let Token { place, word, .. } = self.token(depth + 1)?;
+        let Word::Name(b'l', index) = word else { return refused(6, place) };
+        if index >= self.locals as u64 {
+            return refused(7, place);
+        }
+        if self.bound >> index & 1 == 1 {
+            return refused(8, place);
+        }
+        self.bound |= 1 << index;
+        Ok((self.cells + index as usize) as Slot)
+    }
+
+    fn scoped(&mut self, local: Slot, depth: u32) -> Read<Formula> {
+        let bit = 1 << (usize::from(local) - self.cells);
+        self.scope |= bit;
+        let formula = self.part(depth)?;
+        self.scope &= !bit;
+        Ok(formula)
+    }
+
+    fn range(&mut self, at: u32, depth: u32) -> Read<Range> {
+        let local = self.binder(depth)?;
+        Ok(Range { at, local, bounds: self.terms(depth)?, formula: self.scoped(local, depth)? })
+    }
+
+    fn terms(&mut self, depth: u32) -> Read<[Term; 2]> {
+        Ok([self.operand(depth)?, self.operand(depth)?])
+    }
+
+    fn operand(&mut self, depth: u32) -> Read<Term> {
+        self.want(b' ')?;
+        self.term(depth + 1)
+    }
+
+    fn term(&mut self, depth: u32) -> Read<Term> {
+        let Token { place, word, .. } = self.token(depth)?;
+        let operation = match word {
+            Word::Constant(value) => return Ok(Term::Constant(value)),
+            Word::Name(letter, index) => return self.name(letter, index, place, depth),
+            Word::Text(b"add") => Operation::Add,
+            Word::Text(b"sub") => Operation::Sub,
+            Word::Text(b"mul") => Operation::Mul,
+            Word::Text(b"div") => Operation::Div,
+            Word::Text(b"mod") => Operation::Mod,
+            Word::Text(_) => return refused(6, place),
+        };
+        Ok(Term::Operation(operation, Box::new(self.terms(depth)?)))
+    }
+
+    fn name(&mut self, letter: u8, index: u64, place: usize, depth: u32) -> Read<Term> {
+        let declared = match letter {
+            b'v' => self.scalars,
+            b'l' => self.locals,
+            _ => self.arrays.len(),
+        };
+        if index >= declared as u64 {
+            return refused(7, place);
+        }
+        let index = index as usize;
+        if letter == b'a' {
+            let (first, length) = self.arrays[index];
+            return Ok(Term::Element { first: first as Slot, length: length as u16, index: Box::new(self.operand(depth)?) });
+        }
+        if letter == b'l' && self.scope >> index & 1 == 0 {
+            return refused(8, place);
+        }
+        let slot = if letter == b'v' { index } else { self.cells + index } as Slot;
+        self.standing.push(slot);
+        Ok(Term::Slot(slot))
+    }
+}
