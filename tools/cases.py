@@ -549,6 +549,13 @@ not 00
     case("a token of 4,000 letters", lines(formula="t" * 4000))
 
 
+# ---------------------------------------------------------------- the sheets that teach
+
+def taught():
+    for file in sorted((FILES.parent.parent / "sheets").glob("*.sheet")):
+        case("sheets/" + file.name, file.read_bytes())
+
+
 # ---------------------------------------------------------------- random cases
 
 def drawn():
@@ -607,7 +614,7 @@ def main():
     parser.add_argument("--list", action="store_true")
     given = parser.parse_args()
     sys.path[:0] = [folder for folder in (given.expect, given.random) if folder]
-    for group in (marked, readings, slips, declared_limits, text_limits, lent_limits, kinds, words, inner_trees, damaged):
+    for group in (marked, readings, slips, declared_limits, text_limits, lent_limits, kinds, words, inner_trees, damaged, taught):
         group()
     cases.extend(drawn() if given.random else stored())
     if given.list:
