@@ -13,7 +13,7 @@ use Rattle.specification.proofs.Laws.Scope.{Scope, OkTerm, Valid}
 use Rattle.values.specs.Word.{biased}
 use Rattle.sheet.specs.Tables.{Words}
 use Rattle.sheet.specs.Held.{TermsAt, height, SlotAt, slotOf, Holds, ArraysAt}
-use Rattle.terms.specs.declared.Found.{Found}
+use Rattle.terms.specs.declared.Stack.{Stack}
 use Rattle.terms.specs.declared.Sides.{Sides}
 
 -- ---- results
@@ -28,11 +28,12 @@ wordOf (val z) = biased z
 wordOf (bare p) = slotOf p
 wordOf (err κ) = κ
 
-abbrev pub foundOf : Side → Found
-foundOf x = record { tag = tagOf x; value = wordOf x }
+-- the last result, where the others end at the word `at`
+abbrev pub stackOf : ℕ → Side → Stack
+stackOf at x = record { at = at; tag = tagOf x; value = wordOf x }
 
 abbrev pub sidesOf : Side → Side → Sides
-sidesOf x y = record { ltag = tagOf x; left = wordOf x; rtag = tagOf y; right = wordOf y }
+sidesOf x y = record { ltag = tagOf x; rtag = tagOf y; left = wordOf x; right = wordOf y }
 
 -- ---- the two sides of an atom, or the bounds of a quantifier
 
@@ -70,8 +71,8 @@ pub record Valued (w w' : Words) (from to : ℕ) (r : Sides) : Type 0 where
 
 -- ---- small functions
 
-abbrev pub errorOf : ℕ → Found
-errorOf κ = record { tag = 2; value = κ }
+abbrev pub errorOf : ℕ → ℕ → Stack
+errorOf κ at = record { at = at; tag = 2; value = κ }
 
 -- the error of an operand that has no value
 abbrev pub raise : Side → Side
@@ -79,12 +80,12 @@ raise (val z) = val z
 raise (bare p) = err noValue
 raise (err κ) = err κ
 
-abbrev pub Raised : Found → Found → Type 0
-Raised x r = (y : Side) → x ≡ foundOf y → r ≡ foundOf (raise y)
+abbrev pub Raised : ℕ → ℕ → ℕ → Stack → Type 0
+Raised tag value at r = (x : Side) → tag ≡ tagOf x → value ≡ wordOf x → r ≡ stackOf at (raise x)
 
-abbrev pub Looked : Words → ℕ → Found → Type 0
-Looked w i r = (p : Place) (s : Slot) → slotOf p ≡ i → SlotAt w i s → r ≡ foundOf (look s p)
+abbrev pub Looked : Words → ℕ → ℕ → Stack → Type 0
+Looked w i at r = (p : Place) (s : Slot) → slotOf p ≡ i → SlotAt w i s → r ≡ stackOf at (look s p)
 
--- the two words from k on
-abbrev pub EntryAt : Words → ℕ → Found → Type 0
-EntryAt w k r = (r .tag ≡ getD w k 0) × (r .value ≡ getD w (k + 1) 0)
+-- the two words from k on are this result
+abbrev pub EntryAt : Words → ℕ → Side → Type 0
+EntryAt w k x = (getD w k 0 ≡ tagOf x) × (getD w (k + 1) 0 ≡ wordOf x)

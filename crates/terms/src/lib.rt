@@ -7,19 +7,14 @@ mod tables;
 // What two terms are. A tag says what a word is: 0 the word of a value, 1 the first word of a bare place's slot, 2 an error kind.
 pub struct Sides {
     pub ltag: u32,
-    pub left: u32,
     pub rtag: u32,
+    pub left: u32,
     pub right: u32,
 }
 
-// What one term is.
-pub(crate) struct Found {
+// The results that are not used yet: the last one's tag and word, and where in the words the others end.
+pub(crate) struct Stack {
+    pub at: usize,
     pub tag: u32,
     pub value: u32,
-}
-
-// The results that are not used yet: the last one, and where in the words the others end.
-pub(crate) struct Stack {
-    pub at: u32,
-    pub top: Found,
 }

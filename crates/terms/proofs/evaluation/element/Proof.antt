@@ -1,5 +1,5 @@
 -- `evaluation::element` meets its contract. Assumes nothing.
-use Rattle.terms.proofs.Laws.Results.{element-raised, element-negative, element-outside, element-inside}
+use Rattle.terms.proofs.Laws.Elements.{element-raised, element-negative, element-outside, element-inside}
 use borrow.Author.Needs.{needs}
 use Rattle.terms.proofs.evaluation.element.Statement.{statement}
 use Rattle.terms.proofs.evaluation.element.Tie as tie

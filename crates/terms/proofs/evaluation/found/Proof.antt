@@ -14,10 +14,14 @@ error-requires : tie.Need-error-requires
 error-requires c κs = search needs
 
 returns : tie.Need-returns
-returns c = packs-value (c .before .before .before .args .c) _ (c .before .c .given .1)
+returns c =
+    let a = c .before .before .before .args in
+    packs-value (a .c) (a .at) _ (c .before .c .given .1)
 
 returns-2 : tie.Need-returns-2
-returns-2 c = packs-fault (c .before .before .before .before .args .c) _ (c .error .ensures) (c .before .before .c2 .given .1)
+returns-2 c =
+    let a = c .before .before .before .before .args in
+    packs-fault (a .c) (a .at) _ (c .error .ensures) (c .before .before .c2 .given .1)
 
 pub found-spec : {M : Type 1} → statement M
 found-spec = tie.close (tie.spec enum-known-c enum-known-c-2 error-requires returns returns-2)

@@ -8,10 +8,14 @@ error-requires : tie.Need-error-requires
 error-requires c κs = search needs
 
 returns : tie.Need-returns
-returns c = raise-bare (c .before .before .before .args .x) (c .error .ensures) (c .before .if1 .taken)
+returns c =
+    let a = c .before .before .args in
+    raise-bare (a .tag) (a .value) (a .at) (c .error .ensures) (c .before .if1 .taken)
 
 returns-2 : tie.Need-returns-2
-returns-2 c = raise-other (c .before .before .args .x) (c .if1 .left)
+returns-2 c =
+    let a = c .before .args in
+    raise-other (a .tag) (a .value) (a .at) (c .if1 .left)
 
 pub raised-spec : {M : Type 1} → statement M
 raised-spec = tie.close (tie.spec error-requires returns returns-2)

@@ -33,19 +33,31 @@ loop-again c =
     let turn = step .before .before .before in
     turn-next (turn .loop .inv) (step .before .before .loop-test .taken) (step .step .ensures) (step .step .kept .0)
 
-add-entry : tie.Need-add-entry Inv-loop μ-loop
-add-entry c = search needs
+add-t9 : tie.Need-add-t9 Inv-loop μ-loop
+add-t9 c = search needs
 
-entry-requires : tie.Need-entry-requires Inv-loop μ-loop
-entry-requires c κs = search needs
+mul-t10 : tie.Need-mul-t10 Inv-loop μ-loop
+mul-t10 c = search needs
+
+slice-read-t12 : tie.Need-slice-read-t12 Inv-loop μ-loop
+slice-read-t12 c = search needs
+
+add-t13 : tie.Need-add-t13 Inv-loop μ-loop
+add-t13 c = search needs
+
+mul-t14 : tie.Need-mul-t14 Inv-loop μ-loop
+mul-t14 c = search needs
+
+slice-read-t16 : tie.Need-slice-read-t16 Inv-loop μ-loop
+slice-read-t16 c = search needs
 
 same-length : tie.Need-same-length Inv-loop μ-loop
 same-length c = search needs
 
 returns : tie.Need-returns Inv-loop μ-loop
 returns c =
-    let out = c .before .before .before in
-    turn-end _ (out .before .loop .inv) (out .loop-test .left) (c .entry .ensures)
+    let out = c .before .before in
+    turn-end (out .before .loop .inv) (out .loop-test .left)
 
 pub sides-spec : {M : Type 1} → statement M
 sides-spec =
@@ -58,7 +70,11 @@ sides-spec =
     step-requires
     loop-less
     loop-again
-    add-entry
-    entry-requires
+    add-t9
+    mul-t10
+    slice-read-t12
+    add-t13
+    mul-t14
+    slice-read-t16
     same-length
     returns)

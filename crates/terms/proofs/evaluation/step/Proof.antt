@@ -1,49 +1,74 @@
 -- `evaluation::step` meets its contract: each code goes to the function of its kind. Assumes nothing.
-use mathlib.Core.Path.{refl}
-use Rattle.terms.proofs.Laws.Stack.{operation-step, array-step, leaf-step}
+use Prim.Native.Nat.{_+_, _*_, _<_}
+use native.Mathlib.Omega.{arith}
+use Rattle.terms.specs.Machine.{Room}
+use Rattle.terms.proofs.Laws.Step.{operation-asked, operation-stepped, array-asked, array-stepped, place-asked, place-stepped}
+use Rattle.terms.proofs.Laws.Step.{constant-asked, constant-stepped}
 use borrow.Author.Needs.{needs}
 use Rattle.terms.proofs.evaluation.step.Statement.{statement}
 use Rattle.terms.proofs.evaluation.step.Tie as tie
 
+-- what `place` requires of a local's slot, and of a scalar's
+at-local : (c : tie.After-operand) →
+    let test = c .before .before .before in
+    let s = test .before .before .before .before in
+    (5120 + 2 * c .operand .result < 5200) × Room (s .args .w .now) 5201 (s .args .s .at)
+at-local c =
+    let test = c .before .before .before in
+    let s = test .before .before .before .before in
+    let a = s .args in
+    let k = test .if1 .taken in
+    place-asked (a .w .now) (a .s) (a .i) (test .before .code .ensures) (c .operand .ensures) 5120 (omega (arith, k)) (s .pre)
+
+at-scalar : (c : tie.After-place-arg) →
+    let read = c .before .before .before in
+    let code = read .before .before .before .before in
+    let s = code .before .before .before in
+    (4096 + 2 * read .operand2 .result < 5200) × Room (s .args .w .now) 5201 (s .args .s .at)
+at-scalar c =
+    let test = c .before in
+    let read = test .before .before in
+    let code = read .before .before .before .before in
+    let s = code .before .before .before in
+    let a = s .args in
+    let k = test .if4 .taken in
+    place-asked (a .w .now) (a .s) (a .i) (code .code .ensures) (read .operand2 .ensures) 4096 (omega (arith, k)) (s .pre)
+
 code-requires : tie.Need-code-requires
 code-requires c κs = search needs
 
-operation-requires : tie.Need-operation-requires
-operation-requires c κs =
-    let test = c .before in
-    let s = test .before .before .before .before in
-    let a = s .args in
-    let p = s .pre in
-    operation-step (a .w .now) (a .s) (a .i) (test .before .code .ensures) refl (p .context) (test .if1 .taken)
-    (p .item) (p .results) (p .reads) (p .fit) (p .stacked) .0
+operand-requires : tie.Need-operand-requires
+operand-requires c κs = search needs
+
+mul-place : tie.Need-mul-place
+mul-place c = omega (arith, at-local c .0)
+
+add-place : tie.Need-add-place
+add-place c = omega (arith, at-local c .0)
+
+place-requires : tie.Need-place-requires
+place-requires c κs = at-local c
 
 same-length : tie.Need-same-length
 same-length c = search needs
 
 returns : tie.Need-returns
 returns c =
-    let test = c .before .before in
-    let s = test .before .before .before .before in
-    let a = s .args in
-    record {
-      result = λ D α x xs k q f h.
-          operation-step (a .w .now) (a .s) (a .i) (test .before .code .ensures) refl k (test .if1 .taken) x xs q f h
-          .1 _ (c .operation .ensures);
-      kept = λ k o. refl;
-    }
+    let done = c .before .before in
+    let read = done .before in
+    let test = read .before .before .before in
+    let a = test .before .before .before .before .args in
+    let k = test .if1 .taken in
+    place-stepped (a .w .now) (a .s) (a .i) (test .before .code .ensures) (read .operand .ensures) 5120 (omega (arith, k))
+    (done .place .ensures)
 
-operand-requires : tie.Need-operand-requires
-operand-requires c κs = search needs
-
-indexed-requires : tie.Need-indexed-requires
-indexed-requires c κs =
+operation-requires : tie.Need-operation-requires
+operation-requires c κs =
     let test = c .before in
-    let read = test .before .before .before .before in
+    let read = test .before .before in
     let s = read .before .before .before in
     let a = s .args in
-    let p = s .pre in
-    array-step (a .w .now) (a .s) (a .i) (read .code .ensures) (test .before .operand .ensures) (p .context) (test .if2 .taken)
-    (p .item) (p .results) (p .reads) (p .fit) (p .stacked) .0
+    operation-asked (a .w .now) (a .s) (a .i) (read .code .ensures) (s .pre) (test .if2 .taken)
 
 same-length-2 : tie.Need-same-length-2
 same-length-2 c = search needs
@@ -51,55 +76,106 @@ same-length-2 c = search needs
 returns-2 : tie.Need-returns-2
 returns-2 c =
     let test = c .before .before in
-    let read = test .before .before .before .before in
-    let s = read .before .before .before in
-    let a = s .args in
-    record {
-      result = λ D α x xs k q f h.
-          array-step (a .w .now) (a .s) (a .i) (read .code .ensures) (test .before .operand .ensures) k (test .if2 .taken) x xs q f h
-          .1 _ (c .indexed .ensures);
-      kept = λ k o. refl;
-    }
+    let read = test .before .before in
+    let a = read .before .before .before .args in
+    operation-stepped (a .w .now) (a .s) (a .i) (read .code .ensures) (test .if2 .taken) (c .operation .ensures)
 
-pushed-requires : tie.Need-pushed-requires
-pushed-requires c κs =
+operand-requires-2 : tie.Need-operand-requires-2
+operand-requires-2 c κs = search needs
+
+element-requires : tie.Need-element-requires
+element-requires c κs =
     let test = c .before in
-    let first = test .before .before .before in
-    let s = first .before .before .before .before in
+    let read = test .before in
+    let code = read .before .before .before .before in
+    let s = code .before .before .before in
     let a = s .args in
-    let p = s .pre in
-    leaf-step (a .w .now) (a .s) (a .i) (first .before .code .ensures) (test .before .operand .ensures) (p .context) (first .if1 .left) (test .if2 .left)
-    (p .item) (p .results) (p .reads) (p .fit) (p .stacked) .0
+    array-asked (a .w .now) (a .s) (a .i) (code .code .ensures) (read .operand2 .ensures) (s .pre) (test .if3 .taken)
 
 same-length-3 : tie.Need-same-length-3
 same-length-3 c = search needs
 
 returns-3 : tie.Need-returns-3
 returns-3 c =
+    let test = c .before .before in
+    let read = test .before in
+    let code = read .before .before .before .before in
+    let a = code .before .before .before .args in
+    array-stepped (a .w .now) (a .s) (a .i) (code .code .ensures) (read .operand2 .ensures) (test .if3 .taken) (c .element .ensures)
+
+mul-place-2 : tie.Need-mul-place-2
+mul-place-2 c = omega (arith, at-scalar c .0)
+
+add-place-2 : tie.Need-add-place-2
+add-place-2 c = omega (arith, at-scalar c .0)
+
+place-requires-2 : tie.Need-place-requires-2
+place-requires-2 c κs = at-scalar c
+
+same-length-4 : tie.Need-same-length-4
+same-length-4 c = search needs
+
+returns-4 : tie.Need-returns-4
+returns-4 c =
     let done = c .before .before in
     let test = done .before .before in
-    let first = test .before .before .before in
-    let s = first .before .before .before .before in
+    let read = test .before .before in
+    let code = read .before .before .before .before in
+    let a = code .before .before .before .args in
+    let k = test .if4 .taken in
+    place-stepped (a .w .now) (a .s) (a .i) (code .code .ensures) (read .operand2 .ensures) 4096 (omega (arith, k))
+    (done .place2 .ensures)
+
+constant-requires : tie.Need-constant-requires
+constant-requires c κs =
+    let last = c .before in
+    let array = last .before in
+    let read = array .before in
+    let low = read .before .before in
+    let code = low .before .before in
+    let s = code .before .before .before in
     let a = s .args in
-    record {
-      result = λ D α x xs k q f h.
-          leaf-step (a .w .now) (a .s) (a .i) (first .before .code .ensures) (test .before .operand .ensures) k (first .if1 .left) (test .if2 .left) x xs q f h
-          .1 _ _ (done .pushed .ensures);
-      kept = done .pushed .ensures .kept;
-    }
+    constant-asked (a .w .now) (a .s) (a .i) (code .code .ensures) (read .operand2 .ensures) (low .if2 .left) (last .if4 .left)
+    (low .before .if1 .left) (array .if3 .left) (s .pre)
+
+same-length-5 : tie.Need-same-length-5
+same-length-5 c = search needs
+
+returns-5 : tie.Need-returns-5
+returns-5 c =
+    let done = c .before .before in
+    let last = done .before .before in
+    let array = last .before in
+    let read = array .before in
+    let low = read .before .before in
+    let code = low .before .before in
+    let a = code .before .before .before .args in
+    constant-stepped (a .w .now) (a .s) (a .i) (code .code .ensures) (read .operand2 .ensures) (low .if2 .left) (last .if4 .left)
+    (low .before .if1 .left) (array .if3 .left) (done .constant .ensures)
 
 pub step-spec : {M : Type 1} → statement M
 step-spec =
     tie.close
     (tie.spec
     code-requires
-    operation-requires
+    operand-requires
+    mul-place
+    add-place
+    place-requires
     same-length
     returns
-    operand-requires
-    indexed-requires
+    operation-requires
     same-length-2
     returns-2
-    pushed-requires
+    operand-requires-2
+    element-requires
     same-length-3
-    returns-3)
+    returns-3
+    mul-place-2
+    add-place-2
+    place-requires-2
+    same-length-4
+    returns-4
+    constant-requires
+    same-length-5
+    returns-5)

@@ -1,0 +1,110 @@
+-- Elements of arrays: where an array begins and ends among the cells, and an element from what the code tested. Assumes nothing.
+use Prim.Native.Nat.{ℕ, zero, suc, _+_, _-_, _*_, _<_, _≤_}
+use native.Mathlib.Omega.{arith}
+use native.Mathlib.Numerals.{add-one}
+use mathlib.Core.Path.{_≡_, sym, _∙_}
+use mathlib.Core.List.{List, [], _∷_}
+use borrow.Author.Tests.{lt-ltb, le-ltb}
+use lib.ListN.{length, getD, take}
+use lib.IntN.{ℤ, pos, negsuc}
+use Rattle.specification.specs.Lines.{Declared, sum, cells, firstOf, lengthOf}
+use Rattle.specification.specs.Place.{cell}
+use Rattle.specification.specs.Value.{Valuation, val, bare, err, elementSide}
+use Rattle.values.specs.Word.{biased}
+use Rattle.sheet.specs.Tables.{Words}
+use Rattle.terms.specs.declared.Stack.{Stack}
+use Rattle.terms.specs.Results.{stackOf, errorOf, Raised, Looked}
+use Rattle.terms.specs.Machine.{Context, Element, Elements}
+
+-- ---- where arrays stand
+
+sum-next : (ns : List ℕ) (a : ℕ) → a < length ns → sum (take (suc a) ns) ≡ sum (take a ns) + getD ns a 0
+unfolding sum
+sum-next [] a h = absurd (omega arith)
+sum-next (n ∷ ns) zero h = omega arith
+sum-next (n ∷ ns) (suc a) h = let e = sum-next ns a (omega arith) in omega arith
+
+sum-part : (ns : List ℕ) (a : ℕ) → sum (take a ns) ≤ sum ns
+unfolding sum
+sum-part [] zero = omega arith
+sum-part [] (suc a) = omega arith
+sum-part (n ∷ ns) zero = omega arith
+sum-part (n ∷ ns) (suc a) = omega (arith, sum-part ns a)
+
+module _ (D : Declared) (a : ℕ) where
+  pub first-next : a < length (D .arrays) → firstOf D (suc a) ≡ firstOf D a + lengthOf D a
+  unfolding firstOf lengthOf
+  first-next h = omega (arith, sum-next (D .arrays) a h)
+
+  pub first-below : firstOf D a ≤ cells D
+  unfolding firstOf cells
+  first-below = omega (arith, sum-part (D .arrays) a)
+
+module _ {w : Words} {D : Declared} {α : Valuation} (c : Context w D α) (a : ℕ) (declared : a < length (D .arrays)) where
+  pub first-at : getD w (5184 + a) 0 ≡ firstOf D a
+  first-at = c .arrays a (omega (arith, c .few))
+
+  pub next-at : getD w (5184 + (a + 1)) 0 ≡ firstOf D a + lengthOf D a
+  next-at = rw add-one (c .arrays (suc a) (omega (arith, c .few)) ∙ first-next D a declared)
+
+  pub elements : Elements w a
+  elements =
+      record {
+        number = omega (arith, c .few);
+        rising = omega (arith, first-at, next-at);
+        last = rw add-one (omega (arith, c .arrays (suc a) (omega (arith, c .few)), first-below D (suc a), c .cells));
+        size = c .size;
+      }
+
+-- ---- one element
+
+module _ {w : Words} {a : ℕ} {s : Stack} where
+  pub element-raised : {r : Stack} → (s .tag ≡ 0 → ⊥) → Raised (s .tag) (s .value) (s .at) r → Element w a s r
+  unfolding elementSide
+  element-raised n h D α (val z) c d e v = absurd (n e)
+  element-raised n h D α (bare p) c d e v = h (bare p) e v
+  element-raised n h D α (err κ) c d e v = h (err κ) e v
+
+  -- an index that has a value
+  element-value : {r : Stack} → s .tag ≡ 0 →
+      ((D : Declared) (α : Valuation) (z : ℤ) → Context w D α → a < length (D .arrays) → s .value ≡ biased z →
+      r ≡ stackOf (s .at) (elementSide D α a (val z))) → Element w a s r
+  element-value t h D α (val z) c d e v = h D α z c d v
+  element-value t h D α (bare p) c d e v = absurd (omega (arith, t, e))
+  element-value t h D α (err κ) c d e v = absurd (omega (arith, t, e))
+
+  pub element-negative : {r : Stack} → r ≡ errorOf 4 (s .at) → s .tag ≡ 0 → s .value < 2147483648 → Element w a s r
+  unfolding elementSide
+  element-negative {r} q t l = element-value t go
+    where
+      go : (D : Declared) (α : Valuation) (z : ℤ) → Context w D α → a < length (D .arrays) → s .value ≡ biased z →
+          r ≡ stackOf (s .at) (elementSide D α a (val z))
+      go D α (pos n) c d e = absurd (omega arith)
+      go D α (negsuc n) c d e = q
+
+  module _ {first next : ℕ} (first-is : first ≡ getD w (5184 + a) 0) (next-is : next ≡ getD w (5184 + (a + 1)) 0) where
+    pub element-outside : {r : Stack} → r ≡ errorOf 4 (s .at) → s .tag ≡ 0 → 2147483648 ≤ s .value →
+        next - first ≤ s .value - 2147483648 → Element w a s r
+    unfolding elementSide
+    element-outside {r} q t l o = element-value t go
+      where
+        go : (D : Declared) (α : Valuation) (z : ℤ) → Context w D α → a < length (D .arrays) → s .value ≡ biased z →
+            r ≡ stackOf (s .at) (elementSide D α a (val z))
+        go D α (pos n) c d e = rw (le-ltb n (lengthOf D a) (omega (arith, first-at c a d, next-at c a d))) q
+        go D α (negsuc n) c d e = absurd (omega arith)
+
+    pub element-inside : {r : Stack} → s .tag ≡ 0 → 2147483648 ≤ s .value → s .value - 2147483648 < next - first →
+        Looked w (4096 + 2 * (first + (s .value - 2147483648))) (s .at) r → Element w a s r
+    unfolding elementSide
+    element-inside {r} t l o h = element-value t go
+      where
+        go : (D : Declared) (α : Valuation) (z : ℤ) → Context w D α → a < length (D .arrays) → s .value ≡ biased z →
+            r ≡ stackOf (s .at) (elementSide D α a (val z))
+        go D α (pos n) c d e =
+            let from = first-at c a d in
+            let to = next-at c a d in
+            let here = firstOf D a + n in
+            let below : here < 512 = omega (arith, first-below D (suc a), first-next D a d, c .cells) in
+            let slot : 4096 + 2 * here ≡ 4096 + 2 * (first + (s .value - 2147483648)) = omega arith in
+            rw (lt-ltb n (lengthOf D a) (omega arith)) (h (cell here) (α (cell here)) slot (rw (sym slot) (c .holds .cells here below)))
+        go D α (negsuc n) c d e = absurd (omega arith)
