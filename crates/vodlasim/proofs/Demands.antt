@@ -1,8 +1,8 @@
 -- The first and the third demand (specs/Demands.antt) hold of every answered call. Assumes nothing.
 use Prim.Native.Nat.{ℕ, _≤_}
 use native.Mathlib.Omega.{arith}
-use mathlib.Core.Path.{_≡_, refl, sym, _∙_, ap, subst}
-use mathlib.Core.List.{List, [], _∷_, _++_}
+use mathlib.Core.Path.{_≡_, sym, _∙_, ap, subst}
+use mathlib.Core.List.{List, _++_}
 use lib.ListN.{length, take, drop}
 use lib.Seq.{take-at, drop-at}
 use Rattle.specification.specs.declared.Setting.{Setting}
@@ -12,7 +12,6 @@ use Rattle.specification.specs.declared.End.the-variants.{Done}
 use Rattle.specification.specs.declared.Outcome.{Outcome}
 use Rattle.specification.specs.declared.Outcome.the-variants.{Refused, Ran}
 use Rattle.specification.specs.Bytes.{Bytes}
-use Rattle.specification.specs.Listing.{Block, listingText}
 use Rattle.specification.specs.Outcome.{Result, refusal, ran, call, written, outcome, outputAfter, wordsAfter}
 use Rattle.specification.specs.Demand3.{Demand3}
 use Rattle.specification.proofs.Laws.Demand3.{demand3}

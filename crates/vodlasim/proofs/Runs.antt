@@ -15,7 +15,7 @@ use Rattle.specification.specs.Parser.{Reader, Read, refused, found, mark, key,
 use Rattle.specification.specs.Lines.{Declared, line, arraysLine}
 use Rattle.specification.specs.Given.{givenLine}
 use Rattle.specification.specs.Sheet.{Sheet, sheet, opened, read}
-use Rattle.specification.specs.Outcome.{Result, refusal, afterReading, enoughMemory, call, outcome, outputAfter, wordsAfter}
+use Rattle.specification.specs.Outcome.{refusal, afterReading, enoughMemory, call, outcome, outputAfter, wordsAfter}
 use Rattle.specification.proofs.Laws.Scope.{nowhere}
 use Rattle.specification.proofs.Laws.Parser.{Post, holds, of-found, bind-post, after}
 use Rattle.specification.proofs.Laws.ReadLines.{line-post}
@@ -27,7 +27,7 @@ use Rattle.sheet.specs.Whole.{readingOf, wordsOf}
 use Rattle.sheet.proofs.Tables.{tables-length}
 use Rattle.sheet.proofs.ReadSheet.{read-counts, read-ready}
 use Rattle.sheet.proofs.Shallow.{formula-shallow}
-use Rattle.walker.specs.Loop.{Ready, Readied, Walked}
+use Rattle.walker.specs.Walked.{Ready, Readied, Walked}
 use Rattle.vodlasim.specs.Answered.{Answered}
 
 -- ---- a sheet that is read has a shallow formula

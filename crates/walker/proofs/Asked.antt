@@ -1,29 +1,32 @@
 -- The steps into `not` and `imp`: an error leaf where a variable is open, else an inner tree to judge. Assumes nothing.
-use Prim.Native.Nat.{ℕ, suc, _+_, _*_, _≤_, _<_}
+use Prim.Native.Nat.{suc, _+_, _≤_, _<_}
 use native.Mathlib.Omega.{arith}
 use native.Mathlib.Numerals.{add-one}
 use native.Mathlib.Nat.{eq-or-lt-of-le}
-use mathlib.Core.Path.{_≡_, refl, sym, _∙_, ap, subst}
+use mathlib.Core.Path.{_≡_, refl, sym, _∙_}
 use mathlib.Core.Bool.{Bool, true, false}
 use mathlib.Core.Logic.{_⊎_, inl, inr}
 use mathlib.Core.List.{List, [], _∷_}
-use lib.ListN.{length}
 use Rattle.specification.specs.Bytes.{Bytes}
 use Rattle.specification.specs.Ast.{Formula, truth, and, or, imp, neg, eq, compare, ex, some, all}
-use Rattle.specification.specs.Inner.{Tree, ask, step, errorLeaf, Verdict, verdict, closed}
-use Rattle.specification.specs.Tree.{done, enquire, grow}
+use Rattle.specification.specs.Inner.{closed}
+use Rattle.specification.specs.Tree.{enquire, grow}
 use Rattle.sheet.specs.Tables.{Words}
-use Rattle.sheet.specs.Held.{codeAt, endAt, Shallow}
+use Rattle.sheet.specs.Held.{endAt, Shallow}
 use Rattle.terms.specs.Openness.{LowLocals, Standing, AskedFormula, Judged}
 use Rattle.walker.specs.declared.Due.{Due}
 use Rattle.walker.specs.declared.Regs.{Regs}
 use Rattle.walker.specs.Frame as frames
 use Rattle.walker.specs.Frame.{Item, form, the, treeItems, innerIn, Question, denying, implying, sonOf}
-use Rattle.walker.specs.Path.{World, Pend, Good, Stands, Asks}
+use Rattle.walker.specs.Path.{World, Pend, Asks}
+use Rattle.walker.specs.Stands.{Stands}
 use Rattle.walker.specs.Sim.{tree, In, Down}
-use Rattle.walker.specs.Steps.{Pushed, dueOf, errorDue, dueRegs, Visited, Entered, OneLeaf}
-use Rattle.walker.proofs.Here.{end-here, formula-here, formula-ends}
+use Rattle.walker.specs.Steps.{Pushed, Visited, Entered, OneLeaf}
+use Rattle.walker.specs.Registers.{formulaDue, errorDue, dueRegs}
+use Rattle.walker.proofs.Here.{formula-here}
 use Rattle.walker.proofs.Heads.{at-form, form-tree}
+use Rattle.walker.proofs.Whole.{marked-kept}
+use Rattle.walker.proofs.Pushes.{formula-job}
 use Rattle.walker.proofs.Onto.{down-asks}
 
 -- binders' locals have slots
@@ -60,7 +63,7 @@ module _ {w : Words} {r : Regs} where
   pub imp-asks : Entered w r 4 → (c : World) (o : Bytes) (i : In c o w r) → Questioned c o w r i
   unfolding grow treeItems
   imp-asks x c o i =
-      let a = at-form i (x .job) (x .code) in
+      let a = at-form i (x .formula) (x .code) in
       let b = a .under in
       record {
         F = b .first;
@@ -76,7 +79,7 @@ module _ {w : Words} {r : Regs} where
   pub not-asks : Entered w r 5 → (c : World) (o : Bytes) (i : In c o w r) → Questioned c o w r i
   unfolding grow treeItems
   not-asks x c o i =
-      let a = at-form i (x .job) (x .code) in
+      let a = at-form i (x .formula) (x .code) in
       let b = a .under in
       record {
         F = b .first;
@@ -133,22 +136,24 @@ module _ {w : Words} {r : Regs} (x : Questions w r) where
       son = λ c o i. (frames.error 5 (r .due .head), x .all c o i .grown ∙ rw (closed-is c o i, e), (refl, refl, refl), omega arith);
     }
 
-    pub asks-down : {w' : Words} {d : Due} → b ≡ true → Pushed w w' r 4 0 0 0 0 0 → d ≡ dueOf 0 (r .due .head + 1) 0 →
+    pub asks-down : {w' : Words} {d : Due} → b ≡ true → Pushed w w' r (r .due .head) 4 0 0 0 0 0 → d ≡ formulaDue w' (r .due .head + 1) 0 →
         (c : World) (o : Bytes) → In c o w r → Down c o w' (dueRegs r (r .depth + 1) d 1 0)
     unfolding enquire
-    asks-down e g k c o i =
+    asks-down {w'} e g k c o i =
         let q = x .all c o i in
         let near = q .near in
+        let m = marked-kept (g .linked .marked) in
         down-asks i g (q .F) (q .question) (q .is) (q .grown ∙ rw (closed-is c o i, e)) (omega arith) (q .asks) (q .rest)
-        (rw (k, add-one (r .due .head)) (refl, near, q .first, refl))
+        (rw (k, add-one (r .due .head))
+        (formula-job c w' (r .depth + 1) (suc (r .due .head)) 0 (q .F) [] (λ j h. m .tokens j h ∙ i .path .tokens j h) near (q .first) refl))
 
--- by the code of the node's formula
-pub question-at : {w : Words} {r : Regs} → Visited w r → r .due .job ≡ 0 → 4 ≤ codeAt w (r .due .head) → codeAt w (r .due .head) ≤ 5 → Questions w r
-question-at {w} {r} v j low high = go (eq-or-lt-of-le low)
+-- by the job
+pub question-at : {w : Words} {r : Regs} → Visited w r → 4 ≤ r .due .job → r .due .job ≤ 5 → Questions w r
+question-at {w} {r} v low high = go (eq-or-lt-of-le low)
   where
-    go : (4 ≡ codeAt w (r .due .head)) ⊎ (4 < codeAt w (r .due .head)) → Questions w r
-    go (inl e) = questions (inl (record { at = v; job = j; code = sym e }))
-    go (inr l) = questions (inr (record { at = v; job = j; code = omega arith }))
+    go : (4 ≡ r .due .job) ⊎ (4 < r .due .job) → Questions w r
+    go (inl e) = questions (inl (record { at = v; code = sym e; formula = (omega arith, omega arith) }))
+    go (inr l) = questions (inr (record { at = v; code = omega arith; formula = (omega arith, omega arith) }))
 
 pub question-near : {w : Words} {r : Regs} → Questions w r → suc (r .due .head) < 1024
 question-near x = x .all (x .at .c) (x .at .o) (x .at .ins) .near

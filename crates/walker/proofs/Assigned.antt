@@ -1,31 +1,27 @@
 -- What follows an atom: a test goes on or fails; an assignment changes a slot, unless it would assign an array element in an inner tree.
 -- Assumes nothing.
-use Prim.Native.Nat.{ℕ, zero, suc, _+_, _*_, _≤_, _<_}
+use Prim.Native.Nat.{ℕ, _+_, _*_, _≤_, _<_}
 use native.Mathlib.Omega.{arith}
-use mathlib.Core.Path.{_≡_, refl, sym, _∙_, ap, subst}
+use mathlib.Core.Path.{_≡_, refl, _∙_}
 use mathlib.Core.Bool.{Bool, true, false, _&&_}
-use mathlib.Core.List.{List, [], _∷_}
-use lib.ListN.{length, getD, set, take}
-use lib.Dec.{T, leb}
-use lib.IntN.{ℤ}
+use lib.ListN.{length, getD, set}
 use borrow.Author.Tests.{le-leb, lt-leb}
 use Rattle.specification.specs.Bytes.{Bytes}
-use Rattle.specification.specs.Number.{in32}
-use Rattle.specification.specs.Lines.{Declared, sum, cells, firstOf}
-use Rattle.specification.specs.Place.{Place, cell, local, put}
-use Rattle.specification.specs.Value.{empty, full}
+use Rattle.specification.specs.Lines.{sum, cells, firstOf}
+use Rattle.specification.specs.Place.{Place, cell, local}
+use Rattle.specification.specs.Value.{full}
 use Rattle.specification.specs.Inner.{step}
-use Rattle.specification.specs.Tree.{check, isElement, assignUnless, assign}
-use Rattle.values.specs.Word.{biased}
+use Rattle.specification.specs.Tree.{isElement, assign}
 use Rattle.sheet.specs.Tables.{Words}
 use Rattle.sheet.specs.Held.{slotOf}
 use Rattle.walker.specs.declared.Due.{Due}
 use Rattle.walker.specs.declared.Regs.{Regs}
 use Rattle.walker.specs.Frame as frames
-use Rattle.walker.specs.Frame.{the, treeItems, innerIn}
+use Rattle.walker.specs.Frame.{the, innerIn}
 use Rattle.walker.specs.Path.{World, InTable, bit}
 use Rattle.walker.specs.Sim.{In, Down}
-use Rattle.walker.specs.Steps.{dueOf, errorDue, dueRegs, Pushed, Leads, Listed, GoesOn, OneLeaf, Assigns, Sets, Tested}
+use Rattle.walker.specs.Steps.{Pushed, Leads, Listed, GoesOn, OneLeaf, Assigns, Sets, Tested}
+use Rattle.walker.specs.Registers.{dueOf, errorDue, dueRegs}
 use Rattle.walker.proofs.Slots.{in-table as slot-within, alter-two}
 use Rattle.walker.proofs.Heads.{room-words}
 use Rattle.walker.proofs.Pushes.{Alters, alters-kept, rest-onto, rest-leads}
@@ -36,7 +32,7 @@ use Rattle.walker.proofs.Onto.{down-undo}
 pub test-true : {w : Words} {r : Regs} {b : Bool} → Tested w r b → b ≡ true → GoesOn w r
 test-true x e = record { at = x .at; son = λ c o i. let q = x .son c o i in (q .0, q .1 ∙ rw e, q .2) }
 
-pub test-false : {w : Words} {r : Regs} {b : Bool} → Tested w r b → b ≡ false → OneLeaf w r (dueOf 4 0 0)
+pub test-false : {w : Words} {r : Regs} {b : Bool} → Tested w r b → b ≡ false → OneLeaf w r (dueOf 17 0 0)
 test-false x e = record { at = x .at; son = λ c o i. let q = x .son c o i in (frames.failure, q .1 ∙ rw e, refl, omega arith) }
 
 -- ---- an assignment, by where it stands and what is assigned
@@ -115,9 +111,9 @@ module _ {w : Words} {r : Regs} {slot value : ℕ} (x : Assigns w r slot value) 
 
 -- ---- the step
 
-module _ {w mid w1 w' : Words} {r : Regs} {slot old value : ℕ} (x : Sets w r slot value) (g : Pushed w mid r 2 slot 0 old 0 0)
+module _ {w mid w1 w' : Words} {r : Regs} {slot old value : ℕ} (x : Sets w r slot value) (g : Pushed w mid r (r .due .head) 2 slot 0 old 0 0)
     (e1 : w1 ≡ set mid slot 1) (e2 : w' ≡ set w1 (slot + 1) value) where
-  set-alters : (c : World) (o : Bytes) (i : In c o w r) → let q = x .son c o i in Alters w w' r (i .α) (q .1) (full (q .2)) 2 0 0
+  set-alters : (c : World) (o : Bytes) (i : In c o w r) → let q = x .son c o i in Alters w w' r (r .due .head) (i .α) (q .1) (full (q .2)) 2 0 0
   set-alters c o i =
       let (is, p, v, tree, rest, place, word, inside, none, good) = x .son c o i in
       record {
@@ -130,7 +126,7 @@ module _ {w mid w1 w' : Words} {r : Regs} {slot old value : ℕ} (x : Sets w r s
         inside = inside;
         saved = rw none refl;
         good = good;
-        altered = alter-two p place inside (omega (arith, g .size, i .path .size)) (full v) 1 value (refl, word) e1 e2;
+        altered = alter-two p place inside (omega (arith, g .linked .marked .size, i .path .size)) (full v) 1 value (refl, word) e1 e2;
       }
 
   pub set-leads : Leads w' (r .due .rest)

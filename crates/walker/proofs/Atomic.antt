@@ -1,28 +1,26 @@
 -- The steps into atoms, by what the two sides are. Assumes nothing.
-use Prim.Native.Nat.{ℕ, suc, _+_, _*_, _≤_, _<_}
+use Prim.Native.Nat.{ℕ, _+_, _≤_, _<_}
 use native.Mathlib.Omega.{arith}
 use native.Mathlib.Numerals.{add-one}
-use mathlib.Core.Path.{_≡_, refl, sym, _∙_, ap, subst}
+use mathlib.Core.Path.{_≡_, refl, sym, _∙_, ap}
 use mathlib.Core.Bool.{Bool, not}
-use mathlib.Core.List.{List, [], _∷_}
+use mathlib.Core.List.{List}
 use lib.Dec.{T, leb, ltb, eqb}
 use lib.IntN.{ℤ}
 use Rattle.specification.specs.Bytes.{Bytes}
-use Rattle.specification.specs.Number.{in32}
 use Rattle.specification.specs.Lines.{Declared, cells}
-use Rattle.specification.specs.Ast.{Rel, ne, lt, le, gt, ge, Term, Formula, eq, compare}
+use Rattle.specification.specs.Ast.{ne, lt, le, gt, ge, Term, eq, compare}
 use Rattle.specification.specs.Arithmetic.{eqZ, test}
 use Rattle.specification.specs.Place.{Place, cell, local}
-use Rattle.specification.specs.Value.{Valuation, empty, Side, val, bare, err, pairOf, faulty, side}
+use Rattle.specification.specs.Value.{Valuation, Side, val, bare, err, pairOf, side}
 use Rattle.specification.specs.Inner.{errorLeaf, step}
-use Rattle.specification.specs.Tree.{Rest, check, assign, equate, compared, grow}
+use Rattle.specification.specs.Tree.{Rest, assign, equate, compared, grow}
 use Rattle.specification.proofs.Laws.Scope as scopes
 use Rattle.specification.proofs.Laws.Value.{sane-val, sane-bare}
 use Rattle.values.specs.Word.{biased, signed}
 use Rattle.values.proofs.Laws.Word.{signed-biased, signed-eq, signed-lt, signed-le}
 use Rattle.sheet.specs.Tables.{Words}
 use Rattle.sheet.specs.Held.{endAt, slotOf}
-use Rattle.sheet.specs.Codes.{relCode}
 use Rattle.terms.specs.declared.Sides.{Sides}
 use Rattle.terms.specs.Results.{tagOf, wordOf, Valued}
 use Rattle.walker.specs.declared.Regs.{Regs}
@@ -30,13 +28,14 @@ use Rattle.walker.specs.Frame as frames
 use Rattle.walker.specs.Frame.{Item, treeItems, innerIn}
 use Rattle.walker.specs.Path.{World, Pend, InTable}
 use Rattle.walker.specs.Sim.{tree, In}
-use Rattle.walker.specs.Steps.{errorDue, Visited, Entered, OneLeaf, Assigns, Tested, Compares}
+use Rattle.walker.specs.Steps.{Visited, Entered, OneLeaf, Assigns, Tested, Compares}
+use Rattle.walker.specs.Registers.{errorDue}
 use Rattle.walker.proofs.Keep.{pend-keep}
 use Rattle.walker.proofs.Here.{end-here}
-use Rattle.walker.proofs.Under.{TermsIn, Atom, Compared}
+use Rattle.walker.proofs.Under.{Compared}
 use Rattle.walker.proofs.Inverse.{says-compared}
 use Rattle.walker.proofs.Whole.{spare-kept}
-use Rattle.walker.proofs.Heads.{AtForm, at-form, form-tree, in-spare, visited-spare}
+use Rattle.walker.proofs.Heads.{at-form, form-tree, in-spare, visited-spare}
 use Rattle.walker.proofs.Sided.{Terms, Errs, back, forth, left-side, right-side, sides-are, left-value, right-value}
 
 -- the value of a side by its word
@@ -46,21 +45,21 @@ value-is D S α v t ok w z e h = ap signed h ∙ signed-biased z (sane-val D S �
 -- ---- the atoms that compare
 
 module _ {n : ℕ} {w : Words} {r : Regs} (x : Entered w r n) (low : 7 ≤ n) (high : n ≤ 11) where
-  abbrev pub comparing : (c : World) (o : Bytes) (i : In c o w r) → Compared (c .declared) (c .tables) (r .due .head) n (at-form i (x .job) (x .code) .F)
-  comparing c o i = let a = at-form i (x .job) (x .code) in says-compared (a .stands) (a .code) low high
+  abbrev pub comparing : (c : World) (o : Bytes) (i : In c o w r) → Compared (c .declared) (c .tables) (r .due .head) n (at-form i (x .formula) (x .code) .F)
+  comparing c o i = let a = at-form i (x .formula) (x .code) in says-compared (a .stands) (a .code) low high
 
   unfoldable pub compare-terms : Terms w r (r .due .head + 1) (endAt w (r .due .head))
   compare-terms = record {
     at = x .at;
     both = λ c o i.
-        let a = at-form i (x .job) (x .code) in
+        let a = at-form i (x .formula) (x .code) in
         let b = comparing c o i .2 in
         (b .left, b .right, rw (add-one (r .due .head), end-here (c .tables) w (i .path .tokens) (a .small)) (b .terms));
   }
 
   pub compare-errs : Errs w r (r .due .head + 1) (endAt w (r .due .head)) compare-terms
   unfolding compare-terms grow compared
-  compare-errs c o i κ e = let a = at-form i (x .job) (x .code) in form-tree i a ∙ rw (comparing c o i .2 .is, e)
+  compare-errs c o i κ e = let a = at-form i (x .formula) (x .code) in form-tree i a ∙ rw (comparing c o i .2 .is, e)
 
   pub compare-tested : {w' : Words} {s : Sides} (v : Valued w w' (r .due .head + 1) (endAt w (r .due .head)) s) → s .ltag ≡ 0 → s .rtag ≡ 0 →
       (b : Bool) → Compares n (s .left) (s .right) b → Tested w' r b
@@ -69,7 +68,7 @@ module _ {n : ℕ} {w : Words} {r : Regs} (x : Entered w r n) (low : 7 ≤ n) (h
     at = visited-spare w w' (v .kept) (v .size) (x .at);
     son = λ c o i.
         let j = back compare-terms v i in
-        let a = at-form j (x .job) (x .code) in
+        let a = at-form j (x .formula) (x .code) in
         let (rel, code, t) = comparing c o j in
         let p = left-value compare-terms v l c o i in
         let q = right-value compare-terms v h c o i in
@@ -114,7 +113,7 @@ module _ {w : Words} {r : Regs} (x : Entered w r 6) where
   eq-terms = record {
     at = x .at;
     both = λ c o i.
-        let a = at-form i (x .job) (x .code) in
+        let a = at-form i (x .formula) (x .code) in
         let b = a .under in
         (b .left, b .right, rw (add-one (r .due .head), end-here (c .tables) w (i .path .tokens) (a .small)) (b .terms));
   }
@@ -127,7 +126,7 @@ module _ {w : Words} {r : Regs} (x : Entered w r 6) where
     rights c o i = right-side eq-terms v c o i
 
     abbrev items : (c : World) (o : Bytes) → In c o w' r → List Item
-    items c o i = at-form (back eq-terms v i) (x .job) (x .code) .is
+    items c o i = at-form (back eq-terms v i) (x .formula) (x .code) .is
 
     -- the tree by the two sides
     equated : (c : World) (o : Bytes) (i : In c o w' r) →
@@ -136,7 +135,7 @@ module _ {w : Words} {r : Regs} (x : Entered w r 6) where
     unfolding eq-terms back in-spare grow
     equated c o i =
         let j = back eq-terms v i in
-        let a = at-form j (x .job) (x .code) in
+        let a = at-form j (x .formula) (x .code) in
         form-tree j a ∙ rw (a .under .is)
 
     visited : Visited w' r
@@ -144,7 +143,7 @@ module _ {w : Words} {r : Regs} (x : Entered w r 6) where
 
     rests : (c : World) (o : Bytes) (i : In c o w' r) → Pend c w' (r .depth) (r .due .rest) (items c o i)
     rests c o i =
-        let a = at-form (back eq-terms v i) (x .job) (x .code) in
+        let a = at-form (back eq-terms v i) (x .formula) (x .code) in
         pend-keep c w w' (r .depth) (r .due .rest) (a .is) (spare-kept w w' (v .kept) (v .size) (r .depth) .nodes) (a .rest)
 
     -- the tags and words, side by side
@@ -218,7 +217,7 @@ module _ {w : Words} {r : Regs} (x : Entered w r 6) where
     eq-assign-left e f = record {
       at = visited;
       son = λ c o i.
-          let t = at-form (back eq-terms v i) (x .job) (x .code) .under in
+          let t = at-form (back eq-terms v i) (x .formula) (x .code) .under in
           let g = t .terms in
           let p = has-place (lefts c o i) (s .left) (sym (ltag-is c o i) ∙ e) (left-is c o i) in
           let q = right-value eq-terms v f c o i in
@@ -241,7 +240,7 @@ module _ {w : Words} {r : Regs} (x : Entered w r 6) where
     eq-assign-right e f = record {
       at = visited;
       son = λ c o i.
-          let t = at-form (back eq-terms v i) (x .job) (x .code) .under in
+          let t = at-form (back eq-terms v i) (x .formula) (x .code) .under in
           let g = t .terms in
           let p = has-place (rights c o i) (s .right) (sym (rtag-is c o i) ∙ f) (right-is c o i) in
           let q = left-value eq-terms v e c o i in
@@ -265,7 +264,7 @@ module _ {w : Words} {r : Regs} (x : Entered w r 6) where
     eq-tested e f = record {
       at = visited;
       son = λ c o i.
-          let t = at-form (back eq-terms v i) (x .job) (x .code) .under in
+          let t = at-form (back eq-terms v i) (x .formula) (x .code) .under in
           let g = t .terms in
           let p = left-value eq-terms v e c o i in
           let q = right-value eq-terms v f c o i in

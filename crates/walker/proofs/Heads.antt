@@ -1,10 +1,10 @@
 -- What is due at a node whose visit is counted: by the job and the code, the items and their tree. And the words that evaluating terms
 -- changes do not matter. Assumes nothing.
-use Prim.Native.Nat.{ℕ, _+_, _*_, _≤_, _<_}
+use Prim.Native.Nat.{ℕ, _+_, _*_, _-_, _≤_, _<_}
 use native.Mathlib.Omega.{arith}
 use mathlib.Core.Path.{_≡_, refl, sym, _∙_}
 use mathlib.Core.List.{List, [], _∷_}
-use mathlib.Core.Logic.{_⊎_, inl}
+use mathlib.Core.Logic.{_⊎_}
 use lib.ListN.{length, getD}
 use lib.IntN.{ℤ}
 use Rattle.specification.specs.Bytes.{Bytes}
@@ -13,13 +13,15 @@ use Rattle.specification.specs.Tree.{grow, rounds}
 use Rattle.sheet.specs.Tables.{Words}
 use Rattle.sheet.specs.Held.{codeAt}
 use Rattle.walker.specs.declared.Regs.{Regs}
+use Rattle.walker.specs.Node.{headAt, currentAt, lastAt}
 use Rattle.walker.specs.Frame.{Item, form, again, What, the, success, failure, error, treeItems, innerIn}
-use Rattle.walker.specs.Path.{World, Stands, Binds, LeftAfter, Pend, Job}
+use Rattle.walker.specs.Path.{World, Pend, Job}
+use Rattle.walker.specs.Stands.{Stands, Binds, LeftAfter}
 use Rattle.walker.specs.Sim.{tree, In}
 use Rattle.walker.specs.Steps.{Visited, Entered, Stepped}
 use Rattle.walker.proofs.Here.{code-here}
 use Rattle.walker.proofs.Under.{Says}
-use Rattle.walker.proofs.Inverse.{says}
+use Rattle.walker.proofs.Inverse.{says, code-range}
 use Rattle.walker.proofs.Keep.{job-keep}
 use Rattle.walker.proofs.Slots.{holds-keep}
 use Rattle.walker.proofs.Whole.{path-kept, spare-kept, spare-slots}
@@ -37,7 +39,7 @@ pub record AtForm (c : World) (w : Words) (r : Regs) (n : ℕ) (x : What) : Type
   pub under : Says (c .declared) (c .tables) (r .due .head) n F
   pub rest : Pend c w (r .depth) (r .due .rest) is
 
--- x is an `all` that goes on, before the items
+-- x is an `all` that goes on, begun by the node before number `head`, before the items
 pub record AtAgain (c : World) (w : Words) (r : Regs) (x : What) : Type 0 where
   pub l : ℕ
   pub F : Formula
@@ -45,43 +47,64 @@ pub record AtAgain (c : World) (w : Words) (r : Regs) (x : What) : Type 0 where
   pub v : ℤ
   pub is : List Item
   pub due : x ≡ the (again l F m v ∷ is)
-  pub code : codeAt (c .tables) (r .due .head) ≡ 14
-  pub binds : Binds (c .declared) (c .tables) (r .due .head) l F
-  pub left : LeftAfter (r .due .current) (r .due .last) m v
+  pub below : (1 ≤ r .due .head) × (r .due .head ≤ r .depth)
+  pub code : codeAt (c .tables) (headAt w (r .due .head - 1)) ≡ 14
+  pub binds : Binds (c .declared) (c .tables) (headAt w (r .due .head - 1)) l F
+  pub left : LeftAfter (currentAt w (r .due .head - 1)) (lastAt w (r .due .head - 1)) m v
   pub rest : Pend c w (r .depth) (r .due .rest) is
 
 module _ {c : World} {o : Bytes} {w : Words} {r : Regs} (i : In c o w r) where
-  pub at-form : {n : ℕ} → r .due .job ≡ 0 → codeAt w (r .due .head) ≡ n → AtForm c w r n (i .x)
+  pub at-form : {n : ℕ} → (1 ≤ n) × (n ≤ 14) → r .due .job ≡ n → AtForm c w r n (i .x)
   at-form {n} j e = go (i .x) (i .job)
     where
       go : (x : What) → Job c w (r .depth) (r .due) x → AtForm c w r n x
-      go (the []) q = absurd (omega (arith, q))
+      go (the []) q = absurd (omega (arith, e, q, j .0))
       go (the (form F ∷ is)) q =
-          let code = sym (code-here (c .tables) w (i .path .tokens) (q .1)) ∙ e in
+          let code = sym (q .0) ∙ e in
           record { F = F; is = is; due = refl; small = q .1; stands = q .2; code = code; under = says (q .2) code; rest = q .3 }
-      go (the (again l F m v ∷ is)) q = absurd (omega (arith, q .0))
-      go success q = absurd (omega (arith, q))
-      go failure q = absurd (omega (arith, q))
-      go (error κ tok) q = absurd (omega (arith, q .0))
+      go (the (again l F m v ∷ is)) q = absurd (omega (arith, e, q .0, j .1))
+      go success q = absurd (omega (arith, e, q, j .1))
+      go failure q = absurd (omega (arith, e, q, j .1))
+      go (error κ tok) q = absurd (omega (arith, e, q .0, j .1))
 
-  pub at-again : r .due .job ≡ 2 → AtAgain c w r (i .x)
+  -- a formula's code
+  code-of : {F : Formula} → r .due .job ≡ codeAt (c .tables) (r .due .head) → Stands (c .declared) (c .tables) (r .due .head) F →
+      (1 ≤ r .due .job) × (r .due .job ≤ 14)
+  code-of {F} e s =
+      let z = code-range (c .declared) (c .tables) (r .due .head) F s in
+      (omega (arith, e, z .0), omega (arith, e, z .1))
+
+  pub at-again : r .due .job ≡ 15 → AtAgain c w r (i .x)
   at-again j = go (i .x) (i .job)
     where
       go : (x : What) → Job c w (r .depth) (r .due) x → AtAgain c w r x
       go (the []) q = absurd (omega (arith, q))
-      go (the (form F ∷ is)) q = absurd (omega (arith, q .0))
+      go (the (form F ∷ is)) q = absurd (omega (arith, j, code-of (q .0) (q .2) .1))
       go (the (again l F m v ∷ is)) q =
-          record { l = l; F = F; m = m; v = v; is = is; due = refl; code = q .1; binds = q .2; left = q .3; rest = q .4 }
+          let k : r .due .head - 1 ≡ q .1 = omega (arith, q .2) in
+          record {
+            l = l;
+            F = F;
+            m = m;
+            v = v;
+            is = is;
+            due = refl;
+            below = (omega (arith, q .2), omega (arith, q .2, q .3));
+            code = rw k (q .4);
+            binds = rw k (q .5);
+            left = rw k (q .6);
+            rest = q .7;
+          }
       go success q = absurd (omega (arith, q))
       go failure q = absurd (omega (arith, q))
       go (error κ tok) q = absurd (omega (arith, q .0))
 
-  pub at-empty : r .due .job ≡ 1 → i .x ≡ the []
+  pub at-empty : r .due .job ≡ 0 → i .x ≡ the []
   at-empty j = go (i .x) (i .job)
     where
       go : (x : What) → Job c w (r .depth) (r .due) x → x ≡ the []
       go (the []) q = refl
-      go (the (form F ∷ is)) q = absurd (omega (arith, q .0))
+      go (the (form F ∷ is)) q = absurd (omega (arith, j, code-of (q .0) (q .2) .0))
       go (the (again l F m v ∷ is)) q = absurd (omega (arith, q .0))
       go success q = absurd (omega (arith, q))
       go failure q = absurd (omega (arith, q))
@@ -106,6 +129,13 @@ module _ {c : World} {o : Bytes} {w : Words} {r : Regs} (i : In c o w r) where
 
   pub shallow : r .depth < 32768
   shallow = omega (arith, i .path .limit, i .room)
+
+-- the code of the token that is due, in the present words
+pub head-code : {w : Words} {r : Regs} {n : ℕ} → Entered w r n → codeAt w (r .due .head) ≡ n
+head-code {w} x =
+    let i = x .at .ins in
+    let a = at-form i (x .formula) (x .code) in
+    code-here (x .at .c .tables) w (i .path .tokens) (a .small) ∙ a .code
 
 -- ---- after evaluating terms
 
@@ -134,9 +164,7 @@ module _ (w w' : Words) (u : (k : ℕ) → (k < 5201) ⊎ (5588 ≤ k) → getD 
   visited-spare v = record { c = v .c; o = v .o; ins = in-spare (v .ins) }
 
   pub entered-spare : {r : Regs} {n : ℕ} → Entered w r n → Entered w' r n
-  entered-spare {r} {n} v =
-      let a = at-form (v .at .ins) (v .job) (v .code) in
-      record { at = visited-spare (v .at); job = v .job; code = u (4 * r .due .head) (inl (omega (arith, a .small))) ∙ v .code }
+  entered-spare v = record { at = visited-spare (v .at); code = v .code; formula = v .formula }
 
   -- a step from the words after it is one from the words before it
   pub stepped-spare : {w'' : Words} {r q : Regs} → Stepped w' w'' r q → Stepped w w'' r q

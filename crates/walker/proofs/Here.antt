@@ -6,7 +6,8 @@ use Rattle.specification.specs.Lines.{Declared}
 use Rattle.specification.specs.Ast.{Term, constant, scalarAt, localAt, elementAt, apply, Formula, truth, and, or, imp, neg, eq, compare, ex, some, all}
 use Rattle.sheet.specs.Tables.{Words}
 use Rattle.sheet.specs.Held.{codeAt, operandAt, endAt, TokenAt, TermAt, TermsAt, LocalAt, FormulaAt}
-use Rattle.walker.specs.Path.{bodyOf, Binds, SameTokens}
+use Rattle.walker.specs.Path.{SameTokens}
+use Rattle.walker.specs.Stands.{bodyOf, Binds}
 
 -- ---- the tokens of a term or formula lie in the table
 

@@ -12,7 +12,7 @@ use Rattle.specification.proofs.Laws.Scope.{Scope, enter, OkTerm, Ok}
 use Rattle.sheet.specs.Tables.{Words}
 use Rattle.sheet.specs.Codes.{relCode}
 use Rattle.sheet.specs.Held.{codeAt, endAt, TermsAt, LocalAt, FormulaAt, height, Shallow}
-use Rattle.walker.specs.Path.{Good, Stands, bodyOf}
+use Rattle.walker.specs.Stands.{Good, Stands, bodyOf}
 use Rattle.walker.proofs.Here.{term-ends, formula-ends}
 use Rattle.walker.proofs.Under.{TermsIn, Both, Atom, Ranges, Compared, Says}
 

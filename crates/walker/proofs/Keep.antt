@@ -81,7 +81,20 @@ module _ (c : World) (w w' : Words) where
   pub job-keep : (n : ℕ) (d : Due) (x : What) → SameNodes n w w' → Job c w n d x → Job c w' n d x
   job-keep n d (the []) u q = q
   job-keep n d (the (form F ∷ is)) u q = (q .0, q .1, q .2, pend-keep n (d .rest) is u (q .3))
-  job-keep n d (the (again l F m v ∷ is)) u q = (q .0, q .1, q .2, q .3, pend-keep n (d .rest) is u (q .4))
+  job-keep n d (the (again l F m x ∷ is)) u q =
+      let k = q .1 in
+      let h : k < n = q .3 in
+      let v : SameNodes (suc k) w w' = fewer-nodes h u in
+      let head = same-head k v in (
+        q .0,
+        k,
+        q .2,
+        h,
+        rw head (q .4),
+        rw head (q .5),
+        rw (same-word k v 6 (omega arith), same-word k v 7 (omega arith)) (q .6),
+        pend-keep n (d .rest) is u (q .7),
+      )
   job-keep n d success u q = q
   job-keep n d failure u q = q
   job-keep n d (error κ tok) u q = q

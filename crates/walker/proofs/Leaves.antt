@@ -11,14 +11,18 @@ use Rattle.specification.specs.Bytes.{Bytes}
 use Rattle.specification.specs.Visits.{answer, error as errs}
 use Rattle.specification.specs.declared.Tallies.{Tallies}
 use Rattle.specification.specs.Run.{addFail, arrive}
+use Rattle.specification.specs.Ast.{Formula}
 use Rattle.sheet.specs.Tables.{Words}
 use Rattle.walker.specs.declared.Regs.{Regs}
 use Rattle.walker.specs.Walk.{within, leaf}
 use Rattle.walker.specs.Frame.{form, again, What, the, success, failure, error, innerIn}
+use Rattle.sheet.specs.Held.{codeAt}
+use Rattle.walker.specs.Stands.{Stands}
 use Rattle.walker.specs.Path.{World, Job, bit}
 use Rattle.walker.specs.Sim.{In, Up, Yes, Leaf, up, won, block}
-use Rattle.walker.specs.Steps.{leafRegs, counted}
+use Rattle.walker.specs.Registers.{leafRegs, counted}
 use Rattle.walker.specs.Loop.{AtLeaf, LeafDone}
+use Rattle.walker.proofs.Inverse.{code-range}
 
 bit-one : (m : Bool) → bit m ≡ 1 → m ≡ true
 bit-one true e = refl
@@ -31,34 +35,38 @@ bit-none false e = refl
 module _ {c : World} {o : Bytes} {w : Words} {r : Regs} (i : In c o w r) where
   -- ---- which leaf it is
 
-  at-success : r .due .job ≡ 3 → i .x ≡ success
+  -- no formula: its job is a code
+  no-leaf : {F : Formula} → r .due .job ≡ codeAt (c .tables) (r .due .head) → Stands (c .declared) (c .tables) (r .due .head) F → r .due .job < 16
+  no-leaf {F} e s = omega (arith, e, code-range (c .declared) (c .tables) (r .due .head) F s .1)
+
+  at-success : r .due .job ≡ 16 → i .x ≡ success
   at-success j = go (i .x) (i .job)
     where
       go : (x : What) → Job c w (r .depth) (r .due) x → x ≡ success
       go (the []) q = absurd (omega (arith, q))
-      go (the (form F ∷ is)) q = absurd (omega (arith, q .0))
+      go (the (form F ∷ is)) q = absurd (omega (arith, no-leaf (q .0) (q .2)))
       go (the (again l F m v ∷ is)) q = absurd (omega (arith, q .0))
       go success q = refl
       go failure q = absurd (omega (arith, q))
       go (error κ tok) q = absurd (omega (arith, q .0))
 
-  at-failure : r .due .job ≡ 4 → i .x ≡ failure
+  at-failure : r .due .job ≡ 17 → i .x ≡ failure
   at-failure j = go (i .x) (i .job)
     where
       go : (x : What) → Job c w (r .depth) (r .due) x → x ≡ failure
       go (the []) q = absurd (omega (arith, q))
-      go (the (form F ∷ is)) q = absurd (omega (arith, q .0))
+      go (the (form F ∷ is)) q = absurd (omega (arith, no-leaf (q .0) (q .2)))
       go (the (again l F m v ∷ is)) q = absurd (omega (arith, q .0))
       go success q = absurd (omega (arith, q))
       go failure q = refl
       go (error κ tok) q = absurd (omega (arith, q .0))
 
-  at-error : 3 ≤ r .due .job → (r .due .job ≡ 3 → ⊥) → (r .due .job ≡ 4 → ⊥) → (r .due .job ≡ 5) × (i .x ≡ error (r .due .kind) (r .due .head))
+  at-error : 16 ≤ r .due .job → (r .due .job ≡ 16 → ⊥) → (r .due .job ≡ 17 → ⊥) → (r .due .job ≡ 18) × (i .x ≡ error (r .due .rest) (r .due .head))
   at-error h n3 n4 = go (i .x) (i .job)
     where
-      go : (x : What) → Job c w (r .depth) (r .due) x → (r .due .job ≡ 5) × (x ≡ error (r .due .kind) (r .due .head))
+      go : (x : What) → Job c w (r .depth) (r .due) x → (r .due .job ≡ 18) × (x ≡ error (r .due .rest) (r .due .head))
       go (the []) q = absurd (omega (arith, q))
-      go (the (form F ∷ is)) q = absurd (omega (arith, q .0))
+      go (the (form F ∷ is)) q = absurd (omega (arith, no-leaf (q .0) (q .2)))
       go (the (again l F m v ∷ is)) q = absurd (omega (arith, q .0))
       go success q = absurd (n3 q)
       go failure q = absurd (n4 q)
@@ -72,7 +80,7 @@ module _ {c : World} {o : Bytes} {w : Words} {r : Regs} (i : In c o w r) where
 
   -- ---- what it leads to
 
-  inner-success : r .inner ≡ 1 → r .due .job ≡ 3 → Yes c o w (leafRegs r 3 (r .bad) (r .tallies) (r .written))
+  inner-success : r .inner ≡ 1 → r .due .job ≡ 16 → Yes c o w (leafRegs r 3 (r .bad) (r .tallies) (r .written))
   unfolding within
   inner-success m j = record {
     fr = i .fr;
@@ -84,7 +92,7 @@ module _ {c : World} {o : Bytes} {w : Words} {r : Regs} (i : In c o w r) where
     result = rw (at-success j, inside-yes m) at (i .result);
   }
 
-  inner-failure : r .inner ≡ 1 → r .due .job ≡ 4 → Up c o w (leafRegs r 2 (r .bad) (r .tallies) (r .written))
+  inner-failure : r .inner ≡ 1 → r .due .job ≡ 17 → Up c o w (leafRegs r 2 (r .bad) (r .tallies) (r .written))
   unfolding within
   inner-failure m j = record {
     fr = i .fr;
@@ -99,7 +107,7 @@ module _ {c : World} {o : Bytes} {w : Words} {r : Regs} (i : In c o w r) where
     result = rw (at-failure j, inside-yes m) at (i .result);
   }
 
-  inner-error : r .inner ≡ 1 → 3 ≤ r .due .job → (r .due .job ≡ 3 → ⊥) → (r .due .job ≡ 4 → ⊥) → Up c o w (leafRegs r 2 1 (r .tallies) (r .written))
+  inner-error : r .inner ≡ 1 → 16 ≤ r .due .job → (r .due .job ≡ 16 → ⊥) → (r .due .job ≡ 17 → ⊥) → Up c o w (leafRegs r 2 1 (r .tallies) (r .written))
   unfolding within
   inner-error m h n3 n4 = record {
     fr = i .fr;
@@ -114,7 +122,7 @@ module _ {c : World} {o : Bytes} {w : Words} {r : Regs} (i : In c o w r) where
     result = rw (at-error h n3 n4 .1, inside-yes m) at (i .result);
   }
 
-  main-failure : (r .inner ≡ 1 → ⊥) → r .due .job ≡ 4 → Up c o w (leafRegs r 2 (r .bad) (addFail (r .tallies)) (r .written))
+  main-failure : (r .inner ≡ 1 → ⊥) → r .due .job ≡ 17 → Up c o w (leafRegs r 2 (r .bad) (addFail (r .tallies)) (r .written))
   unfolding within leaf arrive
   main-failure m j = record {
     fr = i .fr;
@@ -129,7 +137,7 @@ module _ {c : World} {o : Bytes} {w : Words} {r : Regs} (i : In c o w r) where
     result = rw (at-failure j, inside-no m) at (i .result);
   }
 
-  main-success : (r .inner ≡ 1 → ⊥) → r .due .job ≡ 3 → Leaf c o w (leafRegs r 4 (r .bad) (r .tallies) (r .written))
+  main-success : (r .inner ≡ 1 → ⊥) → r .due .job ≡ 16 → Leaf c o w (leafRegs r 4 (r .bad) (r .tallies) (r .written))
   unfolding within
   main-success m j = record {
     v = answer (i .α);
@@ -148,13 +156,13 @@ module _ {c : World} {o : Bytes} {w : Words} {r : Regs} (i : In c o w r) where
     result = rw (at-success j, inside-no m) at (i .result);
   }
 
-  main-error : (r .inner ≡ 1 → ⊥) → 3 ≤ r .due .job → (r .due .job ≡ 3 → ⊥) → (r .due .job ≡ 4 → ⊥) →
+  main-error : (r .inner ≡ 1 → ⊥) → 16 ≤ r .due .job → (r .due .job ≡ 16 → ⊥) → (r .due .job ≡ 17 → ⊥) →
       Leaf c o w (leafRegs r 4 (r .bad) (r .tallies) (r .written))
   unfolding within
   main-error m h n3 n4 =
       let x = at-error h n3 n4 in
       record {
-        v = errs (r .due .kind) (r .due .head) (i .α);
+        v = errs (r .due .rest) (r .due .head) (i .α);
         fr = i .fr;
         α = i .α;
         e = i .e;
@@ -173,26 +181,26 @@ module _ {c : World} {o : Bytes} {w : Words} {r : Regs} (i : In c o w r) where
 -- ---- the steps
 
 module _ {r q : Regs} where
-  pub done-success : q ≡ leafRegs r 3 (r .bad) (r .tallies) (r .written) → r .inner ≡ 1 → r .due .job ≡ 3 → LeafDone r q
+  pub done-success : q ≡ leafRegs r 3 (r .bad) (r .tallies) (r .written) → r .inner ≡ 1 → r .due .job ≡ 16 → LeafDone r q
   done-success e m j = rw e (record { sim = λ c o w i. won refl (inner-success i m j); nodes = refl; falls = omega arith })
 
-  pub done-failure : q ≡ leafRegs r 2 (r .bad) (r .tallies) (r .written) → r .inner ≡ 1 → r .due .job ≡ 4 → LeafDone r q
+  pub done-failure : q ≡ leafRegs r 2 (r .bad) (r .tallies) (r .written) → r .inner ≡ 1 → r .due .job ≡ 17 → LeafDone r q
   done-failure e m j = rw e (record { sim = λ c o w i. up refl (inner-failure i m j); nodes = refl; falls = omega arith })
 
-  pub done-error : q ≡ leafRegs r 2 1 (r .tallies) (r .written) → r .inner ≡ 1 → 3 ≤ r .due .job → (r .due .job ≡ 3 → ⊥) → (r .due .job ≡ 4 → ⊥) → LeafDone r q
+  pub done-error : q ≡ leafRegs r 2 1 (r .tallies) (r .written) → r .inner ≡ 1 → 16 ≤ r .due .job → (r .due .job ≡ 16 → ⊥) → (r .due .job ≡ 17 → ⊥) → LeafDone r q
   done-error e m h n3 n4 = rw e (record { sim = λ c o w i. up refl (inner-error i m h n3 n4); nodes = refl; falls = omega arith })
 
-  pub failure-done : {t : Tallies} → t ≡ counted (r .tallies) 3 → q ≡ leafRegs r 2 (r .bad) t (r .written) → (r .inner ≡ 1 → ⊥) → r .due .job ≡ 4 → LeafDone r q
+  pub failure-done : {t : Tallies} → t ≡ counted (r .tallies) 3 → q ≡ leafRegs r 2 (r .bad) t (r .written) → (r .inner ≡ 1 → ⊥) → r .due .job ≡ 17 → LeafDone r q
   unfolding counted
   failure-done h e m j = rw (e, h) (record { sim = λ c o w i. up refl (main-failure i m j); nodes = refl; falls = omega arith })
 
   -- an answer or an error
-  pub block-done : q ≡ leafRegs r 4 (r .bad) (r .tallies) (r .written) → (r .inner ≡ 1 → ⊥) → 3 ≤ r .due .job → (r .due .job ≡ 4 → ⊥) → LeafDone r q
-  block-done e m h n4 = rw e (record { sim = λ c o w i. block refl (main i (eqb (r .due .job) 3) refl); nodes = refl; falls = omega arith })
+  pub block-done : q ≡ leafRegs r 4 (r .bad) (r .tallies) (r .written) → (r .inner ≡ 1 → ⊥) → 16 ≤ r .due .job → (r .due .job ≡ 17 → ⊥) → LeafDone r q
+  block-done e m h n4 = rw e (record { sim = λ c o w i. block refl (main i (eqb (r .due .job) 16) refl); nodes = refl; falls = omega arith })
     where
-      main : {c : World} {o : Bytes} {w : Words} → In c o w r → (t : Bool) → eqb (r .due .job) 3 ≡ t → Leaf c o w (leafRegs r 4 (r .bad) (r .tallies) (r .written))
-      main i true j = main-success i m (eqb-true (r .due .job) 3 j)
-      main i false j = main-error i m h (eqb-false (r .due .job) 3 j) n4
+      main : {c : World} {o : Bytes} {w : Words} → In c o w r → (t : Bool) → eqb (r .due .job) 16 ≡ t → Leaf c o w (leafRegs r 4 (r .bad) (r .tallies) (r .written))
+      main i true j = main-success i m (eqb-true (r .due .job) 16 j)
+      main i false j = main-error i m h (eqb-false (r .due .job) 16 j) n4
 
 -- ---- room for one more
 

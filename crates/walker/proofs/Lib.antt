@@ -28,4 +28,5 @@ pub mod Leaves
 pub mod Visits
 pub mod Blocks
 pub mod Moves
+pub mod Started
 pub mod Enters

@@ -7,32 +7,42 @@ use mathlib.Core.List.{List, [], _∷_}
 use lib.ListN.{length, getD}
 use Rattle.sheet.specs.Tables.{Words}
 use Rattle.sheet.specs.Held.{codeAt, endAt}
-use Rattle.walker.specs.Node.{headAt, restAt, currentAt, lastAt}
+use Rattle.walker.specs.Node.{headAt, restAt}
 use Rattle.walker.specs.Frame.{Item, form, again}
 use Rattle.walker.specs.Path.{World, Pend}
-use Rattle.walker.specs.Steps.{dueOf, Leads, Listed}
+use Rattle.walker.specs.Steps.{Leads, Listed}
+use Rattle.walker.specs.Registers.{dueOf, formulaDue}
 use Rattle.walker.proofs.Keep.{pend-more}
-use Rattle.walker.proofs.Here.{code-here}
+use Rattle.walker.proofs.Here.{code-here, end-here}
 
 -- the node before p is there, and its token is one of the table
 pub record CellAt (w : Words) (p : ℕ) : Type 0 where
   pub words : 6156 + 12 * (p - 1) ≤ length w
   pub small : headAt w (p - 1) < 1024
+  -- the second part of an `and`
+  pub far : codeAt w (headAt w (p - 1)) ≡ 2 → endAt w (headAt w (p - 1) + 1) < 1024
 
 pub leads : {w : Words} {p : ℕ} → Leads w p → (p ≡ 0 → ⊥) → CellAt w p
 leads {w} {p} x some = go (x .is) (x .pend)
   where
-    at : (k : ℕ) → p ≡ suc k → k < x .n → headAt w k < 1024 → CellAt w p
-    at k e h s =
+    at : (k : ℕ) → p ≡ suc k → k < x .n → headAt w k < 1024 → (codeAt w (headAt w k) ≡ 2 → endAt w (headAt w k + 1) < 1024) → CellAt w p
+    at k e h s f =
         let q : p - 1 ≡ k = omega arith in
-        record { words = omega (arith, x .size); small = rw q s }
+        record { words = omega (arith, x .size); small = rw q s; far = rw q f }
 
     go : (is : List Item) → Pend (x .c) w (x .n) p is → CellAt w p
     go [] e = absurd (some e)
-    go (form G ∷ is) e = at (e .0) (e .1) (e .2) (omega (arith, e .3))
-    go (again l F m v ∷ is) e = at (e .0) (e .1) (e .2) (omega (arith, e .4 .near))
+    go (form G ∷ is) e =
+        at (e .0) (e .1) (e .2) (omega (arith, e .3))
+        (λ z. rw (add-one (headAt w (e .0)), end-here (x .c .tables) w (x .tokens) (e .3)) (e .5))
+    go (again l F m v ∷ is) e =
+        let small : headAt w (e .0) < 1024 = omega (arith, e .4 .near) in
+        at (e .0) (e .1) (e .2) small (λ z. absurd (omega (arith, code-here (x .c .tables) w (x .tokens) small, e .3)))
 
-pub listed-none : (w : Words) (p : ℕ) → p ≡ 0 → Listed w p (dueOf 1 0 0)
+pub second-small : {w : Words} {p h e : ℕ} → CellAt w p → h ≡ headAt w (p - 1) → codeAt w h ≡ 2 → e ≡ endAt w (h + 1) → e < 1024
+second-small {w} x eh code ee = rw (ee, eh) (x .far (rw eh at code))
+
+pub listed-none : (w : Words) (p : ℕ) → p ≡ 0 → Listed w p (dueOf 0 0 0)
 listed-none w p e c n [] s q = refl
 listed-none w p e c n (form G ∷ is) s q = absurd (omega (arith, q .1))
 listed-none w p e c n (again l F m v ∷ is) s q = absurd (omega (arith, q .1))
@@ -46,7 +56,7 @@ module _ (w : Words) (p h q : ℕ) (some : p ≡ 0 → ⊥) (eh : h ≡ headAt w
       let eh′ : h ≡ headAt w k = rw z at eh in
       rw eh′ (code-here (c .tables) w s small)
 
-  pub listed-form : {e : ℕ} → codeAt w h ≡ 2 → e ≡ endAt w (h + 1) → Listed w p (dueOf 0 e q)
+  pub listed-form : {e : ℕ} → codeAt w h ≡ 2 → e ≡ endAt w (h + 1) → Listed w p (formulaDue w e q)
   listed-form {e} code ee c n [] s x = absurd (some x)
   listed-form {e} code ee c n (form G ∷ is) s x =
       let z : p - 1 ≡ x .0 = omega (arith, x .1) in
@@ -54,17 +64,13 @@ module _ (w : Words) (p h q : ℕ) (some : p ≡ 0 → ⊥) (eh : h ≡ headAt w
       let er′ : q ≡ restAt w (x .0) = rw z at er in
       let ee′ : e ≡ endAt (c .tables) (suc (headAt w (x .0))) =
       ee ∙ rw (add-one, eh′) (s (4 * suc (headAt w (x .0)) + 2) (omega (arith, x .3))) in
-      (refl, rw ee′ (x .5), rw ee′ (x .6), rw er′ (pend-more c w (x .0) n (restAt w (x .0)) is (omega (arith, x .2)) (x .7)))
+      (code-here (c .tables) w s (rw ee′ (x .5)), rw ee′ (x .5), rw ee′ (x .6), rw er′ (pend-more c w (x .0) n (restAt w (x .0)) is (omega (arith, x .2)) (x .7)))
   listed-form {e} code ee c n (again l F m v ∷ is) s x = absurd (omega (arith, code, code-at c (x .0) s (x .1) (omega (arith, x .4 .near)), x .3))
 
-  pub listed-again : {current last : ℕ} → (codeAt w h ≡ 2 → ⊥) → current ≡ currentAt w (p - 1) → last ≡ lastAt w (p - 1) →
-      Listed w p (record { job = 2; head = h; rest = q; kind = 0; current = current; last = last })
-  listed-again code ec el c n [] s x = absurd (some x)
-  listed-again code ec el c n (form G ∷ is) s x = absurd (code (code-at c (x .0) s (x .1) (omega (arith, x .3)) ∙ x .4))
-  listed-again {current} {last} code ec el c n (again l F m v ∷ is) s x =
+  pub listed-again : (codeAt w h ≡ 2 → ⊥) → Listed w p (dueOf 15 p q)
+  listed-again code c n [] s x = absurd (some x)
+  listed-again code c n (form G ∷ is) s x = absurd (code (code-at c (x .0) s (x .1) (omega (arith, x .3)) ∙ x .4))
+  listed-again code c n (again l F m v ∷ is) s x =
       let z : p - 1 ≡ x .0 = omega (arith, x .1) in
-      let eh′ : h ≡ headAt w (x .0) = rw z at eh in
       let er′ : q ≡ restAt w (x .0) = rw z at er in
-      let ec′ : current ≡ currentAt w (x .0) = rw z at ec in
-      let el′ : last ≡ lastAt w (x .0) = rw z at el in
-      (refl, rw eh′ (x .3), rw eh′ (x .4), rw (ec′, el′) (x .5), rw er′ (pend-more c w (x .0) n (restAt w (x .0)) is (omega (arith, x .2)) (x .6)))
+      (refl, x .0, x .1, x .2, x .3, x .4, x .5, rw er′ (pend-more c w (x .0) n (restAt w (x .0)) is (omega (arith, x .2)) (x .6)))

@@ -1,31 +1,26 @@
--- A step, the start and the end of the walk. Assumes nothing.
-use Prim.Native.Nat.{ℕ, _<_}
+-- Runs of steps: visits down to a leaf, a block, steps up, and the three together. Assumes nothing.
+use Prim.Native.Nat.{ℕ, _+_, _*_, _≤_, _<_}
 use native.Mathlib.Omega.{arith}
-use mathlib.Core.Path.{_≡_, refl, sym, ap, _∙_}
-use mathlib.Core.Bool.{false}
-use mathlib.Core.List.{[], _∷_, _++_}
-use mathlib.Core.Logic.{inl, inr}
-use lib.ListN.{length, drop, replicate}
-use borrow.Author.Tests.{ne-eqb}
+use mathlib.Core.Path.{_≡_, refl, ap, subst, _∙_}
+use mathlib.Core.Bool.{Bool, true, false}
+use mathlib.Core.Logic.{_⊎_, inl, inr}
+use lib.Dec.{eqb}
+use borrow.Author.Tests.{eqb-true, eqb-false}
 use Rattle.specification.specs.declared.Setting.{Setting}
-use Rattle.specification.specs.declared.Tallies.{Tallies}
-use Rattle.specification.specs.declared.End.{End}
-use Rattle.specification.specs.declared.End.the-variants.{Done, Spent, Path, Output}
-use Rattle.specification.specs.declared.Outcome.the-variants.{Ran}
 use Rattle.specification.specs.Bytes.{Bytes}
-use Rattle.specification.specs.Sheet.{Sheet}
-use Rattle.specification.specs.Tree.{treeOf}
-use Rattle.specification.specs.Outcome.{resultOf, start, runOf, ran, outputAfter}
-use Rattle.specification.proofs.Laws.Start.{start-valid}
 use Rattle.sheet.specs.Tables.{Words}
 use Rattle.walker.specs.declared.Regs.{Regs}
-use Rattle.walker.specs.Frame.{form, the, treeItems}
+use Rattle.walker.specs.Frame.{the}
 use Rattle.walker.specs.Path.{World}
-use Rattle.walker.specs.Sim.{Down, Leaf, ended, Over, Sim, over, down, up, won, block}
-use Rattle.walker.specs.Loop.{Rising, Rose, Fixed, BlockDue, Blocked, VisitDue, Arrived, Live, Moved, Ready, startRegs, Finished, EndOf, Walked}
-use Rattle.walker.proofs.Walk.{walk-run}
+use Rattle.walker.specs.Sim.{Down, Leaf, Over, Sim, over, down, up, won, block}
+use Rattle.walker.specs.Loop.{Ups, IsUp, Rising, Rose, Fixed, BlockDue, Blocked, measure, VisitDue, Arrived, Goes, Went, Climbs, Climbed, Runs, Settled, Live, Moved}
 
--- ---- a step, by the mode
+-- ---- the invariant by the mode
+
+-- 2 or 3
+up-modes : (m : ℕ) → Ups m → (2 ≤ m) × (m ≤ 3)
+up-modes m (inl e) = (omega arith, omega arith)
+up-modes m (inr e) = (omega arith, omega arith)
 
 module _ {c : World} {o : Bytes} {w : Words} {r : Regs} where
   sim-down : r .mode ≡ 1 → Sim c o w r → Down c o w r
@@ -42,130 +37,184 @@ module _ {c : World} {o : Bytes} {w : Words} {r : Regs} where
   sim-leaf m (won e s) = absurd (omega arith)
   sim-leaf m (block e s) = s
 
-  sim-over : r .mode ≡ 0 → Sim c o w r → Over c o r
+  pub sim-over : r .mode ≡ 0 → Sim c o w r → Over c o r
   sim-over m (over e s) = s
   sim-over m (down e s) = absurd (omega arith)
   sim-over m (up e s) = absurd (omega arith)
   sim-over m (won e s) = absurd (omega arith)
   sim-over m (block e s) = absurd (omega arith)
 
-  module _ (n0 : r .mode ≡ 0 → ⊥) (n1 : r .mode ≡ 1 → ⊥) (n4 : r .mode ≡ 4 → ⊥) where
-    sim-rising : Sim c o w r → Rising w r
-    sim-rising (over e s) = absurd (n0 e)
-    sim-rising (down e s) = absurd (n1 e)
-    sim-rising (up e s) = record { c = c; α = s .α; fr = s .fr; path = s .path; mode = inl e }
-    sim-rising (won e s) = record { c = c; α = s .α; fr = s .fr; path = s .path; mode = inr e }
-    sim-rising (block e s) = absurd (n4 e)
+  sim-rising : Ups (r .mode) → Sim c o w r → Rising w r
+  sim-rising m (over e s) = absurd (omega (arith, up-modes (r .mode) m))
+  sim-rising m (down e s) = absurd (omega (arith, up-modes (r .mode) m))
+  sim-rising m (up e s) = record { c = c; α = s .α; fr = s .fr; path = s .path; mode = m }
+  sim-rising m (won e s) = record { c = c; α = s .α; fr = s .fr; path = s .path; mode = m }
+  sim-rising m (block e s) = absurd (omega (arith, up-modes (r .mode) m))
 
-    sim-rose : {w' : Words} {q : Regs} → Rose w w' r q → Sim c o w r → Sim c o w' q
-    sim-rose u (over e s) = absurd (n0 e)
-    sim-rose u (down e s) = absurd (n1 e)
-    sim-rose u (up e s) = u .ups c o e s
-    sim-rose u (won e s) = u .yes c o e s
-    sim-rose u (block e s) = absurd (n4 e)
+  sim-rose : {w' : Words} {q : Regs} → Ups (r .mode) → Rose w w' r q → Sim c o w r → Sim c o w' q
+  sim-rose m u (over e s) = absurd (omega (arith, up-modes (r .mode) m))
+  sim-rose m u (down e s) = absurd (omega (arith, up-modes (r .mode) m))
+  sim-rose m u (up e s) = u .ups c o e s
+  sim-rose m u (won e s) = u .yes c o e s
+  sim-rose m u (block e s) = absurd (omega (arith, up-modes (r .mode) m))
 
-module _ {w : Words} {o : Bytes} {r : Regs} {S : Setting} {scalars arrays : ℕ} (a : Live w o r S scalars arrays) where
-  pub live-visit : r .mode ≡ 1 → VisitDue w r (S .path) (S .budget)
-  live-visit m = record {
+  sim-mode : Sim c o w r → r .mode ≤ 4
+  sim-mode (over e s) = omega arith
+  sim-mode (down e s) = omega arith
+  sim-mode (up e s) = omega arith
+  sim-mode (won e s) = omega arith
+  sim-mode (block e s) = omega arith
+
+-- ---- down
+
+module _ {w : Words} {r : Regs} {path budget : ℕ} where
+  pub visit-due : Goes w r path budget → r .mode ≡ 1 → VisitDue w r path budget
+  visit-due a m = record { c = a .c; o = a .o; path-is = a .path-is; budget-is = a .budget-is; mode = m; ins = sim-down m (a .sim) }
+
+-- the invariant of `descend`: what is so far of its contract
+pub record Going (w w' : Words) (r r' : Regs) (path budget : ℕ) : Type 0 where
+  pub sim : (c : World) (o : Bytes) → c .setting .path ≡ path → c .setting .budget ≡ budget → Sim c o w r → Sim c o w' r'
+  pub falls : (r' ≡ r) ⊎ (measure budget r' < measure budget r)
+
+pub going-from : {w : Words} {r : Regs} {path budget : ℕ} → Going w w r r path budget
+going-from = record { sim = λ c o p b s. s; falls = inl refl }
+
+module _ {w w1 : Words} {r q : Regs} {path budget : ℕ} (g : Going w w1 r q path budget) where
+  pub going-here : Goes w r path budget → Goes w1 q path budget
+  going-here a = record {
     c = a .c;
-    o = o;
-    path-is = ap (λ (s : Setting). s .path) (a .fixed .setting);
-    budget-is = ap (λ (s : Setting). s .budget) (a .fixed .setting);
-    mode = m;
-    ins = sim-down m (a .sim);
+    o = a .o;
+    path-is = a .path-is;
+    budget-is = a .budget-is;
+    sim = g .sim (a .c) (a .o) (a .path-is) (a .budget-is) (a .sim);
   }
 
-  pub live-block : r .mode ≡ 4 → BlockDue w o r S scalars arrays
-  live-block m = record { c = a .c; fixed = a .fixed; leaf = sim-leaf m (a .sim) }
-
-  pub live-rising : (r .mode ≡ 1 → ⊥) → (r .mode ≡ 4 → ⊥) → Rising w r
-  live-rising n1 n4 = sim-rising (a .on) n1 n4 (a .sim)
-
-  pub moved-visit : {w' : Words} {q : Regs} → r .mode ≡ 1 → Arrived w w' r q (S .path) (S .budget) → Moved w w' o o r q S scalars arrays
-  moved-visit m v = record {
-    sim = λ c f s. v .sim c o (ap (λ (s : Setting). s .path) (f .setting)) (ap (λ (s : Setting). s .budget) (f .setting)) (sim-down m s);
-    falls = v .falls;
-    size = refl;
+  pub going-on : {w' : Words} {q' : Regs} → q .mode ≡ 1 → Arrived w1 w' q q' path budget → Going w w' r q' path budget
+  going-on {q' = q'} m v = record {
+    sim = λ c o p b s. v .sim c o p b (sim-down m (g .sim c o p b s));
+    falls = less (g .falls);
   }
+    where
+      less : (q ≡ r) ⊎ (measure budget q < measure budget r) → (q' ≡ r) ⊎ (measure budget q' < measure budget r)
+      less (inl e) = inr (rw e at (v .falls))
+      less (inr h) = inr (omega (arith, v .falls))
 
-  pub moved-block : {o' : Bytes} {q : Regs} → r .mode ≡ 4 → Blocked w o o' r q S scalars arrays → Moved w w o o' r q S scalars arrays
-  moved-block m v = record {
+  pub went : (q .mode ≡ 1 → ⊥) → Went w w1 r q path budget
+  went n = record { sim = g .sim; falls = g .falls; stops = n }
+
+-- ---- up
+
+-- the second test, where the first does not hold
+pub by-three : (m : ℕ) → (m ≡ 2 → ⊥) → IsUp m (eqb m 3)
+by-three m n = go (eqb m 3) refl
+  where
+    off : Ups m → (m ≡ 3 → ⊥) → ⊥
+    off (inl e) k = n e
+    off (inr e) k = k e
+
+    go : (b : Bool) → eqb m 3 ≡ b → IsUp m b
+    go true e = inr (eqb-true m 3 e)
+    go false e = λ u. off u (eqb-false m 3 e)
+
+-- what the test tells
+pub is-up : {mode : ℕ} {b : Bool} → IsUp mode b → b ≡ true → Ups mode
+is-up {mode} h e = subst (IsUp mode) e h
+
+pub not-up : {mode : ℕ} {b : Bool} → IsUp mode b → b ≡ false → Ups mode → ⊥
+not-up {mode} h e = subst (IsUp mode) e h
+
+-- the invariant of `climb`
+pub record Climbing (w w' : Words) (r r' : Regs) : Type 0 where
+  pub sim : (c : World) (o : Bytes) → Sim c o w r → Sim c o w' r'
+  pub nodes : r' .tallies .nodes ≡ r .tallies .nodes
+  pub falls : (r' ≡ r) ⊎ (2 * r' .depth + r' .mode < 2 * r .depth + r .mode)
+
+pub climbing-from : {w : Words} {r : Regs} → Climbing w w r r
+climbing-from = record { sim = λ c o s. s; nodes = refl; falls = inl refl }
+
+module _ {w w1 : Words} {r q : Regs} (g : Climbing w w1 r q) where
+  pub climbing-here : Climbs w r → Ups (q .mode) → Rising w1 q
+  climbing-here a m = sim-rising m (g .sim (a .c) (a .o) (a .sim))
+
+  pub climbing-on : {w' : Words} {q' : Regs} → Ups (q .mode) → Rose w1 w' q q' → Climbing w w' r q'
+  climbing-on {q' = q'} m v = record {
+    sim = λ c o s. sim-rose m v (g .sim c o s);
+    nodes = v .nodes ∙ g .nodes;
+    falls = less (g .falls);
+  }
+    where
+      less : (q ≡ r) ⊎ (2 * q .depth + q .mode < 2 * r .depth + r .mode) → (q' ≡ r) ⊎ (2 * q' .depth + q' .mode < 2 * r .depth + r .mode)
+      less (inl e) = inr (rw e at (v .falls))
+      less (inr h) = inr (omega (arith, v .falls))
+
+  pub climbed : (Ups (q .mode) → ⊥) → Climbed w w1 r q
+  climbed n = record { sim = g .sim; nodes = g .nodes; falls = g .falls; stops = n }
+
+-- ---- a block
+
+module _ {w : Words} {o : Bytes} {r : Regs} {S : Setting} {scalars arrays : ℕ} where
+  pub block-due : Runs w o r S scalars arrays → r .mode ≡ 4 → BlockDue w o r S scalars arrays
+  block-due a m = record { c = a .c; fixed = a .fixed; leaf = sim-leaf m (a .sim) }
+
+  pub settles : {o' : Bytes} {q : Regs} → r .mode ≡ 4 → Blocked w o o' r q S scalars arrays → Settled w o o' r q S scalars arrays
+  settles m v = record {
     sim = λ c f s. v .sim c f (sim-leaf m s);
-    falls = omega (arith, v .nodes, v .falls);
+    nodes = v .nodes;
+    falls = inr (omega (arith, v .falls));
     size = v .size;
   }
 
-  pub moved-rose : {w' : Words} {q : Regs} → (r .mode ≡ 1 → ⊥) → (r .mode ≡ 4 → ⊥) → Rose w w' r q → Moved w w' o o r q S scalars arrays
-  moved-rose n1 n4 v = record {
-    sim = λ c f s. sim-rose (a .on) n1 n4 v s;
-    falls = omega (arith, v .nodes, v .falls);
-    size = refl;
-  }
+  pub settled : (r .mode ≡ 4 → ⊥) → Settled w o o r r S scalars arrays
+  settled n = record { sim = λ c f s. s; nodes = refl; falls = inl (refl, n); size = refl }
 
--- ---- the start
+-- ---- all three
 
--- what the run of a sheet is about
-abbrev pub worldOf : Words → Bytes → Setting → Sheet → World
-worldOf w o S s = record { tables = w; declared = s .declared; setting = S; output = o; result = runOf s S (length o) }
+-- a mode that none of the three changes
+still : {m : ℕ} → m ≤ 4 → (m ≡ 0 → ⊥) → (m ≡ 1 → ⊥) → (m ≡ 4 → ⊥) → (Ups m → ⊥) → ⊥
+still {m} h n0 n1 n4 n = let n2 : m ≡ 2 → ⊥ = λ e. n (inl e) in let n3 : m ≡ 3 → ⊥ = λ e. n (inr e) in omega arith
 
-module _ {w : Words} {o : Bytes} {S : Setting} {scalars arrays : ℕ} (s : Sheet) (a : Ready w S scalars arrays s) where
-  pub world-fixed : Fixed (worldOf w o S s) S scalars arrays
-  world-fixed = record { setting = refl; scalar-count = a .scalar-count; array-count = a .array-count }
+module _ {S : Setting} {scalars arrays : ℕ} where
+  setting-path : (c : World) → Fixed c S scalars arrays → c .setting .path ≡ S .path
+  setting-path c f = ap (λ (z : Setting). z .path) (f .setting)
 
-  pub start-down : S .budget < 4294967296 → Down (worldOf w o S s) o w startRegs
-  unfolding treeOf treeItems
-  start-down fits = record {
-    x = the (form (s .formula) ∷ []);
-    fr = [];
-    α = start (s .given);
-    e = false;
-    b = [];
-    path = record {
-      size = a .size;
-      limit = a .limit;
-      tokens = λ j h. refl;
-      arrays = a .firsts;
-      cells = a .well .limits .cells;
-      few = a .well .limits .arrays;
-      deep = refl;
-      inside = omega arith;
-      stack = tt;
-      chain = tt;
-      holds = a .holds;
-      valid = start-valid (s .given) (a .well .values);
-    };
-    inner = refl;
-    bad = refl;
-    job = (refl, omega arith, a .formula, refl);
-    out = record { count = refl; inside = omega arith; bytes = refl };
-    count = record { fits = fits; budget = omega arith; leaves = omega arith };
-    result = sym (walk-run s S (length o));
-  }
+  setting-budget : (c : World) → Fixed c S scalars arrays → c .setting .budget ≡ S .budget
+  setting-budget c f = ap (λ (z : Setting). z .budget) (f .setting)
 
--- ---- the end
+  module _ {w : Words} {o : Bytes} {r : Regs} (a : Live w o r S scalars arrays) where
+    pub live-goes : Goes w r (S .path) (S .budget)
+    live-goes =
+        let u = a .runs in
+        record { c = u .c; o = o; path-is = setting-path (u .c) (u .fixed); budget-is = setting-budget (u .c) (u .fixed); sim = u .sim }
 
--- the registers of a walk that is over
-pub finished : {w w' : Words} {o o' : Bytes} {S : Setting} {scalars arrays : ℕ} {r : Regs} → r .mode ≡ 0 → length w' ≡ length w → length o' ≡ length o →
-    ((s : Sheet) → Ready w S scalars arrays s → Sim (worldOf w o S s) o' w' r) → Finished w w' o o' S scalars arrays r
-finished {o = o} m words size f = record {
-  run = λ s a. let v = sim-over m (f s a) in (v .b, v .result, v .out .count, v .out .bytes ∙ ap (λ (n : ℕ). v .b ++ drop n o) (v .out .count));
-  words = words;
-  size = size;
-}
+    module _ {w1 : Words} {d : Regs} (x : Went w w1 r d (S .path) (S .budget)) where
+      pub gone-runs : Runs w1 o d S scalars arrays
+      gone-runs =
+          let u = a .runs in
+          record { c = u .c; fixed = u .fixed; sim = x .sim (u .c) o (setting-path (u .c) (u .fixed)) (setting-budget (u .c) (u .fixed)) (u .sim) }
 
--- the end that the number stands for
-ended-result : (n : ℕ) (e : End) (t : Tallies) (b : Bytes) → EndOf n e → resultOf (ended n t b) ≡ ran e t b
-unfolding ended
-ended-result n Done t b h = rw h refl
-ended-result n Spent t b h = rw h refl
-ended-result n Path t b h = rw h refl
-ended-result n Output t b h = rw (ne-eqb n 0 (h .0), ne-eqb n 1 (h .1), ne-eqb n 2 (h .2)) refl
+      module _ {o' : Bytes} {s : Regs} (y : Settled w1 o o' d s S scalars arrays) where
+        pub settled-climbs : Climbs w1 s
+        settled-climbs = let u = gone-runs in record { c = u .c; o = o'; sim = y .sim (u .c) (u .fixed) (u .sim) }
 
-pub walked : {w w' w'' : Words} {o o' : Bytes} {S : Setting} {scalars arrays : ℕ} {r : Regs} {e : End} → Finished w w' o o' S scalars arrays r →
-    w'' ≡ replicate (length w') 0 → EndOf (r .end) e → Walked w w'' o o' S scalars arrays (Ran e (r .tallies) (r .written))
-unfolding outputAfter
-walked {r = r} {e = e} f z n = record {
-  result = λ s a. let v = f .run s a in rw (← v .1, ended-result (r .end) e (r .tallies) (v .0) n, v .2) refl;
-  output = λ s a. let v = f .run s a in rw (← v .1, ended-result (r .end) e (r .tallies) (v .0) n) (v .3);
-  words = z ∙ rw (f .words) refl;
-}
+        pub moved : {w' : Words} {q : Regs} → Climbed w1 w' s q → Moved w w' o o' r q S scalars arrays
+        moved {q = q} z = record {
+          sim = λ c f t. z .sim c o' (y .sim c f (x .sim c o (setting-path c f) (setting-budget c f) t));
+          falls = less (x .falls) (y .falls) (z .falls);
+          size = y .size;
+        }
+          where
+            level : Regs → ℕ
+            level t = 2 * t .depth + t .mode
+
+            less : (d ≡ r) ⊎ (measure (S .budget) d < measure (S .budget) r) → ((s ≡ d) × (d .mode ≡ 4 → ⊥)) ⊎ (level s < level d) →
+                (q ≡ s) ⊎ (level q < level s) → measure (S .budget) q < measure (S .budget) r
+            less (inl e) (inl f) (inl g) =
+                absurd (still (sim-mode (a .runs .sim)) (a .on) (subst (λ t. t .mode ≡ 1 → ⊥) e (x .stops)) (subst (λ t. t .mode ≡ 4 → ⊥) e (f .1))
+                (subst (λ t. Ups (t .mode) → ⊥) (g ∙ f .0 ∙ e) (z .stops)))
+            less (inl e) (inl f) (inr g) = let m = ap level (f .0) in let n = ap (measure (S .budget)) e in omega (arith, y .nodes, z .nodes)
+            less (inl e) (inr f) (inl g) = let m = ap level g in let n = ap (measure (S .budget)) e in omega (arith, y .nodes, z .nodes)
+            less (inl e) (inr f) (inr g) = let n = ap (measure (S .budget)) e in omega (arith, y .nodes, z .nodes)
+            less (inr e) (inl f) (inl g) = let m = ap level (f .0) in let n = ap level g in omega (arith, y .nodes, z .nodes)
+            less (inr e) (inl f) (inr g) = let m = ap level (f .0) in omega (arith, y .nodes, z .nodes)
+            less (inr e) (inr f) (inl g) = let n = ap level g in omega (arith, y .nodes, z .nodes)
+            less (inr e) (inr f) (inr g) = omega (arith, y .nodes, z .nodes)

@@ -22,12 +22,13 @@ use Rattle.walker.specs.declared.Regs.{Regs}
 use Rattle.walker.specs.Walk.{sonsFrom}
 use Rattle.walker.specs.Node.{headAt, restAt, todoAt, slotAt, currentAt, lastAt}
 use Rattle.walker.specs.Frame.{Item, form, the, Frame, range, len, innerIn}
-use Rattle.walker.specs.Path.{World, bodyOf, LeftAfter, bit, FrameAt, Path}
+use Rattle.walker.specs.Path.{World, bit, FrameAt, Path}
+use Rattle.walker.specs.Stands.{bodyOf, LeftAfter}
 use Rattle.walker.specs.Sim.{no, Down, Up}
-use Rattle.walker.specs.Steps.{dueOf, dueRegs}
+use Rattle.walker.specs.Registers.{formulaDue, dueRegs}
 use Rattle.walker.specs.Loop.{Topped}
 use Rattle.walker.proofs.Keep.{pend-keep}
-use Rattle.walker.proofs.Here.{end-here, body-here}
+use Rattle.walker.proofs.Here.{code-here, end-here, body-here}
 use Rattle.walker.proofs.Slots.{in-table, Altered, alter-two, holds-keep, holds-again}
 use Rattle.walker.proofs.Whole.{Kept, kept-both, altered-kept, word-kept, word-slots, path-top}
 use Rattle.walker.proofs.Tops.{top-index, top-range}
@@ -60,6 +61,7 @@ module _ {current last n : ℕ} (x : ℤ) (i : ℕ) (a : LeftAfter current last 
 pub record Readable (w : Words) (k : ℕ) : Type 0 where
   pub near : headAt w k + 2 < 1024
   pub middle : endAt w (headAt w k + 2) < 1024
+  pub inside : bodyOf w (headAt w k) < 1024
   pub slot : slotAt w k + 1 < 5184
   pub last : lastAt w k < 4294967296
 
@@ -76,12 +78,18 @@ readable {w} {r} t =
     (record {
       near = omega (arith, b .near);
       middle = rw (two, end-here (t .c .tables) w (P .tokens) (b .near)) (b .middle);
+      inside = rw (body-here (t .c .tables) w (P .tokens) b) (b .inside);
       slot = omega (arith, ch .slot, z .high);
       last = a .3 .fits;
     })) (t .fr) (t .path)
 
 pub middle-small : {w : Words} {k h e : ℕ} → Readable w k → h ≡ headAt w k → e ≡ endAt w (h + 2) → e < 1024
 middle-small x eh ee = rw (ee, eh) (x .middle)
+
+pub body-small : {w : Words} {k h e n : ℕ} → Readable w k → h ≡ headAt w k → e ≡ endAt w (h + 2) → n ≡ endAt w e → n < 1024
+body-small {w} {k} {h} x eh ee en =
+    let two : h + 2 ≡ suc (suc (headAt w k)) = omega arith in
+    rw (en, ee, two) (x .inside)
 
 -- what is read at the node, and what is stored
 pub record Follows (w w' : Words) (r : Regs) (h p : ℕ) : Type 0 where
@@ -172,17 +180,17 @@ module _ {c : World} {w w' : Words} {r : Regs} {h p : ℕ} (g : Follows w w' r h
 -- ---- the next son
 
 pub next-up : {c : World} {o : Bytes} {w w' : Words} {r : Regs} {h p e n : ℕ} → Follows w w' r h p → e ≡ endAt w (h + 2) → n ≡ endAt w e → Up c o w r →
-    Down c o w' (dueRegs r (r .depth) (dueOf 0 n p) (r .inner) (r .bad))
+    Down c o w' (dueRegs r (r .depth) (formulaDue w n p) (r .inner) (r .bad))
 unfolding sonsFrom
 next-up {c} {o} {w} {w'} {r} {h} {p} {e} {n} g ee en u =
     top-range
-    (λ fr. r .inner ≡ bit (innerIn fr) → no c fr (u .e) (r .tallies) (u .b) ≡ c .result → Down c o w' (dueRegs r (r .depth) (dueOf 0 n p) (r .inner) (r .bad)))
+    (λ fr. r .inner ≡ bit (innerIn fr) → no c fr (u .e) (r .tallies) (u .b) ≡ c .result → Down c o w' (dueRegs r (r .depth) (formulaDue w n p) (r .inner) (r .bad)))
     (g .some) (g .todo) (λ l x i m F is β fr P k q. go l x i m F is β fr P k q) (u .fr) (u .path) (u .inner) (u .result)
   where
     go : (l : ℕ) (x : ℤ) (i m : ℕ) (F : Formula) (is : List Item) (β : Valuation) (fr : List Frame) →
         Path c w (r .depth) (u .α) (range l x i m F is β ∷ fr) → r .inner ≡ bit (innerIn fr) →
         no c (range l x i m F is β ∷ fr) (u .e) (r .tallies) (u .b) ≡ c .result →
-        Down c o w' (dueRegs r (r .depth) (dueOf 0 n p) (r .inner) (r .bad))
+        Down c o w' (dueRegs r (r .depth) (formulaDue w n p) (r .inner) (r .bad))
     go l x i zero F is β fr P k q =
         let more : currentAt w (len fr) < lastAt w (len fr) = rw (top-index P) at (g .more) in
         absurd (omega (arith, P .stack .0 .3 .count))
@@ -190,4 +198,4 @@ next-up {c} {o} {w} {w'} {r} {h} {p} {e} {n} g ee en u =
         let b = P .stack .0 .2 in
         let at = body-is g P ee en in
         son-due r (u .e) (u .b) (the (form F ∷ is)) (next-path g P) k (u .bad)
-        (refl, rw at (b .inside), rw at (b .body), rest-under P (next-kept g P) is (g .rest) (P .stack .0 .5)) (u .out) (u .count) q
+        (code-here (c .tables) w (P .tokens) (rw at (b .inside)), rw at (b .inside), rw at (b .body), rest-under P (next-kept g P) is (g .rest) (P .stack .0 .5)) (u .out) (u .count) q

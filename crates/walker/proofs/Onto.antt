@@ -21,13 +21,15 @@ use Rattle.walker.specs.declared.Due.{Due}
 use Rattle.walker.specs.declared.Regs.{Regs}
 use Rattle.walker.specs.Walk.{sonsFrom, within, walk}
 use Rattle.walker.specs.Frame.{Item, form, What, the, treeItems, Question, sonOf, Frame, pass, other, undo, range, asks, here, below, innerIn}
-use Rattle.walker.specs.Path.{World, Stands, Binds, LeftAfter, Pend, Job, bit, Changed, Asks, FrameAt, Path}
+use Rattle.walker.specs.Path.{World, Pend, Job, bit, Changed, Asks, FrameAt, Path}
+use Rattle.walker.specs.Stands.{Stands, Binds, LeftAfter}
 use Rattle.walker.specs.Sim.{tree, yes, no, Down, In, down}
-use Rattle.walker.specs.Steps.{dueRegs, Pushed, Stepped}
+use Rattle.walker.specs.Steps.{Marked, Linked, Pushed, Stepped}
+use Rattle.walker.specs.Registers.{dueRegs}
 use Rattle.walker.proofs.Walk.{within-ask}
 use Rattle.walker.proofs.Keep.{frame-keep}
 use Rattle.walker.proofs.Slots.{holds-keep, holds-put}
-use Rattle.walker.proofs.Whole.{pushed-kept, pushed-slots, altered-kept, path-onto}
+use Rattle.walker.proofs.Whole.{marked-kept, marked-slots, altered-kept, path-onto}
 use Rattle.walker.proofs.Pushes.{Alters, alters-kept, rest-onto}
 
 module _ {c : World} {o : Bytes} {w : Words} {r : Regs} (i : In c o w r) where
@@ -58,13 +60,13 @@ module _ {c : World} {o : Bytes} {w : Words} {r : Regs} (i : In c o w r) where
   }
 
   -- a frame that changes no slot
-  plain : {w' : Words} {todo slot had old current last : ℕ} → Pushed w w' r todo slot had old current last → (f : Frame) → below f ≡ i .α → here f ≡ i .α →
+  plain : {w' : Words} {todo : ℕ} → Marked w w' (r .depth) todo → (f : Frame) → below f ≡ i .α → here f ≡ i .α →
       FrameAt c w' (r .depth) (innerIn (i .fr)) f → Path c w' (r .depth + 1) (below f) (f ∷ i .fr)
   plain g f e e′ q =
-      path-onto (i .path) f (i .room) (pushed-kept g) e′ q (rw e (holds-keep (pushed-slots g) (i .path .holds))) (rw e (i .path .valid))
+      path-onto (i .path) f (i .room) (marked-kept g) e′ q (rw e (holds-keep (marked-slots g) (i .path .holds))) (rw e (i .path .valid))
 
   -- a frame that changes one
-  changed : {w' : Words} {todo current last : ℕ} (p : Place) (s : Slot) (a : Alters w w' r (i .α) p s todo current last) (f : Frame) →
+  changed : {w' : Words} {h todo current last : ℕ} (p : Place) (s : Slot) (a : Alters w w' r h (i .α) p s todo current last) (f : Frame) →
       below f ≡ put (i .α) p s → here f ≡ i .α → (Changed (a .mid) (r .depth) p (i .α) → FrameAt c (a .mid) (r .depth) (innerIn (i .fr)) f) →
       Path c w' (r .depth + 1) (below f) (f ∷ i .fr)
   changed {w'} p s a f e e′ q =
@@ -72,26 +74,26 @@ module _ {c : World} {o : Bytes} {w : Words} {r : Regs} (i : In c o w r) where
       let k = altered-kept (suc (r .depth)) (a .inside) (a .altered) in
       let ch : Changed (a .mid) (r .depth) p (i .α) = record { slot = g .place ∙ a .place; inside = a .inside; saved = rw (g .saved, g .value) (a .saved) } in
       path-onto (i .path) f (i .room) (alters-kept a) e′ (frame-keep c (a .mid) w' (r .depth) (innerIn (i .fr)) f (k .nodes) (q ch))
-      (rw e (holds-put (a .altered) (a .inside) (holds-keep (pushed-slots g) (i .path .holds))))
+      (rw e (holds-put (a .altered) (a .inside) (holds-keep (marked-slots (g .linked .marked)) (i .path .holds))))
       (rw e (valid-put (i .α) p s (i .path .valid) (a .good)))
 
   -- nothing is left to do
-  pub down-pass : {w' : Words} {slot had old current last : ℕ} → Pushed w w' r 0 slot had old current last → (x : What) →
+  pub down-pass : {w' : Words} → Marked w w' (r .depth) 0 → (x : What) →
       tree c (i .fr) (i .x) (i .α) ≡ step (tree c (i .fr) x (i .α)) → {d : Due} → Job c w' (r .depth + 1) d x →
       Down c o w' (dueRegs r (r .depth + 1) d (r .inner) (r .bad))
   unfolding within
   down-pass g x e j = onto (pass (i .α)) x (i .e) (plain g (pass (i .α)) refl refl (g .left)) (i .inner) (i .bad) j (rw add-one (rw e at (i .result)))
 
   -- a slot to put back
-  pub down-undo : {w' : Words} {current last : ℕ} (p : Place) (s : Slot) → Alters w w' r (i .α) p s 2 current last → (x : What) →
+  pub down-undo : {w' : Words} {h current last : ℕ} (p : Place) (s : Slot) → Alters w w' r h (i .α) p s 2 current last → (x : What) →
       tree c (i .fr) (i .x) (i .α) ≡ step (tree c (i .fr) x (put (i .α) p s)) → {d : Due} → Job c w' (r .depth + 1) d x →
       Down c o w' (dueRegs r (r .depth + 1) d (r .inner) (r .bad))
   unfolding within
   down-undo p s a x e j =
-      onto (undo p s (i .α)) x (i .e) (changed p s a (undo p s (i .α)) refl refl (λ h. (a .pushed .left, h))) (i .inner) (i .bad) j (rw add-one (rw e at (i .result)))
+      onto (undo p s (i .α)) x (i .e) (changed p s a (undo p s (i .α)) refl refl (λ h. (a .pushed .linked .marked .left, h))) (i .inner) (i .bad) j (rw add-one (rw e at (i .result)))
 
   -- the second son of `or`
-  pub down-other : {w' : Words} {slot had old current last : ℕ} → Pushed w w' r 1 slot had old current last → (x : What) (G : Formula) (is : List Item) →
+  pub down-other : {w' : Words} → Linked w w' (r .depth) (r .due .head) (r .due .rest) 1 → (x : What) (G : Formula) (is : List Item) →
       tree c (i .fr) (i .x) (i .α) ≡ fork (tree c (i .fr) x (i .α)) (treeItems (c .declared) (innerIn (i .fr)) (form G ∷ is) (i .α)) →
       suc (r .due .head) < 1024 → endAt (c .tables) (suc (r .due .head)) < 1024 → Stands (c .declared) (c .tables) (endAt (c .tables) (suc (r .due .head))) G →
       Pend c w (r .depth) (r .due .rest) is → {d : Due} → Job c w' (r .depth + 1) d x →
@@ -99,13 +101,13 @@ module _ {c : World} {o : Bytes} {w : Words} {r : Regs} (i : In c o w r) where
   unfolding within
   down-other g x G is e small far st q j =
       onto (other G is (i .α)) x (i .e)
-      (plain g (other G is (i .α)) refl refl
-      (g .left, rw (g .head) small, rw (g .head) far, rw (g .head) st, rw (g .rest) (rest-onto i is (r .depth) (pushed-kept g) (omega arith) q)))
+      (plain (g .marked) (other G is (i .α)) refl refl
+      (g .marked .left, rw (g .head) small, rw (g .head) far, rw (g .head) st, rw (g .rest) (rest-onto i is (r .depth) (marked-kept (g .marked)) (omega arith) q)))
       (i .inner) (i .bad) j (rw (add-one, ← i .path .deep) (rw e at (i .result)))
 
   -- the next values of a `some`
   pub down-range : {w' : Words} {low high : ℕ} (l : ℕ) (x : ℤ) (n : ℕ) (F : Formula) (is : List Item) →
-      Alters w w' r (i .α) (local l) (full (x +ℤ pos 0)) 3 low high →
+      Alters w w' r (r .due .head) (i .α) (local l) (full (x +ℤ pos 0)) 3 low high →
       tree c (i .fr) (i .x) (i .α) ≡ fan (suc n) (λ j. treeItems (c .declared) (innerIn (i .fr)) (form F ∷ is) (put (i .α) (local l) (full (x +ℤ pos j)))) →
       Binds (c .declared) (c .tables) (r .due .head) l F → LeftAfter low high n (x +ℤ pos 1) → signed low ≡ x +ℤ pos 0 → Pend c w (r .depth) (r .due .rest) is →
       {d : Due} → Job c w' (r .depth + 1) d (the (form F ∷ is)) →
@@ -115,11 +117,18 @@ module _ {c : World} {o : Bytes} {w : Words} {r : Regs} (i : In c o w r) where
       onto (range l x 0 n F is (i .α)) (the (form F ∷ is)) (i .e)
       (changed (local l) (full (x +ℤ pos 0)) a (range l x 0 n F is (i .α)) refl refl (λ h.
       let g = a .pushed in
-      (g .left, h, rw (g .head) bi, rw (g .now, g .upper) le, rw (g .now) lo, rw (g .rest) (rest-onto i is (r .depth) (pushed-kept g) (omega arith) q))))
+      let at = g .linked in (
+        at .marked .left,
+        h,
+        rw (at .head) bi,
+        rw (g .now, g .upper) le,
+        rw (g .now) lo,
+        rw (at .rest) (rest-onto i is (r .depth) (marked-kept (at .marked)) (omega arith) q),
+      )))
       (i .inner) (i .bad) j (rw (add-one, ← i .path .deep) (rw e at (i .result)))
 
   -- an inner tree to judge
-  pub down-asks : {w' : Words} {slot had old current last : ℕ} → Pushed w w' r 4 slot had old current last → (F : Formula) (q : Question) (is : List Item) →
+  pub down-asks : {w' : Words} {slot had old current last : ℕ} → Pushed w w' r (r .due .head) 4 slot had old current last → (F : Formula) (q : Question) (is : List Item) →
       (let I = treeItems (c .declared) true (form F ∷ []) (i .α) in
       tree c (i .fr) (i .x) (i .α) ≡ ask I (sonOf (c .declared) (innerIn (i .fr)) (r .due .head) q is (verdict I) (i .α))) →
       r .due .head < 1024 → Asks c (r .due .head) q → Pend c w (r .depth) (r .due .rest) is → {d : Due} → Job c w' (r .depth + 1) d (the (form F ∷ [])) →
@@ -127,8 +136,16 @@ module _ {c : World} {o : Bytes} {w : Words} {r : Regs} (i : In c o w r) where
   down-asks g F q is e small a p j =
       let m = innerIn (i .fr) in
       let son : Verdict → Tree = λ v. sonOf (c .declared) (innerIn (i .fr)) (r .due .head) q is v (i .α) in
-      let P = plain g (asks (r .due .head) q is (i .α) (i .e)) refl refl
-      (g .left, g .head, small, a, g .inner ∙ i .inner, g .bad ∙ i .bad, rw (g .rest) (rest-onto i is (r .depth) (pushed-kept g) (omega arith) p)) in
+      let at = g .linked in
+      let P = plain (at .marked) (asks (r .due .head) q is (i .α) (i .e)) refl refl (
+        at .marked .left,
+        at .head,
+        small,
+        a,
+        g .inner ∙ i .inner,
+        g .bad ∙ i .bad,
+        rw (at .rest) (rest-onto i is (r .depth) (marked-kept (at .marked)) (omega arith) p),
+      ) in
       let h = within-ask (c .declared) (c .setting) (length (c .output)) (treeItems (c .declared) true (form F ∷ []) (i .α)) son m (suc (r .depth))
       (yes c (i .fr)) (no c (i .fr)) (i .e) (r .tallies) (i .b) in
       onto (asks (r .due .head) q is (i .α) (i .e)) (the (form F ∷ [])) false P refl refl j

@@ -14,30 +14,38 @@ use Rattle.specification.proofs.Laws.Place.{SlotIn}
 use Rattle.sheet.specs.Tables.{Words}
 use Rattle.sheet.specs.Held.{codeAt, endAt, slotOf}
 use Rattle.walker.specs.declared.Regs.{Regs}
-use Rattle.walker.specs.Frame.{Item, form, again}
-use Rattle.walker.specs.Path.{World, Stands, Binds, LeftAfter, Pend, Saved, InTable}
+use Rattle.walker.specs.Frame.{Item, form, again, the}
+use Rattle.walker.specs.Path.{World, SameTokens, Pend, Job, Saved, InTable}
+use Rattle.walker.specs.Stands.{Stands, Binds, LeftAfter}
 use Rattle.walker.specs.Sim.{In}
-use Rattle.walker.specs.Steps.{Pushed, Leads}
+use Rattle.walker.specs.Steps.{Linked, Pushed, Leads}
+use Rattle.walker.specs.Registers.{formulaDue}
+use Rattle.walker.proofs.Here.{code-here}
 use Rattle.walker.proofs.Keep.{pend-keep, pend-onto}
 use Rattle.walker.proofs.Slots.{Altered}
-use Rattle.walker.proofs.Whole.{Kept, kept-both, pushed-kept, altered-kept}
+use Rattle.walker.proofs.Whole.{Kept, kept-both, marked-kept, altered-kept}
 
 -- the node goes onto the path, and p has the slot s in place of the one that the node saves
-pub record Alters (w w' : Words) (r : Regs) (α : Valuation) (p : Place) (s : Slot) (todo current last : ℕ) : Type 0 where
+pub record Alters (w w' : Words) (r : Regs) (h : ℕ) (α : Valuation) (p : Place) (s : Slot) (todo current last : ℕ) : Type 0 where
   pub mid : Words
   pub slot : ℕ
   pub had : ℕ
   pub old : ℕ
-  pub pushed : Pushed w mid r todo slot had old current last
+  pub pushed : Pushed w mid r h todo slot had old current last
   pub place : slot ≡ slotOf p
   pub inside : InTable p
   pub saved : Saved had old (α p)
   pub good : SlotIn s
   pub altered : Altered mid w' p s
 
-pub alters-kept : {w w' : Words} {r : Regs} {α : Valuation} {p : Place} {s : Slot} {todo current last : ℕ} →
-    Alters w w' r α p s todo current last → Kept (r .depth) w w'
-alters-kept {r = r} a = kept-both (pushed-kept (a .pushed)) (altered-kept (r .depth) (a .inside) (a .altered))
+pub alters-kept : {w w' : Words} {r : Regs} {h : ℕ} {α : Valuation} {p : Place} {s : Slot} {todo current last : ℕ} →
+    Alters w w' r h α p s todo current last → Kept (r .depth) w w'
+alters-kept {r = r} a = kept-both (marked-kept (a .pushed .linked .marked)) (altered-kept (r .depth) (a .inside) (a .altered))
+
+-- a formula of the tables is due
+pub formula-job : (c : World) (w : Words) (n i p : ℕ) (F : Formula) (is : List Item) → SameTokens (c .tables) w → i < 1024 →
+    Stands (c .declared) (c .tables) i F → Pend c w n p is → Job c w n (formulaDue w i p) (the (form F ∷ is))
+formula-job c w n i p F is s h st q = (code-here (c .tables) w s h, h, st, q)
 
 module _ {c : World} {o : Bytes} {w : Words} {r : Regs} (i : In c o w r) where
   -- ---- the rest of the list
@@ -59,7 +67,7 @@ module _ {c : World} {o : Bytes} {w : Words} {r : Regs} (i : In c o w r) where
   -- ---- the node as a cell
 
   -- of an `and`: its second part
-  pub cons-form : {w' : Words} {todo slot had old current last : ℕ} → Pushed w w' r todo slot had old current last → (G : Formula) (is : List Item) →
+  pub cons-form : {w' : Words} {todo : ℕ} → Linked w w' (r .depth) (r .due .head) (r .due .rest) todo → (G : Formula) (is : List Item) →
       suc (r .due .head) < 1024 → codeAt (c .tables) (r .due .head) ≡ 2 → endAt (c .tables) (suc (r .due .head)) < 1024 →
       Stands (c .declared) (c .tables) (endAt (c .tables) (suc (r .due .head))) G → Pend c w (r .depth) (r .due .rest) is →
       Pend c w' (r .depth + 1) (r .depth + 1) (form G ∷ is)
@@ -71,22 +79,23 @@ module _ {c : World} {o : Bytes} {w : Words} {r : Regs} (i : In c o w r) where
     rw (g .head) code,
     rw (g .head) far,
     rw (g .head) st,
-    rw (g .rest) (rest-onto is (r .depth) (pushed-kept g) (omega arith) q),
+    rw (g .rest) (rest-onto is (r .depth) (marked-kept (g .marked)) (omega arith) q),
   )
 
   -- of an `all`: the same over the values left
-  pub cons-again : {w' : Words} {todo current last : ℕ} {α : Valuation} {p : Place} {s : Slot} → Alters w w' r α p s todo current last →
-      (l : ℕ) (F : Formula) (n : ℕ) (v : ℤ) (is : List Item) → codeAt (c .tables) (r .due .head) ≡ 14 → Binds (c .declared) (c .tables) (r .due .head) l F →
+  pub cons-again : {w' : Words} {h todo current last : ℕ} {α : Valuation} {p : Place} {s : Slot} → Alters w w' r h α p s todo current last →
+      (l : ℕ) (F : Formula) (n : ℕ) (v : ℤ) (is : List Item) → codeAt (c .tables) h ≡ 14 → Binds (c .declared) (c .tables) h l F →
       LeftAfter current last n v → Pend c w (r .depth) (r .due .rest) is → Pend c w' (r .depth + 1) (r .depth + 1) (again l F n v ∷ is)
   cons-again {w'} a l F n v is code bi le q =
       let g = a .pushed in
+      let at = g .linked in
       let k = altered-kept (r .depth + 1) (a .inside) (a .altered) in
       pend-keep c (a .mid) w' (r .depth + 1) (r .depth + 1) (again l F n v ∷ is) (k .nodes) (
         r .depth,
         add-one (r .depth),
         omega arith,
-        rw (g .head) code,
-        rw (g .head) bi,
+        rw (at .head) code,
+        rw (at .head) bi,
         rw (g .now, g .upper) le,
-        rw (g .rest) (rest-onto is (r .depth) (pushed-kept g) (omega arith) q),
+        rw (at .rest) (rest-onto is (r .depth) (marked-kept (at .marked)) (omega arith) q),
       )

@@ -1,5 +1,5 @@
 -- The bounds of a quantifier: an error, no value, or a first value and how many come after it. Assumes nothing.
-use Prim.Native.Nat.{ℕ, suc, _+_, _-_, _≤_, _<_}
+use Prim.Native.Nat.{ℕ, suc, _+_, _*_, _-_, _≤_, _<_}
 use native.Mathlib.Omega.{arith}
 use mathlib.Core.Path.{_≡_, refl, sym, _∙_, ap, subst}
 use mathlib.Core.Bool.{Bool}
@@ -16,20 +16,24 @@ use Rattle.specification.proofs.Laws.Value.{sane-val}
 use Rattle.values.specs.Word.{signed}
 use Rattle.values.proofs.Laws.Word.{signed-biased, signed-count, signed-add, biased-word}
 use Rattle.sheet.specs.Tables.{Words}
+use lib.ListN.{length}
 use Rattle.sheet.specs.Held.{endAt}
 use Rattle.terms.specs.declared.Sides.{Sides}
 use Rattle.terms.specs.Results.{Valued}
 use Rattle.walker.specs.declared.Regs.{Regs}
+use Rattle.walker.specs.Node.{headAt, currentAt, lastAt}
 use Rattle.walker.specs.Frame as frames
 use Rattle.walker.specs.Frame.{Item, treeItems, innerIn}
-use Rattle.walker.specs.Path.{World, Pend, Binds, bodyOf, LeftAfter}
+use Rattle.walker.specs.Path.{World, Pend}
+use Rattle.walker.specs.Stands.{Binds, bodyOf, LeftAfter}
 use Rattle.walker.specs.Sim.{tree, In}
-use Rattle.walker.specs.Steps.{dueOf, Visited, Entered, GoesOn, OneLeaf, Opens, Rounds}
+use Rattle.walker.specs.Steps.{Visited, Entered, GoesOn, OneLeaf, Opens, Rounds}
+use Rattle.walker.specs.Registers.{dueOf}
 use Rattle.walker.proofs.Here.{body-here, code-here}
 use Rattle.walker.proofs.Under.{Ranges, Says}
 use Rattle.walker.proofs.Keep.{pend-keep}
 use Rattle.walker.proofs.Whole.{spare-kept}
-use Rattle.walker.proofs.Heads.{at-form, form-tree, at-again, again-tree, in-spare, visited-spare, entered-spare}
+use Rattle.walker.proofs.Heads.{at-form, head-code, form-tree, at-again, again-tree, in-spare, visited-spare, entered-spare}
 use Rattle.walker.proofs.Sided.{Terms, Errs, back, left-value, right-value}
 
 -- the place of the lower bound, as the code has it
@@ -69,17 +73,17 @@ module _
     (grows : (D : Declared) (m : Bool) (tok l : ℕ) (a b : Term) (F : Formula) (k : Rest) (α : Valuation) →
     grow D m (make tok l a b F) k α ≡ bounded tok (pairOf (side D α a) (side D α b)) (K D m l F k) α)
     {w : Words} {r : Regs} (x : Entered w r n) where
-  abbrev pub quantifier : (c : World) (o : Bytes) (i : In c o w r) → Ranges (c .declared) (c .tables) (r .due .head) (make (r .due .head)) (at-form i (x .job) (x .code) .F)
-  quantifier c o i = let a = at-form i (x .job) (x .code) in says (c .declared) (c .tables) (r .due .head) (a .F) (a .under)
+  abbrev pub quantifier : (c : World) (o : Bytes) (i : In c o w r) → Ranges (c .declared) (c .tables) (r .due .head) (make (r .due .head)) (at-form i (x .formula) (x .code) .F)
+  quantifier c o i = let a = at-form i (x .formula) (x .code) in says (c .declared) (c .tables) (r .due .head) (a .F) (a .under)
 
   -- the tree, by its bounds
   pub grown : (c : World) (o : Bytes) (i : In c o w r) →
       tree c (i .fr) (i .x) (i .α) ≡
       bounded (r .due .head) (pairOf (side (c .declared) (i .α) (quantifier c o i .low)) (side (c .declared) (i .α) (quantifier c o i .high)))
-      (K (c .declared) (innerIn (i .fr)) (quantifier c o i .l) (quantifier c o i .body) (λ β. treeItems (c .declared) (innerIn (i .fr)) (at-form i (x .job) (x .code) .is) β))
+      (K (c .declared) (innerIn (i .fr)) (quantifier c o i .l) (quantifier c o i .body) (λ β. treeItems (c .declared) (innerIn (i .fr)) (at-form i (x .formula) (x .code) .is) β))
       (i .α)
   grown c o i =
-      let a = at-form i (x .job) (x .code) in
+      let a = at-form i (x .formula) (x .code) in
       let q = quantifier c o i in
       let k : Rest = λ β. treeItems (c .declared) (innerIn (i .fr)) (a .is) β in
       form-tree i a ∙ ap (λ F. grow (c .declared) (innerIn (i .fr)) F k (i .α)) (q .is) ∙
@@ -114,7 +118,7 @@ module _
     unfolding range-terms back in-spare bounded pairOf
     valuable c o i =
         let j = back range-terms v i in
-        let a = at-form j (x .job) (x .code) in
+        let a = at-form j (x .formula) (x .code) in
         let t = quantifier c o j in
         let p = left-value range-terms v l c o i in
         let q = right-value range-terms v h c o i in
@@ -173,7 +177,7 @@ module _ {w w' : Words} {r : Regs} {s : Sides} where
       some-values = valuable 13 some someOf (λ D t h F q. q) some-grows x v l h
 
       -- no value: a failure leaf
-      pub some-none : s .right < s .left → OneLeaf w' r (dueOf 4 0 0)
+      pub some-none : s .right < s .left → OneLeaf w' r (dueOf 17 0 0)
       unfolding sons
       some-none less = record {
         at = visited-spare w w' (v .kept) (v .size) (x .at);
@@ -218,11 +222,11 @@ module _ {w w' : Words} {r : Regs} {s : Sides} where
             (a .is, a .grown ∙ rw (count-none (s .left) (s .right) (a .y) (a .z) (a .bounds) less), a .rest);
       }
 
-      pub all-rounds : s .left ≤ s .right → Rounds w' r (s .left) (s .right)
+      pub all-rounds : s .left ≤ s .right → Rounds w' r (r .due .head) (s .left) (s .right)
       unfolding rounds treeItems
       all-rounds more = record {
         at = visited-spare w w' (v .kept) (v .size) (x .at);
-        code = entered-spare w w' (v .kept) (v .size) x .code;
+        code = head-code (entered-spare w w' (v .kept) (v .size) x);
         son = λ c o i.
             let a = all-values c o i in (
               a .local,
@@ -240,40 +244,55 @@ module _ {w w' : Words} {r : Regs} {s : Sides} where
 
 -- ---- an `all` that goes on
 
-module _ {w : Words} {r : Regs} (x : Visited w r) (j : r .due .job ≡ 2) where
-  pub again-small : (r .due .current ≤ r .due .last) × (r .due .last < 4294967296)
-  again-small = let a = at-again (x .ins) j in (a .left .order, a .left .fits)
+module _ {w : Words} {r : Regs} (x : Visited w r) (j : r .due .job ≡ 15) where
+  -- the node that began it
+  pub again-node : (1 ≤ r .due .head) × (6156 + 12 * (r .due .head - 1) ≤ length w)
+  again-node =
+      let i = x .ins in
+      let a = at-again i j in
+      (a .below .0, omega (arith, a .below .0, a .below .1, i .path .size, i .room))
 
-  pub again-none : r .due .current ≡ r .due .last → GoesOn w r
-  unfolding rounds
-  again-none e = record {
-    at = x;
-    son = λ c o i.
-        let a = at-again i j in
-        let none : a .m ≡ 0 = a .left .count ∙ omega arith in
-        (a .is, again-tree i a ∙ rw none, a .rest);
-  }
+  module _ {current last : ℕ} (ec : current ≡ currentAt w (r .due .head - 1)) (el : last ≡ lastAt w (r .due .head - 1)) where
+    left-is : {c : World} {o : Bytes} (i : In c o w r) → let a = at-again i j in LeftAfter current last (a .m) (a .v)
+    left-is i = rw (ec, el) (at-again i j .left)
 
-  pub again-rounds : ¬ (r .due .current ≡ r .due .last) → Rounds w r (r .due .current + 1) (r .due .last)
-  unfolding rounds treeItems
-  again-rounds n = record {
-    at = x;
-    code = (let i = x .ins in let a = at-again i j in code-here (x .c .tables) w (i .path .tokens) (omega (arith, a .binds .near)) ∙ a .code);
-    son = λ c o i.
-        let a = at-again i j in
-        let order = a .left .order in
-        let fits = a .left .fits in
-        let more : a .m ≡ suc (r .due .last - (r .due .current + 1)) = a .left .count ∙ (let q : ¬ (r .due .current ≡ r .due .last) = n in omega arith) in
-        let next : signed (r .due .current + 1) ≡ a .v = sym (signed-add (r .due .current) 1) ∙ sym (a .left .lowest) in (
-          a .l,
-          a .F,
-          r .due .last - (r .due .current + 1),
-          a .v,
-          a .is,
-          again-tree i a ∙ rw more,
-          a .binds,
-          record { fits = fits; order = (let q : ¬ (r .due .current ≡ r .due .last) = n in omega arith); count = refl; lowest = ap (_+ℤ pos 1) (sym next) },
-          next,
-          a .rest,
-        );
-  }
+    pub again-small : (current ≤ last) × (last < 4294967296)
+    again-small = let q = left-is (x .ins) in (q .order, q .fits)
+
+    pub again-none : current ≡ last → GoesOn w r
+    unfolding rounds
+    again-none e = record {
+      at = x;
+      son = λ c o i.
+          let a = at-again i j in
+          let none : a .m ≡ 0 = left-is i .count ∙ omega arith in
+          (a .is, again-tree i a ∙ rw none, a .rest);
+    }
+
+    pub again-rounds : {h : ℕ} → h ≡ headAt w (r .due .head - 1) → ¬ (current ≡ last) → Rounds w r h (current + 1) last
+    unfolding rounds treeItems
+    again-rounds {h} eh n = record {
+      at = x;
+      code = (
+          let i = x .ins in
+          let a = at-again i j in
+          rw eh (code-here (x .c .tables) w (i .path .tokens) (omega (arith, a .binds .near)) ∙ a .code));
+      son = λ c o i.
+          let a = at-again i j in
+          let q = left-is i in
+          let order = q .order in
+          let differ : ¬ (current ≡ last) = n in
+          let more : a .m ≡ suc (last - (current + 1)) = q .count ∙ omega arith in
+          let next : signed (current + 1) ≡ a .v = sym (signed-add current 1) ∙ sym (q .lowest) in (
+            a .l,
+            a .F,
+            last - (current + 1),
+            a .v,
+            a .is,
+            again-tree i a ∙ rw more,
+            rw eh (a .binds),
+            record { fits = q .fits; order = omega arith; count = refl; lowest = ap (_+ℤ pos 1) (sym next) },
+            next,
+            a .rest,
+          );
+    }

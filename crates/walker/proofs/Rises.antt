@@ -19,7 +19,7 @@ use Rattle.walker.specs.Node.{todoAt, slotAt, hadAt, oldAt, currentAt, l
 use Rattle.walker.specs.Frame.{Item, Frame, pass, other, undo, range, asks, here, below, len}
 use Rattle.walker.specs.Path.{World, bit, Saved, Changed, Path}
 use Rattle.walker.specs.Sim.{yes, no, Up, Yes, ended, Sim, over, up, won}
-use Rattle.walker.specs.Steps.{popRegs, stopRegs}
+use Rattle.walker.specs.Registers.{popRegs, stopRegs}
 use Rattle.walker.specs.Loop.{Topped, Rising, Rose, Exhausted, Leaves, Restores}
 use Rattle.walker.proofs.Slots.{in-table, Altered, alter-two, holds-back}
 use Rattle.walker.proofs.Whole.{Kept, altered-kept, path-pop}

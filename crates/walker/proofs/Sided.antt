@@ -1,18 +1,13 @@
 -- Two terms of the node's formula, as `terms::sides` gives them: an error on either side leads to an error leaf, or both have values.
 -- Assumes nothing.
-use Prim.Native.Nat.{ℕ, suc, _+_, _*_, _≤_, _<_}
+use Prim.Native.Nat.{ℕ}
 use native.Mathlib.Omega.{arith}
 use mathlib.Core.Path.{_≡_, refl, sym, _∙_, ap, subst}
-use mathlib.Core.Logic.{_⊎_}
-use lib.ListN.{length, getD}
-use lib.Dec.{T}
 use lib.IntN.{ℤ}
 use Rattle.specification.specs.Bytes.{Bytes}
-use Rattle.specification.specs.Number.{in32}
 use Rattle.specification.specs.Ast.{Term}
-use Rattle.specification.specs.Value.{Side, val, bare, err, Pair, values, faulty, pairOf, side}
+use Rattle.specification.specs.Value.{Side, val, bare, err, values, faulty, pairOf, side}
 use Rattle.specification.specs.Inner.{errorLeaf, step}
-use Rattle.specification.proofs.Laws.Value.{sane-val}
 use Rattle.values.specs.Word.{biased}
 use Rattle.sheet.specs.Tables.{Words}
 use Rattle.terms.specs.declared.Sides.{Sides}
@@ -21,7 +16,8 @@ use Rattle.walker.specs.declared.Regs.{Regs}
 use Rattle.walker.specs.Frame as frames
 use Rattle.walker.specs.Path.{World}
 use Rattle.walker.specs.Sim.{tree, In}
-use Rattle.walker.specs.Steps.{errorDue, Visited, OneLeaf, KindOf}
+use Rattle.walker.specs.Steps.{Visited, OneLeaf, KindOf}
+use Rattle.walker.specs.Registers.{errorDue}
 use Rattle.walker.proofs.Here.{terms-here}
 use Rattle.walker.proofs.Under.{TermsIn}
 use Rattle.walker.proofs.Heads.{in-spare}

@@ -2,7 +2,7 @@
 use Prim.Native.Nat.{ℕ, suc, _+_, _≤_, _<_}
 use native.Mathlib.Omega.{arith}
 use native.Mathlib.Numerals.{add-one}
-use mathlib.Core.Path.{_≡_, refl, _∙_}
+use mathlib.Core.Path.{_≡_, _∙_}
 use mathlib.Core.List.{[], _∷_}
 use Rattle.specification.specs.Bytes.{Bytes}
 use Rattle.specification.specs.Tree.{grow}
@@ -12,31 +12,33 @@ use Rattle.walker.specs.declared.Regs.{Regs}
 use Rattle.walker.specs.Frame.{form, again, What, the, success, failure, error, treeItems}
 use Rattle.walker.specs.Path.{World, Job}
 use Rattle.walker.specs.Sim.{Down, In}
-use Rattle.walker.specs.Steps.{dueOf, dueRegs, Pushed, Leads, Listed, Entered, GoesOn, OneLeaf}
-use Rattle.walker.proofs.Whole.{pushed-kept}
+use Rattle.walker.specs.Steps.{Marked, Linked, Leads, Listed, Entered, GoesOn, OneLeaf}
+use Rattle.walker.specs.Registers.{formulaDue, dueRegs}
+use Rattle.walker.proofs.Inverse.{code-range}
+use Rattle.walker.proofs.Whole.{marked-kept}
 use Rattle.walker.proofs.Heads.{at-form, form-tree}
-use Rattle.walker.proofs.Pushes.{rest-onto, rest-leads, cons-form}
+use Rattle.walker.proofs.Pushes.{formula-job, rest-onto, rest-leads, cons-form}
 use Rattle.walker.proofs.Onto.{down-pass, down-other}
 
 -- a leaf's words do not lie in memory
-leaf-job : (c : World) (w w' : Words) (n m : ℕ) (d : Due) (x : What) → 3 ≤ d .job → Job c w n d x → Job c w' m d x
+leaf-job : (c : World) (w w' : Words) (n m : ℕ) (d : Due) (x : What) → 16 ≤ d .job → Job c w n d x → Job c w' m d x
 leaf-job c w w' n m d (the []) h q = absurd (omega (arith, q))
-leaf-job c w w' n m d (the (form F ∷ is)) h q = absurd (omega (arith, q .0))
+leaf-job c w w' n m d (the (form F ∷ is)) h q = absurd (omega (arith, h, q .0, code-range (c .declared) (c .tables) (d .head) F (q .2) .1))
 leaf-job c w w' n m d (the (again l F k v ∷ is)) h q = absurd (omega (arith, q .0))
 leaf-job c w w' n m d success h q = q
 leaf-job c w w' n m d failure h q = q
 leaf-job c w w' n m d (error κ tok) h q = q
 
-module _ {w w' : Words} {r : Regs} {slot had old current last : ℕ} (g : Pushed w w' r 0 slot had old current last) where
+module _ {w w' : Words} {r : Regs} (g : Marked w w' (r .depth) 0) where
   -- the rest of the list can be read, and comes next
   pub goes-leads : GoesOn w r → Leads w' (r .due .rest)
-  goes-leads x = let s = x .son (x .at .c) (x .at .o) (x .at .ins) in rest-leads (x .at .ins) (s .0) (pushed-kept g) (s .2)
+  goes-leads x = let s = x .son (x .at .c) (x .at .o) (x .at .ins) in rest-leads (x .at .ins) (s .0) (marked-kept g) (s .2)
 
   pub goes-down : {d : Due} → GoesOn w r → Listed w' (r .due .rest) d → (c : World) (o : Bytes) → In c o w r →
       Down c o w' (dueRegs r (r .depth + 1) d (r .inner) (r .bad))
   goes-down x f c o i =
       let s = x .son c o i in
-      let k = pushed-kept g in
+      let k = marked-kept g in
       down-pass i g (the (s .0)) (s .1)
       (f c (r .depth + 1) (s .0) (λ j a. k .tokens j a ∙ i .path .tokens j a) (rest-onto i (s .0) (r .depth + 1) k (omega arith) (s .2)))
 
@@ -51,29 +53,42 @@ pub true-goes : {w : Words} {r : Regs} → Entered w r 1 → GoesOn w r
 unfolding grow
 true-goes x = record {
   at = x .at;
-  son = λ c o i. let a = at-form i (x .job) (x .code) in (a .is, form-tree i a ∙ rw (a .under), a .rest);
+  son = λ c o i. let a = at-form i (x .formula) (x .code) in (a .is, form-tree i a ∙ rw (a .under), a .rest);
 }
 
 -- the token after a formula's is one of the table
 pub head-small : {w : Words} {r : Regs} {n : ℕ} → Entered w r n → r .due .head < 1024
-head-small x = at-form (x .at .ins) (x .job) (x .code) .small
+head-small x = at-form (x .at .ins) (x .formula) (x .code) .small
+
+-- and so is the first part of an `and` or `or`
+pub and-near : {w : Words} {r : Regs} → Entered w r 2 → r .due .head + 1 < 1024
+and-near x = omega (arith, at-form (x .at .ins) (x .formula) (x .code) .under .near)
+
+pub or-near : {w : Words} {r : Regs} → Entered w r 3 → r .due .head + 1 < 1024
+or-near x = omega (arith, at-form (x .at .ins) (x .formula) (x .code) .under .near)
 
 -- `and`: the node is the list's next cell
-pub and-down : {w w' : Words} {r : Regs} {d : Due} → Entered w r 2 → Pushed w w' r 0 0 0 0 0 0 → d ≡ dueOf 0 (r .due .head + 1) (r .depth + 1) →
+pub and-down : {w w' : Words} {r : Regs} {d : Due} → Entered w r 2 → Linked w w' (r .depth) (r .due .head) (r .due .rest) 0 → d ≡ formulaDue w' (r .due .head + 1) (r .depth + 1) →
     (c : World) (o : Bytes) → In c o w r → Down c o w' (dueRegs r (r .depth + 1) d (r .inner) (r .bad))
 unfolding grow treeItems
-and-down {r = r} x g k c o i =
-    let a = at-form i (x .job) (x .code) in
+and-down {w' = w'} {r = r} x g k c o i =
+    let a = at-form i (x .formula) (x .code) in
     let b = a .under in
-    down-pass i g (the (form (b .first) ∷ form (b .second) ∷ a .is)) (form-tree i a ∙ rw (b .is))
-    (rw (k, add-one (r .due .head)) (refl, b .near, b .left, cons-form i g (b .second) (a .is) (b .near) (a .code) (b .far) (b .right) (a .rest)))
+    let m = marked-kept (g .marked) in
+    down-pass i (g .marked) (the (form (b .first) ∷ form (b .second) ∷ a .is)) (form-tree i a ∙ rw (b .is))
+    (rw (k, add-one (r .due .head))
+    (formula-job c w' (r .depth + 1) (suc (r .due .head)) (r .depth + 1) (b .first) (form (b .second) ∷ a .is) (λ j h. m .tokens j h ∙ i .path .tokens j h) (b .near)
+    (b .left) (cons-form i g (b .second) (a .is) (b .near) (a .code) (b .far) (b .right) (a .rest))))
 
 -- `or`: its second part is left for later
-pub or-down : {w w' : Words} {r : Regs} {d : Due} → Entered w r 3 → Pushed w w' r 1 0 0 0 0 0 → d ≡ dueOf 0 (r .due .head + 1) (r .due .rest) →
+pub or-down : {w w' : Words} {r : Regs} {d : Due} → Entered w r 3 → Linked w w' (r .depth) (r .due .head) (r .due .rest) 1 → d ≡ formulaDue w' (r .due .head + 1) (r .due .rest) →
     (c : World) (o : Bytes) → In c o w r → Down c o w' (dueRegs r (r .depth + 1) d (r .inner) (r .bad))
 unfolding grow treeItems
-or-down {r = r} x g k c o i =
-    let a = at-form i (x .job) (x .code) in
+or-down {w' = w'} {r = r} x g k c o i =
+    let a = at-form i (x .formula) (x .code) in
     let b = a .under in
+    let m = marked-kept (g .marked) in
     down-other i g (the (form (b .first) ∷ a .is)) (b .second) (a .is) (form-tree i a ∙ rw (b .is)) (b .near) (b .far) (b .right) (a .rest)
-    (rw (k, add-one (r .due .head)) (refl, b .near, b .left, rest-onto i (a .is) (r .depth + 1) (pushed-kept g) (omega arith) (a .rest)))
+    (rw (k, add-one (r .due .head))
+    (formula-job c w' (r .depth + 1) (suc (r .due .head)) (r .due .rest) (b .first) (a .is) (λ j h. m .tokens j h ∙ i .path .tokens j h) (b .near) (b .left)
+    (rest-onto i (a .is) (r .depth + 1) m (omega arith) (a .rest))))

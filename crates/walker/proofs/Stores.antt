@@ -1,4 +1,4 @@
--- Words stored one after the other: the node that `push` writes. Assumes nothing.
+-- Words stored one after the other: the nodes that src/nodes.rt writes. Assumes nothing.
 use Prim.Native.Nat.{ℕ, zero, suc, _+_, _*_, _≤_, _<_}
 use native.Mathlib.Omega.{arith}
 use mathlib.Core.Path.{_≡_, refl, _∙_}
@@ -7,7 +7,7 @@ use lib.ListN.{length, getD, set, length-set}
 use lib.Seq.{getD-set-same, getD-set-other}
 use Rattle.sheet.specs.Tables.{Words}
 use Rattle.walker.specs.declared.Regs.{Regs}
-use Rattle.walker.specs.Steps.{Pushed}
+use Rattle.walker.specs.Steps.{Marked, Linked, Pushed}
 
 -- the words xs from the word a + k on
 abbrev stores : Words → ℕ → ℕ → List ℕ → Words
@@ -32,21 +32,45 @@ length-stores : (xs : List ℕ) (w : Words) (a k : ℕ) → length (stores w a k
 length-stores [] w a k = refl
 length-stores (x ∷ xs) w a k = length-stores xs (set w (a + k) x) a (suc k) ∙ length-set w (a + k) x
 
-pub pushed : (w : Words) (a : ℕ) (r : Regs) (todo slot had old current last : ℕ) → a ≡ 6144 + 12 * r .depth → 6156 + 12 * r .depth ≤ length w →
-    Pushed w
-    (stores (set w a (r .due .head)) a 1 (r .due .rest ∷ todo ∷ slot ∷ had ∷ old ∷ current ∷ last ∷ r .inner ∷ r .bad ∷ []))
-    r todo slot had old current last
-pushed w a r todo slot had old current last e z =
-    let xs : List ℕ = r .due .rest ∷ todo ∷ slot ∷ had ∷ old ∷ current ∷ last ∷ r .inner ∷ r .bad ∷ [] in
-    let w1 : Words = set w a (r .due .head) in
-    let size : length w1 ≡ length w = length-set w a (r .due .head) in
-    let at : (n : ℕ) → n < 9 → getD (stores w1 a 1 xs) (6144 + 12 * r .depth + (1 + n)) 0 ≡ getD xs n 0 =
-    λ n h. stores-at xs w1 a 1 n (6144 + 12 * r .depth + (1 + n)) (omega arith) h (omega arith) in
+-- ---- the words of a node
+
+module _ (w : Words) (a d : ℕ) (e : a ≡ 6144 + 12 * d) (z : 6156 + 12 * d ≤ length w) where
+  pub passed : Marked w (set w (a + 2) 0) d 0
+  passed = record {
+    low = λ j h. getD-set-other w (a + 2) j 0 0 (λ y. omega arith);
+    left = rw (← e) (getD-set-same w (a + 2) 0 0 (omega arith));
+    size = length-set w (a + 2) 0;
+  }
+
+  -- the words xs after its first
+  module _ (h : ℕ) (xs : List ℕ) (fits : length xs < 12) where
+    word-at : (n : ℕ) → n < length xs → getD (stores (set w a h) a 1 xs) (6144 + 12 * d + (1 + n)) 0 ≡ getD xs n 0
+    word-at n k =
+        let size = length-set w a h in
+        stores-at xs (set w a h) a 1 n (6144 + 12 * d + (1 + n)) (omega arith) k (omega arith)
+
+  -- its token, its list, what is left to do there, and more words after these
+  pub linked : (h p todo : ℕ) (xs : List ℕ) → length xs < 10 → Linked w (stores (set w a h) a 1 (p ∷ todo ∷ xs)) d h p todo
+  linked h p todo xs fits =
+      let ys : List ℕ = p ∷ todo ∷ xs in
+      let w1 : Words = set w a h in
+      record {
+        marked = record {
+          low = λ j k. stores-off ys w1 a 1 j (omega arith) ∙ getD-set-other w a j h 0 (λ y. omega arith);
+          left = word-at h ys (omega arith) 1 (omega arith);
+          size = length-stores ys w1 a 1 ∙ length-set w a h;
+        };
+        head = rw (← e) (stores-off ys w1 a 1 a (omega arith) ∙ getD-set-same w a h 0 (omega arith));
+        rest = word-at h ys (omega arith) 0 (omega arith);
+      }
+
+pub pushed : (w : Words) (a : ℕ) (r : Regs) (h todo slot had old current last : ℕ) → a ≡ 6144 + 12 * r .depth → 6156 + 12 * r .depth ≤ length w →
+    Pushed w (stores (set w a h) a 1 (r .due .rest ∷ todo ∷ slot ∷ had ∷ old ∷ current ∷ last ∷ r .inner ∷ r .bad ∷ [])) r h todo slot had old current last
+pushed w a r h todo slot had old current last e z =
+    let more : List ℕ = slot ∷ had ∷ old ∷ current ∷ last ∷ r .inner ∷ r .bad ∷ [] in
+    let at = word-at w a (r .depth) e z h (r .due .rest ∷ todo ∷ more) (omega arith) in
     record {
-      low = λ j h. stores-off xs w1 a 1 j (omega arith) ∙ getD-set-other w a j (r .due .head) 0 (λ y. omega arith);
-      head = rw (← e) (stores-off xs w1 a 1 a (omega arith) ∙ getD-set-same w a (r .due .head) 0 (omega arith));
-      rest = at 0 (omega arith);
-      left = at 1 (omega arith);
+      linked = linked w a (r .depth) e z h (r .due .rest) todo more (omega arith);
       place = at 2 (omega arith);
       saved = at 3 (omega arith);
       value = at 4 (omega arith);
@@ -54,5 +78,4 @@ pushed w a r todo slot had old current last e z =
       upper = at 6 (omega arith);
       inner = at 7 (omega arith);
       bad = at 8 (omega arith);
-      size = length-stores xs w1 a 1 ∙ size;
     }

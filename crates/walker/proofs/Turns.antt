@@ -21,7 +21,8 @@ use Rattle.walker.specs.Node.{headAt, restAt, todoAt, innerAt, badAt}
 use Rattle.walker.specs.Frame.{Item, form, What, the, failure, error, treeItems, Question, denying, implying, Frame, pass, asks, here, below, len, innerIn, sonOf}
 use Rattle.walker.specs.Path.{World, Pend, Job, bit, Path, Output, Count}
 use Rattle.walker.specs.Sim.{yes, no, tree, Down, Up, Yes, down}
-use Rattle.walker.specs.Steps.{dueOf, errorDue, dueRegs, Leads, Listed}
+use Rattle.walker.specs.Steps.{Leads, Listed}
+use Rattle.walker.specs.Registers.{dueOf, formulaDue, errorDue, dueRegs}
 use Rattle.walker.specs.Loop.{Topped, Rose}
 use Rattle.walker.proofs.Keep.{pend-onto}
 use Rattle.walker.proofs.Here.{code-here, end-here}
@@ -98,12 +99,22 @@ pub other-small : {w : Words} {r : Regs} → Topped w r 1 → suc (headAt w (r .
 other-small {w} {r} t =
     top-other (λ fr. suc (headAt w (r .depth - 1)) < 1024) (t .some) (t .todo) (λ G is β fr P. rw (top-index P) (P .stack .0 .1)) (t .fr) (t .path)
 
+pub other-far : {w : Words} {r : Regs} {h n : ℕ} → Topped w r 1 → h ≡ headAt w (r .depth - 1) → n ≡ endAt w (h + 1) → n < 1024
+other-far {w} {r} {h} {n} t eh en =
+    top-other (λ fr. n < 1024) (t .some) (t .todo)
+    (λ G is β fr P.
+    let a = P .stack .0 in
+    let k = headAt w (len fr) in
+    let eh′ : h ≡ k = eh ∙ ap (headAt w) (top-index P) in
+    let far : endAt w (suc k) ≡ endAt (t .c .tables) (suc k) = end-here (t .c .tables) w (P .tokens) (a .1) in
+    rw (en, eh′, add-one k, far) (a .2)) (t .fr) (t .path)
+
 pub other-up : {c : World} {o : Bytes} {w w' : Words} {r : Regs} {h n p : ℕ} → 0 < r .depth → todoAt w (r .depth - 1) ≡ 1 → h ≡ headAt w (r .depth - 1) →
     n ≡ endAt w (h + 1) → p ≡ restAt w (r .depth - 1) → w' ≡ set w (6144 + 12 * (r .depth - 1) + 2) 0 → Up c o w r →
-    Down c o w' (dueRegs r (r .depth) (dueOf 0 n p) (r .inner) (r .bad))
+    Down c o w' (dueRegs r (r .depth) (formulaDue w n p) (r .inner) (r .bad))
 other-up {c} {o} {w} {w'} {r} {h} {n} {p} some t eh en ep ew u =
     top-other
-    (λ fr. r .inner ≡ bit (innerIn fr) → no c fr (u .e) (r .tallies) (u .b) ≡ c .result → Down c o w' (dueRegs r (r .depth) (dueOf 0 n p) (r .inner) (r .bad)))
+    (λ fr. r .inner ≡ bit (innerIn fr) → no c fr (u .e) (r .tallies) (u .b) ≡ c .result → Down c o w' (dueRegs r (r .depth) (formulaDue w n p) (r .inner) (r .bad)))
     some t
     (λ G is β fr P i q.
     let k = turned-kept P ew in
@@ -111,7 +122,7 @@ other-up {c} {o} {w} {w'} {r} {h} {n} {p} some t eh en ep ew u =
     let eh′ : h ≡ headAt w (len fr) = eh ∙ ap (headAt w) (top-index P) in
     let at : n ≡ endAt (c .tables) (suc (headAt w (len fr))) = en ∙ rw (add-one, eh′) (end-here (c .tables) w (P .tokens) (a .1)) in
     son-due r (u .e) (u .b) (the (form G ∷ is)) (turned P ew refl) i (u .bad)
-    (refl, rw at (a .2), rw at (a .3), rest-under P k is ep (a .4)) (u .out) (u .count) q)
+    (code-here (c .tables) w (P .tokens) (rw at (a .2)), rw at (a .2), rw at (a .3), rest-under P k is ep (a .4)) (u .out) (u .count) q)
     (u .fr) (u .path) (u .inner) (u .result)
 
 -- ---- the son that a verdict leads to
@@ -204,27 +215,39 @@ module _ {w w' : Words} {r : Regs} {h p inner bad : ℕ} (g : Judges w w' r h p 
         (u .fr) (u .path) (rw (flag-off (u .e) (λ y. none (u .bad ∙ y))) at (u .result))
 
     -- it has had a success leaf, and the node is one of `not`
-    pub judge-not : (codeAt w' h ≡ 4 → ⊥) → Yes c o w r → Down c o w' (dueRegs r (r .depth) (dueOf 4 0 0) inner bad)
+    pub judge-not : (codeAt w' h ≡ 4 → ⊥) → Yes c o w r → Down c o w' (dueRegs r (r .depth) (dueOf 17 0 0) inner bad)
     judge-not code u =
-        top-asks (λ fr. yes c fr (r .tallies) (u .b) ≡ c .result → Down c o w' (dueRegs r (r .depth) (dueOf 4 0 0) inner bad)) (g .some) (g .todo)
+        top-asks (λ fr. yes c fr (r .tallies) (u .b) ≡ c .result → Down c o w' (dueRegs r (r .depth) (dueOf 17 0 0) inner bad)) (g .some) (g .todo)
         (λ tok q is β e fr P z. go q is P z) (u .fr) (u .path) (u .result)
       where
         go : {tok : ℕ} {β : Valuation} {e : Bool} {fr : List Frame} (q : Question) (is : List Item) → Path c w (r .depth) (u .α) (asks tok q is β e ∷ fr) →
-            yes c (asks tok q is β e ∷ fr) (r .tallies) (u .b) ≡ c .result → Down c o w' (dueRegs r (r .depth) (dueOf 4 0 0) inner bad)
+            yes c (asks tok q is β e ∷ fr) (r .tallies) (u .b) ≡ c .result → Down c o w' (dueRegs r (r .depth) (dueOf 17 0 0) inner bad)
         go denying is P z = judged P (u .b) failure refl (u .out) (u .count) z
         go (implying G) is P z = absurd (code (code-is P ∙ P .stack .0 .3 .0))
 
     -- the same of `imp`
-    pub judge-imp : {n : ℕ} → codeAt w' h ≡ 4 → n ≡ endAt w' (h + 1) → Yes c o w r → Down c o w' (dueRegs r (r .depth) (dueOf 0 n p) inner bad)
+    pub judge-imp : {n : ℕ} → codeAt w' h ≡ 4 → n ≡ endAt w' (h + 1) → Yes c o w r → Down c o w' (dueRegs r (r .depth) (formulaDue w' n p) inner bad)
     judge-imp {n} code en u =
-        top-asks (λ fr. yes c fr (r .tallies) (u .b) ≡ c .result → Down c o w' (dueRegs r (r .depth) (dueOf 0 n p) inner bad)) (g .some) (g .todo)
+        top-asks (λ fr. yes c fr (r .tallies) (u .b) ≡ c .result → Down c o w' (dueRegs r (r .depth) (formulaDue w' n p) inner bad)) (g .some) (g .todo)
         (λ tok q is β e fr P z. go q is P z) (u .fr) (u .path) (u .result)
       where
         go : {tok : ℕ} {β : Valuation} {e : Bool} {fr : List Frame} (q : Question) (is : List Item) → Path c w (r .depth) (u .α) (asks tok q is β e ∷ fr) →
-            yes c (asks tok q is β e ∷ fr) (r .tallies) (u .b) ≡ c .result → Down c o w' (dueRegs r (r .depth) (dueOf 0 n p) inner bad)
+            yes c (asks tok q is β e ∷ fr) (r .tallies) (u .b) ≡ c .result → Down c o w' (dueRegs r (r .depth) (formulaDue w' n p) inner bad)
         go denying is P z = absurd (omega (arith, code, code-is P, P .stack .0 .3))
         go {tok} (implying G) is P z =
             let a = P .stack .0 .3 in
-            let at : n ≡ endAt (c .tables) (suc tok) =
-            en ∙ rw (add-one, token-is P) (end-here (c .tables) w' (turned P (g .words) refl .tokens) (a .1)) in
-            judged P (u .b) (the (form G ∷ is)) (refl, rw at (a .2), rw at (a .3), list-is P) (u .out) (u .count) z
+            let s = turned P (g .words) refl .tokens in
+            let at : n ≡ endAt (c .tables) (suc tok) = en ∙ rw (add-one, token-is P) (end-here (c .tables) w' s (a .1)) in
+            judged P (u .b) (the (form G ∷ is)) (code-here (c .tables) w' s (rw at (a .2)), rw at (a .2), rw at (a .3), list-is P) (u .out) (u .count) z
+
+  -- its second part is one of the table
+  pub judge-far : {n : ℕ} → Topped w r 4 → codeAt w' h ≡ 4 → n ≡ endAt w' (h + 1) → n < 1024
+  judge-far {n} t code en = top-asks (λ fr. n < 1024) (t .some) (t .todo) (λ tok q is β e fr P. go q is P) (t .fr) (t .path)
+    where
+      go : {tok : ℕ} {β : Valuation} {e : Bool} {fr : List Frame} (q : Question) (is : List Item) →
+          Path (t .c) w (r .depth) (t .α) (asks tok q is β e ∷ fr) → n < 1024
+      go denying is P = absurd (omega (arith, code, code-is P, P .stack .0 .3))
+      go {tok} (implying G) is P =
+          let a = P .stack .0 .3 in
+          let s = turned P (g .words) refl .tokens in
+          rw (en, token-is P, add-one tok, end-here (t .c .tables) w' s (a .1)) (a .2)

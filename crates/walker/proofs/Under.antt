@@ -9,7 +9,7 @@ use Rattle.specification.proofs.Laws.Scope.{Scope, OkTerm}
 use Rattle.sheet.specs.Tables.{Words}
 use Rattle.sheet.specs.Codes.{relCode}
 use Rattle.sheet.specs.Held.{endAt, TermsAt, LocalAt, height}
-use Rattle.walker.specs.Path.{Stands, bodyOf, Binds}
+use Rattle.walker.specs.Stands.{Stands, bodyOf, Binds}
 
 abbrev Either : Bool → Type 0 → Type 0 → Type 0
 Either true A B = A

@@ -11,8 +11,9 @@ use Rattle.walker.specs.declared.Regs.{Regs}
 use Rattle.walker.specs.Walk.{gated}
 use Rattle.walker.specs.Path.{World}
 use Rattle.walker.specs.Sim.{Down, In, ended, Over, over}
-use Rattle.walker.specs.Steps.{stopRegs, leafRegs, counted, Visited, Stepped}
-use Rattle.walker.specs.Loop.{AtLeaf, LeafDone, VisitDue, Arrived}
+use Rattle.walker.specs.Steps.{Visited, Stepped}
+use Rattle.walker.specs.Registers.{stopRegs, leafRegs, counted}
+use Rattle.walker.specs.Loop.{VisitDue, Arrived}
 
 -- the registers of a visit that is counted
 abbrev countedRegs : Regs → Regs
@@ -92,12 +93,6 @@ module _ {w : Words} {r q : Regs} {t : Tallies} {path budget : ℕ} (a : VisitDu
   pub visited : Visited w q
   visited = record { c = a .c; o = a .o; ins = enters (a .c) (a .o) (a .path-is) (a .budget-is) (a .ins) }
 
-  pub visited-leaf : 3 ≤ r .due .job → AtLeaf q
-  visited-leaf l = record { w = w; at = visited; leaf = rw is-counted l }
-
-  pub visited-node : r .due .job < 3 → Visited w q × (q .due .job < 3)
-  visited-node l = (visited, rw is-counted l)
-
   fewer : q .tallies .nodes ≡ suc (r .tallies .nodes)
   fewer = rw is-counted refl
 
@@ -106,12 +101,6 @@ module _ {w : Words} {r q : Regs} {t : Tallies} {path budget : ℕ} (a : VisitDu
 
   room-left : r .tallies .nodes < budget
   room-left = omega (arith, a .ins .count .budget, a .budget-is)
-
-  pub arrives-leaf : {q' : Regs} → LeafDone q q' → Arrived w w r q' path budget
-  arrives-leaf s = record {
-    sim = λ c o p b d. s .sim c o w (enters c o p b d);
-    falls = omega (arith, s .nodes, s .falls, fewer, same-depth, room-left, a .mode);
-  }
 
   pub arrives : {w' : Words} {q' : Regs} → Stepped w w' q q' → Arrived w w' r q' path budget
   arrives s = record {

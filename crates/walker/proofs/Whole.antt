@@ -11,10 +11,9 @@ use Rattle.specification.specs.Value.{Slot, Valuation}
 use Rattle.specification.proofs.Laws.Scope.{Valid}
 use Rattle.sheet.specs.Tables.{Words}
 use Rattle.sheet.specs.Held.{Holds}
-use Rattle.walker.specs.declared.Regs.{Regs}
 use Rattle.walker.specs.Frame.{Frame, here, below, len, innerIn}
 use Rattle.walker.specs.Path.{World, InTable, FrameAt, Stack, Chain, SameTokens, Path}
-use Rattle.walker.specs.Steps.{Pushed}
+use Rattle.walker.specs.Steps.{Marked}
 use Rattle.walker.proofs.Keep.{SameNodes, stack-keep}
 use Rattle.walker.proofs.Slots.{in-table, SameSlots, Altered}
 
@@ -35,17 +34,17 @@ kept-both a b = record {
 }
 
 -- by a node that goes onto the path
-module _ {w w' : Words} {r : Regs} {todo slot had old current last : ℕ} (g : Pushed w w' r todo slot had old current last) where
-  pub pushed-kept : Kept (r .depth) w w'
-  pushed-kept = record {
+module _ {w w' : Words} {d todo : ℕ} (g : Marked w w' d todo) where
+  pub marked-kept : Kept d w w'
+  marked-kept = record {
     tokens = λ j h. g .low j (omega arith);
     firsts = λ j h k. g .low j (omega arith);
     nodes = record { same = λ j h k. g .low j k };
     size = g .size;
   }
 
-  pub pushed-slots : SameSlots w w'
-  pushed-slots = record { same = λ j h k. g .low j (omega arith) }
+  pub marked-slots : SameSlots w w'
+  marked-slots = record { same = λ j h k. g .low j (omega arith) }
 
 -- by a slot
 pub altered-kept : {w w' : Words} {p : Place} {s : Slot} (n : ℕ) → InTable p → Altered w w' p s → Kept n w w'

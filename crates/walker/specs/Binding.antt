@@ -5,13 +5,13 @@ use lib.ListN.{length, getD, set}
 use Rattle.sheet.specs.Tables.{Words}
 use Rattle.sheet.specs.Held.{operandAt, endAt}
 use Rattle.walker.specs.declared.Regs.{Regs}
-use Rattle.walker.specs.Path.{bodyOf}
+use Rattle.walker.specs.Stands.{bodyOf}
 use Rattle.walker.specs.Steps.{Pushed}
 
--- the token that is due binds one of the locals, and there is room for its node
-pub record Local (w : Words) (r : Regs) : Type 0 where
-  pub near : r .due .head + 2 < 1024
-  pub local : operandAt w (r .due .head + 1) < 32
+-- token h binds one of the locals, and there is room for its node
+pub record Local (w : Words) (r : Regs) (h : ℕ) : Type 0 where
+  pub near : h + 2 < 1024
+  pub local : operandAt w (h + 1) < 32
   pub room : 6156 + 12 * r .depth ≤ length w
 
 -- token h is a bounded quantifier, and its second bound is in the table
@@ -27,16 +27,16 @@ pub record Saves (w : Words) (h slot had old : ℕ) : Type 0 where
   pub two : old ≡ getD w (slot + 1) 0
 
 -- the node is pushed with the local's slot saved in it
-pub record Keeps (w w' : Words) (r : Regs) (todo slot current last : ℕ) : Type 0 where
+pub record Keeps (w w' : Words) (r : Regs) (h todo slot current last : ℕ) : Type 0 where
   pub had : ℕ
   pub old : ℕ
-  pub saves : Saves w (r .due .head) slot had old
-  pub pushed : Pushed w w' r todo slot had old current last
+  pub saves : Saves w h slot had old
+  pub pushed : Pushed w w' r h todo slot had old current last
 
 -- the node is pushed, the local has the word `value`, and the formula's token is b
-pub record Takes (w w' : Words) (r : Regs) (todo value last b : ℕ) : Type 0 where
+pub record Takes (w w' : Words) (r : Regs) (h todo value last b : ℕ) : Type 0 where
   pub mid : Words
   pub slot : ℕ
-  pub keeps : Keeps w mid r todo slot value last
+  pub keeps : Keeps w mid r h todo slot value last
   pub words : w' ≡ set (set mid slot 1) (slot + 1) value
-  pub body : b ≡ bodyOf w (r .due .head)
+  pub body : b ≡ bodyOf w h

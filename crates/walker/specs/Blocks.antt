@@ -7,7 +7,7 @@ use Rattle.specification.specs.Run.{addAnswer, addError}
 use Rattle.listing.specs.declared.Head.{Head}
 use Rattle.listing.specs.declared.Head.the-variants.{Answer, Error}
 use Rattle.walker.specs.declared.Regs.{Regs}
-use Rattle.walker.specs.Steps.{leafRegs}
+use Rattle.walker.specs.Registers.{leafRegs}
 
 -- the tallies of leaves have room for one more
 abbrev pub HeadDue : Regs → Type 0
@@ -15,10 +15,10 @@ HeadDue r = r .tallies .answers + r .tallies .errors + r .tallies .fails < 42949
 
 -- job 3 an answer, else an error
 unfoldable pub headDue : Regs → Head
-headDue r = pick (eqb (r .due .job) 3) (Answer (suc (r .tallies .answers))) (Error (suc (r .tallies .errors)) (r .due .kind) (r .due .head))
+headDue r = pick (eqb (r .due .job) 16) (Answer (suc (r .tallies .answers))) (Error (suc (r .tallies .errors)) (r .due .rest) (r .due .head))
 
 unfoldable pub passedTallies : Regs → Tallies
-passedTallies r = pick (eqb (r .due .job) 3) (addAnswer (r .tallies)) (addError (r .tallies))
+passedTallies r = pick (eqb (r .due .job) 16) (addAnswer (r .tallies)) (addError (r .tallies))
 
 abbrev pub passedRegs : Regs → ℕ → Regs
 passedRegs r written = leafRegs r 2 (r .bad) (passedTallies r) written

@@ -2,9 +2,12 @@
 pub mod Walk
 pub mod Node
 pub mod Frame
+pub mod Stands
 pub mod Path
+pub mod Registers
 pub mod Sim
 pub mod Steps
 pub mod Binding
 pub mod Loop
+pub mod Walked
 pub mod Blocks

@@ -5,57 +5,23 @@ use mathlib.Core.Path.{_≡_}
 use mathlib.Core.Bool.{Bool, true, false}
 use mathlib.Core.List.{List, [], _∷_, _++_}
 use lib.ListN.{length, getD, drop}
-use lib.Dec.{T}
 use lib.IntN.{ℤ, pos, _+ℤ_}
 use Rattle.specification.specs.declared.Setting.{Setting}
 use Rattle.specification.specs.declared.Tallies.{Tallies}
 use Rattle.specification.specs.Bytes.{Bytes}
-use Rattle.specification.specs.Number.{in32}
 use Rattle.specification.specs.Lines.{Declared, cells}
-use Rattle.specification.specs.Ast.{Term, Formula, truth, and, or, imp, neg, eq, compare, ex, some, all}
+use Rattle.specification.specs.Ast.{and, or, all}
 use Rattle.specification.specs.Place.{Place, cell, local}
 use Rattle.specification.specs.Value.{Slot, empty, full, Valuation}
 use Rattle.specification.specs.Run.{Run}
-use Rattle.specification.proofs.Laws.Scope.{Scope, Ok, Valid}
+use Rattle.specification.proofs.Laws.Scope.{Valid}
 use Rattle.values.specs.Word.{biased, signed}
 use Rattle.sheet.specs.Tables.{Words}
-use Rattle.sheet.specs.Held.{codeAt, endAt, TermsAt, LocalAt, FormulaAt, Shallow, slotOf, Holds, ArraysAt}
+use Rattle.sheet.specs.Held.{codeAt, endAt, slotOf, Holds, ArraysAt}
 use Rattle.walker.specs.declared.Due.{Due}
+use Rattle.walker.specs.Stands.{Stands, Binds, LeftAfter}
 use Rattle.walker.specs.Node.{headAt, restAt, todoAt, slotAt, hadAt, oldAt, currentAt, lastAt, innerAt, badAt}
 use Rattle.walker.specs.Frame.{Item, form, again, What, the, success, failure, error, Question, denying, implying, Frame, pass, other, undo, range, asks, here, below, len, innerIn}
-
--- ---- formulas that the tables can hold
-
-pub record Good (D : Declared) (F : Formula) : Type 0 where
-  pub scope : Scope
-  pub locals : (l : ℕ) → T (scope l) → l < 32
-  pub ok : Ok D scope F
-  pub shallow : Shallow F
-
--- F stands from token i of the tables t on
-pub record Stands (D : Declared) (t : Words) (i : ℕ) (F : Formula) : Type 0 where
-  pub held : FormulaAt t i F
-  pub good : Good D F
-
--- the formula under a `some` or `all` whose token is h
-abbrev pub bodyOf : Words → ℕ → ℕ
-bodyOf t h = endAt t (endAt t (suc (suc h)))
-
--- token h is a quantifier over the local l, of F
-pub record Binds (D : Declared) (t : Words) (h l : ℕ) (F : Formula) : Type 0 where
-  pub near : suc (suc h) < 1024
-  pub middle : endAt t (suc (suc h)) < 1024
-  pub local : LocalAt t (suc h) l
-  pub small : l < 32
-  pub inside : bodyOf t h < 1024
-  pub body : Stands D t (bodyOf t h) F
-
--- n values are left after the word `current`, up to the word `last`, and v is the lowest
-pub record LeftAfter (current last n : ℕ) (v : ℤ) : Type 0 where
-  pub fits : last < 4294967296
-  pub order : current ≤ last
-  pub count : n ≡ last - current
-  pub lowest : v ≡ signed current +ℤ pos 1
 
 -- ---- what a run is about: the tables and the output at entry, the sheet's declarations, the setting, and the run's result
 
@@ -89,20 +55,24 @@ Pend c w n p (again l F m v ∷ is) =
     × LeftAfter (currentAt w k) (lastAt w k) m v
     × Pend c w k (restAt w k) is
 
--- the words of what is due (job 0 a formula, 1 the empty list, 2 an `all` that goes on, 3 a success leaf, 4 a failure leaf, 5 an error leaf)
+-- the words of what is due: job 0 the empty list, the code of a formula, 15 an `all` that goes on, 16 a success leaf, 17 a failure leaf, 18 an
+-- error leaf
 abbrev pub Job : World → Words → ℕ → Due → What → Type 0
-Job c w n d (the []) = d .job ≡ 1
+Job c w n d (the []) = d .job ≡ 0
 Job c w n d (the (form F ∷ is)) =
-    (d .job ≡ 0) × (d .head < 1024) × Stands (c .declared) (c .tables) (d .head) F × Pend c w n (d .rest) is
+    (d .job ≡ codeAt (c .tables) (d .head)) × (d .head < 1024) × Stands (c .declared) (c .tables) (d .head) F × Pend c w n (d .rest) is
 Job c w n d (the (again l F m v ∷ is)) =
-    (d .job ≡ 2)
-    × (codeAt (c .tables) (d .head) ≡ 14)
-    × Binds (c .declared) (c .tables) (d .head) l F
-    × LeftAfter (d .current) (d .last) m v
+    (d .job ≡ 15)
+    × (k : ℕ)
+    × (d .head ≡ suc k)
+    × (k < n)
+    × (codeAt (c .tables) (headAt w k) ≡ 14)
+    × Binds (c .declared) (c .tables) (headAt w k) l F
+    × LeftAfter (currentAt w k) (lastAt w k) m v
     × Pend c w n (d .rest) is
-Job c w n d success = d .job ≡ 3
-Job c w n d failure = d .job ≡ 4
-Job c w n d (error κ tok) = (d .job ≡ 5) × (d .kind ≡ κ) × (d .head ≡ tok)
+Job c w n d success = d .job ≡ 16
+Job c w n d failure = d .job ≡ 17
+Job c w n d (error κ tok) = (d .job ≡ 18) × (d .rest ≡ κ) × (d .head ≡ tok)
 
 -- ---- frames
 

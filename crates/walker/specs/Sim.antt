@@ -1,31 +1,23 @@
 -- The invariant of the walk: what is left to visit gives the run's result. And the contracts of the functions that keep it.
 -- Assumes nothing.
-use Prim.Native.Nat.{ℕ, suc, _+_, _*_, _-_, _≤_, _<_}
+use Prim.Native.Nat.{ℕ, suc, _+_, _-_, _<_}
 use mathlib.Core.Path.{_≡_}
-use mathlib.Core.Bool.{Bool, true, false}
-use mathlib.Core.List.{List, [], _∷_}
-use lib.ListN.{length, getD}
-use lib.Dec.{T, eqb}
-use lib.IntN.{ℤ, pos, _+ℤ_}
+use mathlib.Core.Bool.{Bool, false}
+use mathlib.Core.List.{List}
+use lib.ListN.{length}
+use lib.Dec.{eqb}
 use Rattle.specification.specs.declared.Tallies.{Tallies}
 use Rattle.specification.specs.Bytes.{Bytes, pick}
-use Rattle.specification.specs.Number.{in32}
-use Rattle.specification.specs.Place.{Place, put}
-use Rattle.specification.specs.Value.{empty, full, Valuation}
-use Rattle.specification.specs.Inner.{Tree, step}
+use Rattle.specification.specs.Value.{Valuation}
+use Rattle.specification.specs.Inner.{Tree}
 use Rattle.specification.specs.Visits.{Event, answer, error}
-use Rattle.specification.specs.Tree.{isElement}
 use Rattle.specification.specs.Run.{Run, going, stopped, spent, path, output}
-use Rattle.values.specs.Word.{biased}
 use Rattle.sheet.specs.Tables.{Words}
-use Rattle.sheet.specs.Held.{codeAt, slotOf}
 use Rattle.walker.specs.declared.Due.{Due}
 use Rattle.walker.specs.declared.Regs.{Regs}
 use Rattle.walker.specs.Walk as walks
-use Rattle.walker.specs.Node.{headAt, restAt, todoAt, slotAt, hadAt, oldAt, currentAt, lastAt, innerAt, badAt}
-use Rattle.walker.specs.Frame as frames
-use Rattle.walker.specs.Frame.{Item, What, the, treeItems, treeWhat, Frame, innerIn, resumeYes, resume}
-use Rattle.walker.specs.Path.{World, Pend, Job, bit, InTable, Path, Output, Count}
+use Rattle.walker.specs.Frame.{What, the, treeWhat, Frame, innerIn, resumeYes, resume}
+use Rattle.walker.specs.Path.{World, Job, bit, Path, Output, Count}
 
 -- ---- the states of a walk
 
@@ -100,8 +92,8 @@ pub record Yes (c : World) (o : Bytes) (w : Words) (r : Regs) : Type 0 where
 
 -- the event of a leaf with a block
 abbrev pub BlockOf : Due → Valuation → Event → Type 0
-BlockOf d α (answer β) = (d .job ≡ 3) × (β ≡ α)
-BlockOf d α (error κ tok β) = (d .job ≡ 5) × (d .kind ≡ κ) × (d .head ≡ tok) × (β ≡ α)
+BlockOf d α (answer β) = (d .job ≡ 16) × (β ≡ α)
+BlockOf d α (error κ tok β) = (d .job ≡ 18) × (d .rest ≡ κ) × (d .head ≡ tok) × (β ≡ α)
 BlockOf d α Event.node = ⊥
 BlockOf d α Event.fail = ⊥
 

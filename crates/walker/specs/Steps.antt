@@ -2,22 +2,19 @@
 -- after, in every world. Assumes nothing.
 use Prim.Native.Nat.{ℕ, suc, _+_, _*_, _-_, _≤_, _<_}
 use mathlib.Core.Path.{_≡_}
-use mathlib.Core.Bool.{Bool, true, false, _&&_}
-use mathlib.Core.Logic.{_⊎_}
-use mathlib.Core.List.{List, [], _∷_}
-use lib.ListN.{length, getD, replicate}
-use lib.Dec.{T, eqb}
+use mathlib.Core.Bool.{Bool}
+use mathlib.Core.List.{List, _∷_}
+use lib.ListN.{length, getD}
+use lib.Dec.{T}
 use lib.IntN.{ℤ, pos, _+ℤ_}
-use Rattle.specification.specs.declared.Tallies.{Tallies}
-use Rattle.specification.specs.Bytes.{Bytes, pick}
+use Rattle.specification.specs.Bytes.{Bytes}
 use Rattle.specification.specs.Number.{in32}
 use Rattle.specification.specs.Ast.{Rel, Formula}
 use Rattle.specification.specs.Arithmetic.{test}
 use Rattle.specification.specs.Place.{Place, local, put}
-use Rattle.specification.specs.Value.{Slot, empty, full, Valuation}
-use Rattle.specification.specs.Inner.{Tree, step, fan}
+use Rattle.specification.specs.Value.{empty, full}
+use Rattle.specification.specs.Inner.{step, fan}
 use Rattle.specification.specs.Tree.{check, assign}
-use Rattle.specification.specs.Run.{addNode, addAnswer, addError, addFail}
 use Rattle.values.specs.Word.{biased, signed}
 use Rattle.sheet.specs.Tables.{Words}
 use Rattle.sheet.specs.Held.{codeAt, slotOf}
@@ -25,41 +22,10 @@ use Rattle.sheet.specs.Codes.{relCode}
 use Rattle.walker.specs.declared.Due.{Due}
 use Rattle.walker.specs.declared.Regs.{Regs}
 use Rattle.walker.specs.Node.{headAt, restAt, todoAt, slotAt, hadAt, oldAt, currentAt, lastAt, innerAt, badAt}
-use Rattle.walker.specs.Frame as frames
-use Rattle.walker.specs.Frame.{Item, form, again, What, the, treeItems, treeWhat, Frame, innerIn}
-use Rattle.walker.specs.Path.{World, SameTokens, Pend, Job, bit, Saved, InTable, Binds, LeftAfter}
+use Rattle.walker.specs.Frame.{Item, form, again, What, the, treeItems, innerIn}
+use Rattle.walker.specs.Path.{World, SameTokens, Pend, Job, InTable}
+use Rattle.walker.specs.Stands.{Binds, LeftAfter}
 use Rattle.walker.specs.Sim.{tree, In, Sim}
-
--- ---- registers
-
-abbrev pub dueOf : ℕ → ℕ → ℕ → Due
-dueOf job head rest = record { job = job; head = head; rest = rest; kind = 0; current = 0; last = 0 }
-
-abbrev pub errorDue : ℕ → ℕ → Due
-errorDue kind head = record { job = 5; head = head; rest = 0; kind = kind; current = 0; last = 0 }
-
--- a visit is due
-abbrev pub dueRegs : Regs → ℕ → Due → ℕ → ℕ → Regs
-dueRegs r depth d inner bad =
-    record { mode = 1; depth = depth; due = d; inner = inner; bad = bad; end = r .end; tallies = r .tallies; written = r .written }
-
--- the topmost node is left
-abbrev pub popRegs : Regs → Regs
-popRegs r =
-    record { mode = r .mode; depth = r .depth - 1; due = r .due; inner = r .inner; bad = r .bad; end = r .end; tallies = r .tallies; written = r .written }
-
--- another mode, with the flag and the tallies that a leaf makes
-abbrev pub leafRegs : Regs → ℕ → ℕ → Tallies → ℕ → Regs
-leafRegs r mode bad t written =
-    record { mode = mode; depth = r .depth; due = r .due; inner = r .inner; bad = bad; end = r .end; tallies = t; written = written }
-
-abbrev pub stopRegs : Regs → ℕ → Regs
-stopRegs r end =
-    record { mode = 0; depth = r .depth; due = r .due; inner = r .inner; bad = r .bad; end = end; tallies = r .tallies; written = r .written }
-
--- one more of a kind: 0 a node, 1 an answer, 2 an error, 3 a failure
-unfoldable pub counted : Tallies → ℕ → Tallies
-counted t leaf = pick (eqb leaf 0) (addNode t) (pick (eqb leaf 1) (addAnswer t) (pick (eqb leaf 2) (addError t) (addFail t)))
 
 -- ---- the words of a node
 
@@ -67,11 +33,21 @@ counted t leaf = pick (eqb leaf 0) (addNode t) (pick (eqb leaf 1) (addAnswer t) 
 abbrev pub Upto : ℕ → Words → Words → Type 0
 Upto n w w' = (j : ℕ) → j < n → getD w' j 0 ≡ getD w j 0
 
-pub record Pushed (w w' : Words) (r : Regs) (todo slot had old current last : ℕ) : Type 0 where
-  pub low : Upto (6144 + 12 * r .depth) w w'
-  pub head : headAt w' (r .depth) ≡ r .due .head
-  pub rest : restAt w' (r .depth) ≡ r .due .rest
-  pub left : todoAt w' (r .depth) ≡ todo
+-- node d has `todo` left to do
+pub record Marked (w w' : Words) (d todo : ℕ) : Type 0 where
+  pub low : Upto (6144 + 12 * d) w w'
+  pub left : todoAt w' d ≡ todo
+  pub size : length w' ≡ length w
+
+-- and its token and list
+pub record Linked (w w' : Words) (d h p todo : ℕ) : Type 0 where
+  pub marked : Marked w w' d todo
+  pub head : headAt w' d ≡ h
+  pub rest : restAt w' d ≡ p
+
+-- and all its words
+pub record Pushed (w w' : Words) (r : Regs) (h todo slot had old current last : ℕ) : Type 0 where
+  pub linked : Linked w w' (r .depth) h (r .due .rest) todo
   pub place : slotAt w' (r .depth) ≡ slot
   pub saved : hadAt w' (r .depth) ≡ had
   pub value : oldAt w' (r .depth) ≡ old
@@ -79,7 +55,6 @@ pub record Pushed (w w' : Words) (r : Regs) (todo slot had old current last : �
   pub upper : lastAt w' (r .depth) ≡ last
   pub inner : innerAt w' (r .depth) ≡ r .inner
   pub bad : badAt w' (r .depth) ≡ r .bad
-  pub size : length w' ≡ length w
 
 -- pointer p leads to words that are there
 pub record Leads (w : Words) (p : ℕ) : Type 0 where
@@ -105,8 +80,8 @@ pub record Visited (w : Words) (r : Regs) : Type 0 where
 -- a formula whose token has the code n
 pub record Entered (w : Words) (r : Regs) (n : ℕ) : Type 0 where
   pub at : Visited w r
-  pub job : r .due .job ≡ 0
-  pub code : codeAt w (r .due .head) ≡ n
+  pub code : r .due .job ≡ n
+  pub formula : (1 ≤ n) × (n ≤ 14)
 
 -- what a function makes of it
 pub record Stepped (w w' : Words) (r r' : Regs) : Type 0 where
@@ -126,7 +101,7 @@ pub record OneLeaf (w : Words) (r : Regs) (d : Due) : Type 0 where
   pub at : Visited w r
   pub son :
       (c : World) (o : Bytes) (i : In c o w r) →
-      (x : What) × (tree c (i .fr) (i .x) (i .α) ≡ step (tree c (i .fr) x (i .α))) × Job c w (suc (r .depth)) d x × (3 ≤ d .job)
+      (x : What) × (tree c (i .fr) (i .x) (i .α) ≡ step (tree c (i .fr) x (i .α))) × Job c w (suc (r .depth)) d x × (16 ≤ d .job)
 
 -- the node's one son is what an `eq` makes of the value and the bare place whose slot begins with the word `slot`
 pub record Assigns (w : Words) (r : Regs) (slot value : ℕ) : Type 0 where
@@ -177,15 +152,15 @@ pub record Opens (w : Words) (r : Regs) (low high : ℕ) : Type 0 where
       × (signed low ≡ x)
       × Pend c w (r .depth) (r .due .rest) is
 
--- an `all` that takes the word `value`, and the values up to the word `last` later
-pub record Rounds (w : Words) (r : Regs) (value last : ℕ) : Type 0 where
+-- an `all` at token h that takes the word `value`, and the values up to the word `last` later
+pub record Rounds (w : Words) (r : Regs) (h value last : ℕ) : Type 0 where
   pub at : Visited w r
-  pub code : codeAt w (r .due .head) ≡ 14
+  pub code : codeAt w h ≡ 14
   pub son :
       (c : World) (o : Bytes) (i : In c o w r) →
       (l : ℕ) × (F : Formula) × (n : ℕ) × (v : ℤ) × (is : List Item)
       × (tree c (i .fr) (i .x) (i .α) ≡ step (treeItems (c .declared) (innerIn (i .fr)) (form F ∷ again l F n (v +ℤ pos 1) ∷ is) (put (i .α) (local l) (full v))))
-      × Binds (c .declared) (c .tables) (r .due .head) l F
+      × Binds (c .declared) (c .tables) h l F
       × LeftAfter value last n (v +ℤ pos 1)
       × (signed value ≡ v)
       × Pend c w (r .depth) (r .due .rest) is

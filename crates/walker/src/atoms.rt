@@ -1,6 +1,5 @@
 // Entering a node whose first formula is an atom.
-ghost use mathlib.Core.Path.{_≡_};
-ghost use Prim.Native.Nat.{ℕ, _+_, _*_, _≤_, _<_};
+ghost use Prim.Native.Nat.{_+_, _*_, _≤_, _<_};
 ghost use Rattle.walker.specs.Steps.{Entered, Stepped, Assigns, Sets, Tested, KindOf, Compares};
 use crate::Regs;
 use crate::nodes;
@@ -14,7 +13,7 @@ fn set(w: &mut [u32], r: Regs, slot: u32, value: u32) -> Regs
 {
     let i = slot as usize;
     let old = nodes::word(w, i + 1);
-    nodes::push(w, r, 2, slot, 0, old, 0, 0);
+    nodes::push(w, r, r.due.head, 2, slot, 0, old, 0, 0);
     nodes::put(w, i, 1);
     nodes::put(w, i + 1, value);
     let d = nodes::list_at(w, r.due.rest);

@@ -10,15 +10,13 @@ mod quantifiers;
 mod registers;
 mod rise;
 mod sons;
-// What is to be visited: job 0 the formula at token `head`, 1 the empty list, 2 an `all` that goes on after the value `current` up to
-// `last`, 3 a success leaf, 4 a failure leaf, 5 an error leaf with its kind, of token `head`. `rest` points to the rest of the list.
+// What is to be visited, by the job: 0 the empty list, 1 to 14 the formula at token `head`, whose code this is, 15 an `all` that goes on, begun
+// by the node before number `head`, 16 a success leaf, 17 a failure leaf, 18 an error leaf of token `head` with the kind `rest`. Else `rest`
+// points to the rest of the list.
 pub(crate) struct Due {
-    pub job: u32,
     pub head: u32,
+    pub job: u32,
     pub rest: u32,
-    pub kind: u32,
-    pub current: u32,
-    pub last: u32,
 }
 // The registers. Mode 0: over, 1: a visit is due, 2: a son is finished, 3: an inner tree has succeeded, 4: a block is due. `depth`: how many
 // nodes the path has; `inner`: whether the present tree is an inner one; `bad`: whether it has had an error leaf; `end`: how the walk ended

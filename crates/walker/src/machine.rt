@@ -1,8 +1,10 @@
 // The loop: a visit, a step up, or a block.
 ghost use mathlib.Core.Path.{_≡_};
 ghost use Prim.Native.Nat.{_<_};
+ghost use lib.ListN.{length};
 ghost use Rattle.walker.specs.Steps.{Visited, Stepped};
-ghost use Rattle.walker.specs.Loop.{AtLeaf, LeafDone, VisitDue, Arrived, BlockDue, Blocked, Live, Moved, Readied, startRegs, Finished, EndOf, Walked};
+ghost use Rattle.walker.specs.Loop.{AtLeaf, LeafDone, VisitDue, Arrived, BlockDue, Blocked, Goes, Went, IsUp, Climbs, Climbed, Runs, Settled, Live, Moved};
+ghost use Rattle.walker.specs.Walked.{Readied, startRegs, Finished, EndOf, Walked};
 ghost use Rattle.walker.specs.Blocks.{HeadDue, headDue, passedRegs};
 use crate::Regs;
 use crate::atoms;
@@ -19,31 +21,6 @@ use specification::Outcome;
 use specification::Setting;
 use specification::Tallies;
 
-// A node whose visit is counted, by the code of its first formula.
-fn enter(w: &mut [u32], r: Regs) -> Regs
-    requires { ⌜ (Visited (now w) r) × (r .due .job < 3) ⌝ }
-    ensures { λ q. ⌜ Stepped (now (w .entry)) (now (w .exit)) r q ⌝ }
-{
-    if r.due.job == 1 {
-        return connectives::enter_empty(w, r);
-    }
-    if r.due.job == 2 {
-        return quantifiers::enter_again(w, r);
-    }
-    let c = nodes::code(w, r.due.head);
-    match c {
-        1 => connectives::enter_true(w, r),
-        2 => connectives::enter_and(w, r),
-        3 => connectives::enter_or(w, r),
-        4 | 5 => inner::enter_inner(w, r),
-        6 => atoms::enter_eq(w, r),
-        12 => quantifiers::enter_ex(w, r),
-        13 => quantifiers::enter_some(w, r),
-        14 => quantifiers::enter_all(w, r),
-        _ => atoms::enter_compare(w, r, c),
-    }
-}
-
 // A leaf whose visit is counted. In an inner tree a success ends it and an error leaves its mark; in the main tree an answer or an error
 // has a block.
 fn at_leaf(r: Regs) -> Regs
@@ -52,19 +29,41 @@ fn at_leaf(r: Regs) -> Regs
 {
     let t = r.tallies;
     if r.inner == 1 {
-        if r.due.job == 3 {
+        if r.due.job == 16 {
             return registers::leaf(r, 3, r.bad, t, r.written);
         }
-        if r.due.job == 4 {
+        if r.due.job == 17 {
             return registers::leaf(r, 2, r.bad, t, r.written);
         }
         return registers::leaf(r, 2, 1, t, r.written);
     }
-    if r.due.job == 4 {
+    if r.due.job == 17 {
         let u = registers::counted(t, 3);
         return registers::leaf(r, 2, r.bad, u, r.written);
     }
     registers::leaf(r, 4, r.bad, t, r.written)
+}
+
+// What is visited, its visit counted, by the job.
+fn enter(w: &mut [u32], r: Regs) -> Regs
+    requires { ⌜ Visited (now w) r ⌝ }
+    ensures { λ q. ⌜ Stepped (now (w .entry)) (now (w .exit)) r q ⌝ }
+{
+    let job = r.due.job;
+    match job {
+        0 => connectives::enter_empty(w, r),
+        1 => connectives::enter_true(w, r),
+        2 => connectives::enter_and(w, r),
+        3 => connectives::enter_or(w, r),
+        4 | 5 => inner::enter_inner(w, r),
+        6 => atoms::enter_eq(w, r),
+        12 => quantifiers::enter_ex(w, r),
+        13 => quantifiers::enter_some(w, r),
+        14 => quantifiers::enter_all(w, r),
+        15 => quantifiers::enter_again(w, r),
+        16 | 17 | 18 => at_leaf(r),
+        _ => atoms::enter_compare(w, r, job),
+    }
 }
 
 // The visit that is due: the two limits, then the node is counted.
@@ -81,9 +80,6 @@ fn visit(w: &mut [u32], r: Regs, path: u32, budget: u32) -> Regs
     }
     let u = registers::counted(t, 0);
     let q = registers::leaf(r, 1, r.bad, u, r.written);
-    if 3 <= r.due.job {
-        return at_leaf(q);
-    }
     enter(w, q)
 }
 
@@ -93,14 +89,14 @@ fn head(r: Regs) -> Head
     ensures { λ h. ⌜ h ≡ headDue r ⌝ }
 {
     let t = r.tallies;
-    if r.due.job == 3 {
+    if r.due.job == 16 {
         return Head::Answer {
             number: t.answers + 1,
         };
     }
     Head::Error {
         number: t.errors + 1,
-        kind: r.due.kind,
+        kind: r.due.rest,
         token: r.due.head,
     }
 }
@@ -111,7 +107,7 @@ fn passed(r: Regs, written: usize) -> Regs
     ensures { λ q. ⌜ q ≡ passedRegs r written ⌝ }
 {
     let t = r.tallies;
-    if r.due.job == 3 {
+    if r.due.job == 16 {
         let u = registers::counted(t, 1);
         return registers::leaf(r, 2, r.bad, u, written);
     }
@@ -137,24 +133,67 @@ fn block(w: &[u32], out: &mut [u8], r: Regs, setting: Setting, scalars: u32, arr
     }
 }
 
+// Visits, one below the other, until a leaf is done or the walk is over.
+fn descend(w: &mut [u32], r: Regs, path: u32, budget: u32) -> Regs
+    requires { ⌜ Goes (now w) r path budget ⌝ }
+    ensures { λ q. ⌜ Went (now (w .entry)) (now (w .exit)) r q path budget ⌝ }
+{
+    let mut q = r;
+    while q.mode == 1 {
+        q = visit(w, q, path, budget);
+    }
+    q
+}
+
+// Whether a step up is due: a son is finished, or an inner tree has succeeded.
+fn is_up(mode: u32) -> bool
+    ensures { λ b. ⌜ IsUp mode b ⌝ }
+{
+    if mode == 2 {
+        return true;
+    }
+    mode == 3
+}
+
+// Steps up, until a visit is due or the walk is over.
+fn climb(w: &mut [u32], r: Regs) -> Regs
+    requires { ⌜ Climbs (now w) r ⌝ }
+    ensures { λ q. ⌜ Climbed (now (w .entry)) (now (w .exit)) r q ⌝ }
+{
+    let mut q = r;
+    while is_up(q.mode) {
+        q = rise::ascend(w, q);
+    }
+    q
+}
+
+// The block, if one is due.
+fn settle(w: &[u32], out: &mut [u8], r: Regs, setting: Setting, scalars: u32, arrays: u32) -> Regs
+    requires { ⌜ Runs (now w) (now out) r setting scalars arrays ⌝ }
+    ensures { λ q. ⌜ Settled (now (w .entry)) (now (out .entry)) (now (out .exit)) r q setting scalars arrays ⌝ }
+{
+    if r.mode == 4 {
+        return block(w, out, r, setting, scalars, arrays);
+    }
+    r
+}
+
+// Down to a leaf, its block, and up again.
 fn step(w: &mut [u32], out: &mut [u8], r: Regs, setting: Setting, scalars: u32, arrays: u32) -> Regs
     requires { ⌜ Live (now w) (now out) r setting scalars arrays ⌝ }
     ensures { λ q. ⌜ Moved (now (w .entry)) (now (w .exit)) (now (out .entry)) (now (out .exit)) r q setting scalars arrays ⌝ }
 {
-    if r.mode == 1 {
-        return visit(w, r, setting.path, setting.budget);
-    }
-    if r.mode == 4 {
-        return block(w, out, r, setting, scalars, arrays);
-    }
-    rise::ascend(w, r)
+    let d = descend(w, r, setting.path, setting.budget);
+    let s = settle(w, out, d, setting, scalars, arrays);
+    climb(w, s)
 }
 
 // The walk from the root, before its first visit.
-fn start() -> Regs
-    ensures { λ r. ⌜ r ≡ startRegs ⌝ }
+fn start(w: &[u32]) -> Regs
+    requires { ⌜ 0 < length (now w) ⌝ }
+    ensures { λ r. ⌜ r ≡ startRegs (now (w .entry)) ⌝ }
 {
-    let d = registers::plain_due(0, 0, 0);
+    let d = nodes::formula(w, 0, 0);
     let t = Tallies {
         nodes: 0,
         answers: 0,
@@ -177,7 +216,7 @@ fn walk(w: &mut [u32], out: &mut [u8], setting: Setting, scalars: u32, arrays: u
     requires { ⌜ Readied (now w) setting scalars arrays ⌝ }
     ensures { λ r. ⌜ Finished (now (w .entry)) (now (w .exit)) (now (out .entry)) (now (out .exit)) setting scalars arrays r ⌝ }
 {
-    let mut r = start();
+    let mut r = start(w);
     while r.mode != 0 {
         r = step(w, out, r, setting, scalars, arrays);
     }

@@ -2,7 +2,7 @@
 ghost use mathlib.Core.Path.{_≡_};
 ghost use Prim.Native.Nat.{_+_};
 ghost use Rattle.terms.specs.Results.{Asked, Valued};
-ghost use Rattle.walker.specs.Path.{bodyOf};
+ghost use Rattle.walker.specs.Stands.{bodyOf};
 ghost use Rattle.walker.specs.Binding.{Local, Middle, Keeps, Takes};
 ghost use Rattle.walker.specs.Steps.{Visited, Entered, Stepped, Opens, Rounds};
 use crate::Regs;
@@ -12,16 +12,16 @@ use crate::registers;
 use crate::sons;
 use terms::Sides;
 
-// Pushes the node with the slot of the local that its quantifier binds, and gives the slot's first word.
-fn keep(w: &mut [u32], r: Regs, todo: u32, current: u32, last: u32) -> usize
-    requires { ⌜ Local (now w) r ⌝ }
-    ensures { λ i. ⌜ Keeps (now (w .entry)) (now (w .exit)) r todo i current last ⌝ }
+// Pushes the node with the slot of the local that its quantifier, at token `head`, binds, and gives the slot's first word.
+fn keep(w: &mut [u32], r: Regs, head: u32, todo: u32, current: u32, last: u32) -> usize
+    requires { ⌜ Local (now w) r head ⌝ }
+    ensures { λ i. ⌜ Keeps (now (w .entry)) (now (w .exit)) r head todo i current last ⌝ }
 {
-    let slot = 5120 + 2 * nodes::operand(w, r.due.head + 1);
+    let slot = 5120 + 2 * nodes::operand(w, head + 1);
     let i = slot as usize;
     let had = nodes::word(w, i);
     let old = nodes::word(w, i + 1);
-    nodes::push(w, r, todo, slot, had, old, current, last);
+    nodes::push(w, r, head, todo, slot, had, old, current, last);
     i
 }
 
@@ -44,12 +44,12 @@ fn bounds(w: &mut [u32], h: u32) -> Sides
 }
 
 // Pushes the node of a bounded quantifier, gives its local the value, and tells the token of its formula.
-fn take(w: &mut [u32], r: Regs, todo: u32, value: u32, last: u32) -> u32
-    requires { ⌜ Local (now w) r × Middle (now w) (r .due .head) ⌝ }
-    ensures { λ b. ⌜ Takes (now (w .entry)) (now (w .exit)) r todo value last b ⌝ }
+fn take(w: &mut [u32], r: Regs, head: u32, todo: u32, value: u32, last: u32) -> u32
+    requires { ⌜ Local (now w) r head × Middle (now w) head ⌝ }
+    ensures { λ b. ⌜ Takes (now (w .entry)) (now (w .exit)) r head todo value last b ⌝ }
 {
-    let b = body(w, r.due.head);
-    let i = keep(w, r, todo, value, last);
+    let b = body(w, head);
+    let i = keep(w, r, head, todo, value, last);
     nodes::put(w, i, 1);
     nodes::put(w, i + 1, value);
     b
@@ -60,9 +60,9 @@ pub(crate) fn enter_ex(w: &mut [u32], r: Regs) -> Regs
     requires { ⌜ Entered (now w) r 12 ⌝ }
     ensures { λ q. ⌜ Stepped (now (w .entry)) (now (w .exit)) r q ⌝ }
 {
-    let i = keep(w, r, 2, 0, 0);
+    let i = keep(w, r, r.due.head, 2, 0, 0);
     nodes::put(w, i, 0);
-    let d = registers::plain_due(0, r.due.head + 2, r.due.rest);
+    let d = nodes::formula(w, r.due.head + 2, r.due.rest);
     registers::due(r, r.depth + 1, d, r.inner, r.bad)
 }
 
@@ -71,8 +71,8 @@ fn open(w: &mut [u32], r: Regs, low: u32, high: u32) -> Regs
     requires { ⌜ Opens (now w) r low high ⌝ }
     ensures { λ q. ⌜ Stepped (now (w .entry)) (now (w .exit)) r q ⌝ }
 {
-    let b = take(w, r, 3, low, high);
-    let d = registers::plain_due(0, b, r.due.rest);
+    let b = take(w, r, r.due.head, 3, low, high);
+    let d = nodes::formula(w, b, r.due.rest);
     registers::due(r, r.depth + 1, d, r.inner, r.bad)
 }
 
@@ -93,13 +93,14 @@ pub(crate) fn enter_some(w: &mut [u32], r: Regs) -> Regs
     open(w, r, s.left, s.right)
 }
 
-// `all` with the value `value`: its formula, then the same `all` over the values left, then the rest: this node is the list's next cell.
-fn round(w: &mut [u32], r: Regs, value: u32, last: u32) -> Regs
-    requires { ⌜ Rounds (now w) r value last ⌝ }
+// The `all` at token `head` with the value `value`: its formula, then the same `all` over the values left, then the rest: this node is the
+// list's next cell.
+fn round(w: &mut [u32], r: Regs, head: u32, value: u32, last: u32) -> Regs
+    requires { ⌜ Rounds (now w) r head value last ⌝ }
     ensures { λ q. ⌜ Stepped (now (w .entry)) (now (w .exit)) r q ⌝ }
 {
-    let b = take(w, r, 2, value, last);
-    let d = registers::plain_due(0, b, r.depth + 1);
+    let b = take(w, r, head, 2, value, last);
+    let d = nodes::formula(w, b, r.depth + 1);
     registers::due(r, r.depth + 1, d, r.inner, r.bad)
 }
 
@@ -117,18 +118,19 @@ pub(crate) fn enter_all(w: &mut [u32], r: Regs) -> Regs
     if s.right < s.left {
         return sons::go_on(w, r);
     }
-    round(w, r, s.left, s.right)
+    round(w, r, r.due.head, s.left, s.right)
 }
 
 // An `all` that comes first again: the next value, or no value left.
 pub(crate) fn enter_again(w: &mut [u32], r: Regs) -> Regs
-    requires { ⌜ (Visited (now w) r) × (r .due .job ≡ 2) ⌝ }
+    requires { ⌜ (Visited (now w) r) × (r .due .job ≡ 15) ⌝ }
     ensures { λ q. ⌜ Stepped (now (w .entry)) (now (w .exit)) r q ⌝ }
 {
-    let last = r.due.last;
-    let current = r.due.current;
+    let k = r.due.head - 1;
+    let current = nodes::current_of(w, k);
+    let last = nodes::last_of(w, k);
     if current == last {
         return sons::go_on(w, r);
     }
-    round(w, r, current + 1, last)
+    round(w, r, nodes::head_of(w, k), current + 1, last)
 }

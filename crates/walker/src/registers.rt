@@ -1,8 +1,7 @@
 // Functions that make registers. No struct of them is written anywhere else, so a new register costs these few edits.
 ghost use mathlib.Core.Path.{_≡_};
-ghost use Prim.Native.Nat.{ℕ, _+_, _-_, _<_};
-ghost use Rattle.specification.specs.Run.{addNode, addAnswer, addError, addFail};
-ghost use Rattle.walker.specs.Steps.{dueOf, errorDue, dueRegs, popRegs, leafRegs, stopRegs, counted};
+ghost use Prim.Native.Nat.{_+_, _-_, _<_};
+ghost use Rattle.walker.specs.Registers.{dueOf, errorDue, dueRegs, popRegs, leafRegs, stopRegs, counted};
 use crate::Due;
 use crate::Regs;
 use specification::Tallies;
@@ -10,14 +9,7 @@ use specification::Tallies;
 pub(crate) fn plain_due(job: u32, head: u32, rest: u32) -> Due
     ensures { λ d. ⌜ d ≡ dueOf job head rest ⌝ }
 {
-    Due {
-        job,
-        head,
-        rest,
-        kind: 0,
-        current: 0,
-        last: 0,
-    }
+    Due { head, job, rest }
 }
 
 // An error leaf.
@@ -25,12 +17,9 @@ pub(crate) fn error_due(kind: u32, head: u32) -> Due
     ensures { λ d. ⌜ d ≡ errorDue kind head ⌝ }
 {
     Due {
-        job: 5,
         head,
-        rest: 0,
-        kind,
-        current: 0,
-        last: 0,
+        job: 18,
+        rest: kind,
     }
 }
 

@@ -19,8 +19,11 @@ same-length c = search needs
 
 returns : tie.Need-returns
 returns c =
-    let a = c .before .before .before .before .before .before .before .before .before .args in
-    let enough = sym (c .before .before .before .before .before .enough .ensures) ∙ not-true _ (c .before .before .before .before .if1 .taken) in
+    let at-if1 = c .before .before .before .before in
+    let at-enough = at-if1 .before in
+    let start = at-enough .before .before .before .before in
+    let a = (start .args) in
+    let enough = sym (at-enough .enough .ensures) ∙ not-true _ (at-if1 .if1 .taken) in
     refused-answers (a .sheet .now) (a .setting) (a .work .now) _ (a .output .now) 1 0
     (first-refused (a .sheet .now) (a .setting) (length (a .work .now)) (length (a .output .now)) enough) (c .before .before .clear .ensures)
 
@@ -32,15 +35,21 @@ same-length-2 c = search needs
 
 returns-2 : tie.Need-returns-2
 returns-2 c =
-    let a = c .before .before .before .before .before .before .before .before .before .before .args in
-    let enough = sym (c .before .before .before .before .before .before .enough .ensures) ∙ not-false _ (c .before .before .before .before .before .if1 .left) in
+    let at-if2 = c .before .before .before .before in
+    let at-if1 = at-if2 .before in
+    let at-enough = at-if1 .before in
+    let start = at-enough .before .before .before .before in
+    let a = (start .args) in
+    let enough = sym (at-enough .enough .ensures) ∙ not-false _ (at-if1 .if1 .left) in
     refused-answers (a .sheet .now) (a .setting) (a .work .now) _ (a .output .now) 2 4096
     (second-refused (a .sheet .now) (a .setting) (length (a .work .now)) (length (a .output .now)) enough
-    (lt-leb (length (a .sheet .now)) 4096 (c .before .before .before .before .if2 .taken))) (c .before .before .clear2 .ensures)
+    (lt-leb (length (a .sheet .now)) 4096 (at-if2 .if2 .taken))) (c .before .before .clear2 .ensures)
 
 read-sheet-requires : tie.Need-read-sheet-requires
 read-sheet-requires c κs =
-    let (limit, size) = memory-of ((c .before .before .before .before .before .before .before .args .setting) .path) (length (c .before .before .before .before .before .before .before .args .work .now)) (sym (c .before .before .before .enough .ensures) ∙ not-false _ (c .before .before .if1 .left)) in
+    let at-enough = c .before .before .before in
+    let start = at-enough .before .before .before .before in
+    let (limit, size) = memory-of ((start .args .setting) .path) (length (start .args .work .now)) (sym (at-enough .enough .ensures) ∙ not-false _ (c .before .before .if1 .left)) in
     omega (arith, size)
 
 enum-known-number : tie.Need-enum-known-number
@@ -51,22 +60,32 @@ enum-known-scalars c = search needs
 
 walk-tables-requires : tie.Need-walk-tables-requires
 walk-tables-requires c κs =
-    let a = c .before .before .before .before .before .before .before .before .before .before .before .before .before .before .before .args in
-    let enough = sym (c .before .before .before .before .before .before .before .before .before .before .before .enough .ensures) ∙ not-false _ (c .before .before .before .before .before .before .before .before .before .before .if1 .left) in
-    let read = c .before .before .before .before .before .before .before .read-sheet .ensures in
+    let at-scalars = c .before .before .before in
+    let at-read-sheet = at-scalars .before .before .before .before in
+    let at-if1 = at-read-sheet .before .before .before in
+    let at-enough = at-if1 .before in
+    let start = at-enough .before .before .before .before in
+    let a = (start .args) in
+    let enough = sym (at-enough .enough .ensures) ∙ not-false _ (at-if1 .if1 .left) in
+    let read = (at-read-sheet .read-sheet .ensures) in
     let (limit, size) = memory-of (a .setting .path) (length (a .work .now)) enough in
-    readied (a .sheet .now) (a .setting) (length (a .work .now)) limit size _ _ _ (sym (c .before .before .before .scalars .given .1) ∙ read .0) (read .1)
+    readied (a .sheet .now) (a .setting) (length (a .work .now)) limit size _ _ _ (sym (at-scalars .scalars .given .1) ∙ read .0) (read .1)
 
 same-length-3 : tie.Need-same-length-3
 same-length-3 c = search needs
 
 returns-3 : tie.Need-returns-3
 returns-3 c =
-    let a = c .before .before .before .before .before .before .before .before .before .before .before .before .before .args in
-    let enough = sym (c .before .before .before .before .before .before .before .before .before .enough .ensures) ∙ not-false _ (c .before .before .before .before .before .before .before .before .if1 .left) in
-    let read = c .before .before .before .before .before .read-sheet .ensures in
+    let at-read-sheet = c .before .before .before .before .before in
+    let at-if2 = at-read-sheet .before .before in
+    let at-if1 = at-if2 .before in
+    let at-enough = at-if1 .before in
+    let start = at-enough .before .before .before .before in
+    let a = (start .args) in
+    let enough = sym (at-enough .enough .ensures) ∙ not-false _ (at-if1 .if1 .left) in
+    let read = (at-read-sheet .read-sheet .ensures) in
     unread-answers (a .sheet .now) (a .setting) (a .work .now) _ (a .output .now) enough
-    (le-leb (length (a .sheet .now)) 4096 (c .before .before .before .before .before .before .before .if2 .left)) _ _
+    (le-leb (length (a .sheet .now)) 4096 (at-if2 .if2 .left)) _ _
     (sym (c .before .number .given .1) ∙ read .0) (read .1)
 
 same-length-4 : tie.Need-same-length-4
@@ -77,12 +96,19 @@ same-length-5 c = search needs
 
 returns-4 : tie.Need-returns-4
 returns-4 c =
-    let a = c .before .before .before .before .before .before .before .before .before .before .before .before .before .before .before .before .before .before .before .before .args in
-    let enough = sym (c .before .before .before .before .before .before .before .before .before .before .before .before .before .before .before .before .enough .ensures) ∙ not-false _ (c .before .before .before .before .before .before .before .before .before .before .before .before .before .before .before .if1 .left) in
-    let read = c .before .before .before .before .before .before .before .before .before .before .before .before .read-sheet .ensures in
+    let at-walk-tables = c .before .before .before .before in
+    let at-scalars = at-walk-tables .before .before .before .before in
+    let at-read-sheet = at-scalars .before .before .before .before in
+    let at-if2 = at-read-sheet .before .before in
+    let at-if1 = at-if2 .before in
+    let at-enough = at-if1 .before in
+    let start = at-enough .before .before .before .before in
+    let a = (start .args) in
+    let enough = sym (at-enough .enough .ensures) ∙ not-false _ (at-if1 .if1 .left) in
+    let read = (at-read-sheet .read-sheet .ensures) in
     walk-answers (a .sheet .now) (a .setting) (a .work .now) _ (a .output .now) enough
-    (le-leb (length (a .sheet .now)) 4096 (c .before .before .before .before .before .before .before .before .before .before .before .before .before .before .if2 .left)) _ _ _ _ _
-    (sym (c .before .before .before .before .before .before .before .before .scalars .given .1) ∙ read .0) (read .1) (c .before .before .before .before .walk-tables .ensures)
+    (le-leb (length (a .sheet .now)) 4096 (at-if2 .if2 .left)) _ _ _ _ _
+    (sym (at-scalars .scalars .given .1) ∙ read .0) (read .1) (at-walk-tables .walk-tables .ensures)
 
 pub run-spec : {M : Type 1} → statement M
 run-spec =

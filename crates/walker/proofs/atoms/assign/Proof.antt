@@ -4,14 +4,11 @@ use Rattle.walker.proofs.Assigned.{sets-main, sets-scalar, sets-local, 
 use borrow.Author.Needs.{needs}
 use Rattle.walker.proofs.atoms.assign.Statement.{statement}
 use Rattle.walker.proofs.atoms.assign.Tie as tie
-use Rattle.walker.proofs.atoms.assign.Reads as reads
-use Rattle.walker.proofs.atoms.assign.Lts as lts
-use Rattle.walker.proofs.atoms.set.Reads as set-reads
-use Rattle.walker.proofs.nodes.word.Reads as word-reads
-use Rattle.walker.proofs.sons.err.Reads as err-reads
 
 set-requires : tie.Need-set-requires
-set-requires c κs = sets-main (c .before .before .before .before .pre) (c .before .if1 .taken)
+set-requires c κs =
+    let start = c .before .before .before .before in
+    sets-main (start .pre) (c .before .if1 .taken)
 
 same-length : tie.Need-same-length
 same-length c = search needs
@@ -23,13 +20,20 @@ word-requires : tie.Need-word-requires
 word-requires c κs = search needs
 
 mul-first : tie.Need-mul-first
-mul-first c = omega (arith, assigns-few (c .before .before .before .before .before .pre), (c .word .ensures))
+mul-first c =
+    let start = c .before .before .before .before .before in
+    omega (arith, assigns-few (start .pre), (c .word .ensures))
 
 add-first : tie.Need-add-first
-add-first c = omega (arith, assigns-few (c .before .before .before .before .before .pre), (c .word .ensures))
+add-first c =
+    let start = c .before .before .before .before .before in
+    omega (arith, assigns-few (start .pre), (c .word .ensures))
 
 set-requires-2 : tie.Need-set-requires-2
-set-requires-2 c κs = sets-scalar (c .before .before .before .before .before .before .before .pre) (omega (arith, (c .before .if2 .taken), (c .before .before .word .ensures)))
+set-requires-2 c κs =
+    let at-struct-known = c .before .before .before .before .before in
+    let start = at-struct-known .before .before in
+    sets-scalar (start .pre) (omega (arith, (c .before .if2 .taken), (c .before .before .word .ensures)))
 
 same-length-2 : tie.Need-same-length-2
 same-length-2 c = search needs
@@ -38,7 +42,10 @@ returns-2 : tie.Need-returns-2
 returns-2 c = search needs
 
 set-requires-3 : tie.Need-set-requires-3
-set-requires-3 c κs = sets-local (c .before .before .before .before .before .before .before .before .pre) (c .before .if3 .taken)
+set-requires-3 c κs =
+    let at-if1 = c .before .before .before .before .before in
+    let start = at-if1 .before .before .before in
+    sets-local (start .pre) (c .before .if3 .taken)
 
 same-length-3 : tie.Need-same-length-3
 same-length-3 c = search needs
@@ -47,7 +54,11 @@ returns-3 : tie.Need-returns-3
 returns-3 c = search needs
 
 err-requires : tie.Need-err-requires
-err-requires c κs = element-error (c .before .before .before .before .before .before .before .before .pre) (c .before .before .before .before .before .if1 .left) (omega (arith, (c .before .before .if2 .left), (c .before .before .before .word .ensures))) (omega (arith, (c .before .if3 .left)))
+err-requires c κs =
+    let at-word = c .before .before .before in
+    let at-if1 = at-word .before .before in
+    let start = at-if1 .before .before .before in
+    element-error (start .pre) (at-if1 .if1 .left) (omega (arith, (c .before .before .if2 .left), (at-word .word .ensures))) (omega (arith, (c .before .if3 .left)))
 
 same-length-4 : tie.Need-same-length-4
 same-length-4 c = search needs

@@ -3,10 +3,6 @@ use Rattle.walker.proofs.Assigned.{test-true, test-false}
 use borrow.Author.Needs.{needs}
 use Rattle.walker.proofs.atoms.check.Statement.{statement}
 use Rattle.walker.proofs.atoms.check.Tie as tie
-use Rattle.walker.proofs.atoms.check.Reads as reads
-use Rattle.walker.proofs.atoms.check.Lts as lts
-use Rattle.walker.proofs.sons.fail.Reads as fail-reads
-use Rattle.walker.proofs.sons.go_on.Reads as go-on-reads
 
 go-on-requires : tie.Need-go-on-requires
 go-on-requires c κs = test-true (c .before .before .before .pre) (c .before .if1 .taken)

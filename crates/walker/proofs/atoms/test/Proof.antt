@@ -2,8 +2,6 @@
 use Rattle.walker.proofs.Atomic.{compares-ne, compares-lt, compares-le, compares-gt, compares-ge}
 use Rattle.walker.proofs.atoms.test.Statement.{statement}
 use Rattle.walker.proofs.atoms.test.Tie as tie
-use Rattle.walker.proofs.atoms.test.Reads as reads
-use Rattle.walker.proofs.atoms.test.Lts as lts
 
 returns : tie.Need-returns
 returns c = rw (c .match .keys1) (compares-ne (c .before .args .x) (c .before .args .y))

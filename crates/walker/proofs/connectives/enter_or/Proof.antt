@@ -3,26 +3,30 @@ use borrow.Author.Needs.{needs}
 use native.Mathlib.Omega.{arith}
 use Rattle.walker.proofs.Heads.{shallow}
 use Rattle.walker.proofs.Onto.{stepped}
-use Rattle.walker.proofs.Simple.{head-small, or-down}
+use Rattle.walker.proofs.Simple.{head-small, or-down, or-near}
 use Rattle.walker.proofs.connectives.enter_or.Statement.{statement}
 use Rattle.walker.proofs.connectives.enter_or.Tie as tie
 
-push-requires : tie.Need-push-requires
-push-requires c κs = search needs
+link-requires : tie.Need-link-requires
+link-requires c κs = search needs
 
-add-plain-due : tie.Need-add-plain-due
-add-plain-due c =
-    let p = c .before .before .before in
-    omega (arith, head-small (p .before .before .before .pre))
+add-formula : tie.Need-add-formula
+add-formula c =
+    let at-link-arg = c .before .before .before .before .before in
+    let start = at-link-arg .before .before in
+    omega (arith, head-small (start .pre))
 
-plain-due-requires : tie.Need-plain-due-requires
-plain-due-requires c κs = search needs
+formula-requires : tie.Need-formula-requires
+formula-requires c κs =
+    let at-link = c .before .before .before .before in
+    let start = at-link .before .before .before in
+    omega (arith, or-near (start .pre), (at-link .link .ensures .marked .size), (start .pre .at .ins .path .size))
 
 add-due : tie.Need-add-due
 add-due c =
-    let k = c .before .before .before in
-    let p = k .before .before in
-    omega (arith, shallow (p .before .before .before .pre .at .ins))
+    let at-w = c .before .before .before .before .before in
+    let start = at-w .before .before .before .before in
+    omega (arith, shallow (start .pre .at .ins))
 
 due-requires : tie.Need-due-requires
 due-requires c κs = search needs
@@ -32,18 +36,12 @@ same-length c = search needs
 
 returns : tie.Need-returns
 returns c =
-    let d = c .before .before in
-    let p = d .before .before .before .before in
-    stepped (c .due .ensures) (or-down (p .before .before .before .pre) (p .push .ensures) (d .plain-due .ensures))
+    let at-slice-known2 = c .before .before .before .before .before in
+    let at-link = at-slice-known2 .before .before in
+    let start = at-link .before .before .before in
+    stepped (c .due .ensures) (or-down (start .pre) (at-link .link .ensures) (c .before .before .formula .ensures))
 
 pub enter-or-spec : {M : Type 1} → statement M
 enter-or-spec =
     tie.close
-    (tie.spec
-    push-requires
-    add-plain-due
-    plain-due-requires
-    add-due
-    due-requires
-    same-length
-    returns)
+    (tie.spec link-requires add-formula formula-requires add-due due-requires same-length returns)

@@ -1,161 +1,142 @@
--- `machine::enter` meets its contract, by the job and the code.
+-- `machine::enter` meets its contract, by the job.
 use borrow.Author.Needs.{needs}
+use native.Mathlib.Omega.{arith}
 use mathlib.Core.Logic.{⊎-elim, inl, inr}
-use Rattle.walker.proofs.Enters.{empty-leaf, token-inside, entered, entered-inner, entered-compare}
+use Rattle.walker.proofs.Enters.{empty-leaf, entered, entered-inner, leaf-due, leaf-stepped, entered-compare}
 use Rattle.walker.proofs.machine.enter.Statement.{statement}
 use Rattle.walker.proofs.machine.enter.Tie as tie
 
 enter-empty-requires : tie.Need-enter-empty-requires
 enter-empty-requires c κs =
-    let start = c .before .before .before .before in
-    empty-leaf (start .pre .0) (c .before .if1 .taken)
+    let start = c .before .before .before in
+    empty-leaf (start .pre) (c .before .match .keys1)
+
+enter-true-requires : tie.Need-enter-true-requires
+enter-true-requires c κs =
+    let start = c .before .before .before in
+    entered 1 (start .pre) (c .before .match .keys2) (omega arith) (omega arith)
+
+enter-and-requires : tie.Need-enter-and-requires
+enter-and-requires c κs =
+    let start = c .before .before .before in
+    entered 2 (start .pre) (c .before .match .keys3) (omega arith) (omega arith)
+
+enter-or-requires : tie.Need-enter-or-requires
+enter-or-requires c κs =
+    let start = c .before .before .before in
+    entered 3 (start .pre) (c .before .match .keys4) (omega arith) (omega arith)
+
+enter-eq-requires : tie.Need-enter-eq-requires
+enter-eq-requires c κs =
+    let start = c .before .before .before in
+    entered 6 (start .pre) (c .before .match .keys5) (omega arith) (omega arith)
+
+enter-ex-requires : tie.Need-enter-ex-requires
+enter-ex-requires c κs =
+    let start = c .before .before .before in
+    entered 12 (start .pre) (c .before .match .keys6) (omega arith) (omega arith)
+
+enter-some-requires : tie.Need-enter-some-requires
+enter-some-requires c κs =
+    let start = c .before .before .before in
+    entered 13 (start .pre) (c .before .match .keys7) (omega arith) (omega arith)
+
+enter-all-requires : tie.Need-enter-all-requires
+enter-all-requires c κs =
+    let start = c .before .before .before in
+    entered 14 (start .pre) (c .before .match .keys8) (omega arith) (omega arith)
+
+enter-again-requires : tie.Need-enter-again-requires
+enter-again-requires c κs =
+    let start = c .before .before .before in
+    ((start .pre), (c .before .match .keys9))
+
+enter-inner-requires : tie.Need-enter-inner-requires
+enter-inner-requires c κs =
+    let at-match = c .before .before in
+    let start = at-match .before .before in
+    entered-inner (start .pre) (at-match .match .rest .0 .0 .0 .0 .0 .0 .0 .0 .1) (at-match .match .rest .0 .0 .0 .0 .0 .0 .0 .1) (at-match .match .rest .0 .0 .0 .0 .0 .0 .1) (at-match .match .rest .0 .0 .0 .0 .0 .1) (c .before .if1 .taken)
+
+at-leaf-requires : tie.Need-at-leaf-requires
+at-leaf-requires c κs =
+    let at-match = c .before .before .before in
+    let start = at-match .before .before in
+    leaf-due (start .pre) (at-match .match .rest .0 .0 .0 .1) (at-match .match .rest .0 .0 .1) (at-match .match .rest .0 .1) (at-match .match .rest .1) (c .before .if2 .left)
+
+enter-compare-requires : tie.Need-enter-compare-requires
+enter-compare-requires c κs =
+    let at-match = c .before .before .before in
+    let start = at-match .before .before in
+    entered-compare (start .pre) (at-match .match .rest .0 .0 .0 .0 .1) (c .before .before .if1 .left) (⊎-elim (λ h. inl (h .taken)) (λ h. inr (h .1 .left)) (c .before .if2 .came))
 
 same-length : tie.Need-same-length
 same-length c = search needs
 
 returns : tie.Need-returns
-returns c = c .before .before .enter-empty .ensures
-
-enter-again-requires : tie.Need-enter-again-requires
-enter-again-requires c κs =
-    let at-slice-known = c .before .before .before .before .before in
-    let start = at-slice-known .before in
-    ((start .pre .0), (c .before .if2 .taken))
+returns c = (c .before .before .enter-empty .ensures)
 
 same-length-2 : tie.Need-same-length-2
 same-length-2 c = search needs
 
 returns-2 : tie.Need-returns-2
-returns-2 c = c .before .before .enter-again .ensures
-
-code-requires : tie.Need-code-requires
-code-requires c κs =
-    let at-if1 = c .before .before .before in
-    let start = at-if1 .before .before .before in
-    token-inside (start .pre) (at-if1 .if1 .left) (c .before .if2 .left)
-
-enter-true-requires : tie.Need-enter-true-requires
-enter-true-requires c κs =
-    let at-if2 = c .before .before .before .before in
-    let at-if1 = at-if2 .before .before in
-    let start = at-if1 .before .before .before in
-    entered (start .pre) (at-if1 .if1 .left) (at-if2 .if2 .left) 1 (c .before .before .code .ensures) (c .before .match .keys1)
-
-enter-and-requires : tie.Need-enter-and-requires
-enter-and-requires c κs =
-    let at-if2 = c .before .before .before .before in
-    let at-if1 = at-if2 .before .before in
-    let start = at-if1 .before .before .before in
-    entered (start .pre) (at-if1 .if1 .left) (at-if2 .if2 .left) 2 (c .before .before .code .ensures) (c .before .match .keys2)
-
-enter-or-requires : tie.Need-enter-or-requires
-enter-or-requires c κs =
-    let at-if2 = c .before .before .before .before in
-    let at-if1 = at-if2 .before .before in
-    let start = at-if1 .before .before .before in
-    entered (start .pre) (at-if1 .if1 .left) (at-if2 .if2 .left) 3 (c .before .before .code .ensures) (c .before .match .keys3)
-
-enter-eq-requires : tie.Need-enter-eq-requires
-enter-eq-requires c κs =
-    let at-if2 = c .before .before .before .before in
-    let at-if1 = at-if2 .before .before in
-    let start = at-if1 .before .before .before in
-    entered (start .pre) (at-if1 .if1 .left) (at-if2 .if2 .left) 6 (c .before .before .code .ensures) (c .before .match .keys4)
-
-enter-ex-requires : tie.Need-enter-ex-requires
-enter-ex-requires c κs =
-    let at-if2 = c .before .before .before .before in
-    let at-if1 = at-if2 .before .before in
-    let start = at-if1 .before .before .before in
-    entered (start .pre) (at-if1 .if1 .left) (at-if2 .if2 .left) 12 (c .before .before .code .ensures) (c .before .match .keys5)
-
-enter-some-requires : tie.Need-enter-some-requires
-enter-some-requires c κs =
-    let at-if2 = c .before .before .before .before in
-    let at-if1 = at-if2 .before .before in
-    let start = at-if1 .before .before .before in
-    entered (start .pre) (at-if1 .if1 .left) (at-if2 .if2 .left) 13 (c .before .before .code .ensures) (c .before .match .keys6)
-
-enter-all-requires : tie.Need-enter-all-requires
-enter-all-requires c κs =
-    let at-if2 = c .before .before .before .before in
-    let at-if1 = at-if2 .before .before in
-    let start = at-if1 .before .before .before in
-    entered (start .pre) (at-if1 .if1 .left) (at-if2 .if2 .left) 14 (c .before .before .code .ensures) (c .before .match .keys7)
-
-enter-inner-requires : tie.Need-enter-inner-requires
-enter-inner-requires c κs =
-    let at-match = c .before .before .before in
-    let at-code = at-match .before in
-    let at-if2 = at-code .before .before in
-    let at-if1 = at-if2 .before .before in
-    let start = at-if1 .before .before .before in
-    let n = (at-match .match .rest) in
-    entered-inner (start .pre) (at-if1 .if1 .left) (at-if2 .if2 .left) (at-code .code .ensures) (c .before .before .if3 .left) (c .before .if4 .taken) (n .0 .0 .0 .0 .0 .0 .1) (n .0 .0 .0 .0 .0 .1) (n .0 .0 .0 .0 .1)
-
-enter-compare-requires : tie.Need-enter-compare-requires
-enter-compare-requires c κs =
-    let at-code = c .before .before .before in
-    let at-if2 = at-code .before .before in
-    let at-if1 = at-if2 .before .before in
-    let start = at-if1 .before .before .before in
-    let n = (c .before .before .match .rest) in
-    entered-compare (start .pre) (at-if1 .if1 .left) (at-if2 .if2 .left) (at-code .code .ensures) (n .0 .0 .0 .1) (n .0 .0 .1) (n .0 .1) (n .1)
-    (⊎-elim (λ h. inl (h .taken)) (λ h. inr (h .1 .left)) (c .before .if3 .came))
+returns-2 c = (c .before .before .enter-true .ensures)
 
 same-length-3 : tie.Need-same-length-3
 same-length-3 c = search needs
 
 returns-3 : tie.Need-returns-3
-returns-3 c = c .before .before .enter-true .ensures
+returns-3 c = (c .before .before .enter-and .ensures)
 
 same-length-4 : tie.Need-same-length-4
 same-length-4 c = search needs
 
 returns-4 : tie.Need-returns-4
-returns-4 c = c .before .before .enter-and .ensures
+returns-4 c = (c .before .before .enter-or .ensures)
 
 same-length-5 : tie.Need-same-length-5
 same-length-5 c = search needs
 
 returns-5 : tie.Need-returns-5
-returns-5 c = c .before .before .enter-or .ensures
+returns-5 c = (c .before .before .enter-eq .ensures)
 
 same-length-6 : tie.Need-same-length-6
 same-length-6 c = search needs
 
 returns-6 : tie.Need-returns-6
-returns-6 c = c .before .before .enter-eq .ensures
+returns-6 c = (c .before .before .enter-ex .ensures)
 
 same-length-7 : tie.Need-same-length-7
 same-length-7 c = search needs
 
 returns-7 : tie.Need-returns-7
-returns-7 c = c .before .before .enter-ex .ensures
+returns-7 c = (c .before .before .enter-some .ensures)
 
 same-length-8 : tie.Need-same-length-8
 same-length-8 c = search needs
 
 returns-8 : tie.Need-returns-8
-returns-8 c = c .before .before .enter-some .ensures
+returns-8 c = (c .before .before .enter-all .ensures)
 
 same-length-9 : tie.Need-same-length-9
 same-length-9 c = search needs
 
 returns-9 : tie.Need-returns-9
-returns-9 c = c .before .before .enter-all .ensures
+returns-9 c = (c .before .before .enter-again .ensures)
 
 same-length-10 : tie.Need-same-length-10
 same-length-10 c = search needs
 
 returns-10 : tie.Need-returns-10
-returns-10 c = c .before .before .enter-inner .ensures
+returns-10 c = (c .before .before .enter-inner .ensures)
+
+returns-11 : tie.Need-returns-11
+returns-11 c = leaf-stepped (c .at-leaf .ensures)
 
 same-length-11 : tie.Need-same-length-11
 same-length-11 c = search needs
 
-returns-11 : tie.Need-returns-11
-returns-11 c = c .before .before .enter-compare .ensures
+returns-12 : tie.Need-returns-12
+returns-12 c = (c .before .before .enter-compare .ensures)
 
 pub enter-spec : {M : Type 1} → statement M
-enter-spec = tie.close (tie.spec enter-empty-requires same-length returns enter-again-requires same-length-2 returns-2 code-requires enter-true-requires enter-and-requires enter-or-requires enter-eq-requires enter-ex-requires enter-some-requires enter-all-requires enter-inner-requires enter-compare-requires same-length-3 returns-3 same-length-4 returns-4 same-length-5 returns-5 same-length-6 returns-6 same-length-7 returns-7 same-length-8 returns-8 same-length-9 returns-9 same-length-10 returns-10 same-length-11 returns-11)
+enter-spec = tie.close (tie.spec enter-empty-requires enter-true-requires enter-and-requires enter-or-requires enter-eq-requires enter-ex-requires enter-some-requires enter-all-requires enter-again-requires enter-inner-requires at-leaf-requires enter-compare-requires same-length returns same-length-2 returns-2 same-length-3 returns-3 same-length-4 returns-4 same-length-5 returns-5 same-length-6 returns-6 same-length-7 returns-7 same-length-8 returns-8 same-length-9 returns-9 same-length-10 returns-10 returns-11 same-length-11 returns-12)

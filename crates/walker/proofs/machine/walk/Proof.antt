@@ -6,8 +6,9 @@ use denote.Ref.{now}
 use lib.ListN.{length}
 use Rattle.specification.specs.Sheet.{Sheet}
 use Rattle.walker.specs.Sim.{Sim, down}
-use Rattle.walker.specs.Loop.{measure, Ready}
-use Rattle.walker.proofs.Moves.{worldOf, world-fixed, start-down, finished}
+use Rattle.walker.specs.Loop.{measure}
+use Rattle.walker.specs.Walked.{Ready}
+use Rattle.walker.proofs.Started.{worldOf, world-fixed, start-down, finished}
 use Rattle.walker.proofs.machine.walk.Statement.{statement}
 use Rattle.walker.proofs.machine.walk.Tie as tie
 
@@ -23,20 +24,27 @@ start-requires c κs = search needs
 
 loop-holds : tie.Need-loop-holds Inv-loop μ-loop
 loop-holds c =
-    let start = c .before .before .before in
+    let start = c .before .before .before .before in
     (refl, refl, λ s a. rw (c .start .ensures) (down refl (start-down s a (omega (arith, (start .good .1 .1 .0))))))
 
 step-requires : tie.Need-step-requires Inv-loop μ-loop
 step-requires c κs =
     let at-loop = c .before .before .before .before in
-    let start = at-loop .before .before .before .before in
+    let start = at-loop .before .before .before .before .before in
     let a = (start .pre) in
-    record { c = worldOf (now (start .args .w)) (now (start .args .out)) (start .args .setting) (a .sheet); fixed = world-fixed (a .sheet) (a .ready); on = (c .before .before .if1 .taken); sim = (at-loop .loop .inv) .2 (a .sheet) (a .ready) }
+    record {
+      runs = record {
+        c = worldOf (now (start .args .w)) (now (start .args .out)) (start .args .setting) (a .sheet);
+        fixed = world-fixed (a .sheet) (a .ready);
+        sim = (at-loop .loop .inv .2) (a .sheet) (a .ready);
+      };
+      on = (c .before .before .if1 .taken);
+    }
 
 loop-less : tie.Need-loop-less Inv-loop μ-loop
 loop-less c =
     let at-step = c .before .before .before .before in
-    at-step .step .ensures .falls
+    (at-step .step .ensures .falls)
 
 loop-again : tie.Need-loop-again Inv-loop μ-loop
 loop-again c =
@@ -47,13 +55,15 @@ loop-again c =
     ((at-step .step .kept .0) ∙ v .0, s .size ∙ v .1, λ x a. s .sim _ (world-fixed x a) (v .2 x a))
 
 same-length : tie.Need-same-length Inv-loop μ-loop
-same-length c = c .before .before .loop .inv .0
+same-length c = (c .before .before .loop .inv .0)
 
 same-length-2 : tie.Need-same-length-2 Inv-loop μ-loop
-same-length-2 c = c .before .before .loop .inv .1
+same-length-2 c = (c .before .before .loop .inv .1)
 
 returns : tie.Need-returns Inv-loop μ-loop
-returns c = finished (c .if1 .left) (c .before .before .loop .inv .0) (c .before .before .loop .inv .1) (c .before .before .loop .inv .2)
+returns c =
+    let at-loop = c .before .before in
+    finished (c .if1 .left) (at-loop .loop .inv .0) (at-loop .loop .inv .1) (at-loop .loop .inv .2)
 
 pub walk-spec : {M : Type 1} → statement M
 walk-spec = tie.close (tie.spec Inv-loop μ-loop start-requires loop-holds step-requires loop-less loop-again same-length same-length-2 returns)

@@ -1,6 +1,6 @@
 -- `machine::walk_tables` meets its contract.
 use borrow.Author.Needs.{needs}
-use Rattle.walker.proofs.Moves.{walked}
+use Rattle.walker.proofs.Started.{walked}
 use Rattle.walker.proofs.machine.walk_tables.Statement.{statement}
 use Rattle.walker.proofs.machine.walk_tables.Tie as tie
 

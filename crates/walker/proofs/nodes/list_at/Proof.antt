@@ -2,7 +2,7 @@
 use borrow.Author.Needs.{needs}
 use native.Mathlib.Omega.{arith}
 use mathlib.Core.Path.{sym, _∙_}
-use Rattle.walker.proofs.Listed.{leads, listed-none, listed-form, listed-again}
+use Rattle.walker.proofs.Listed.{leads, listed-none, listed-form, listed-again, second-small}
 use Rattle.walker.proofs.nodes.list_at.Statement.{statement}
 use Rattle.walker.proofs.nodes.list_at.Tie as tie
 
@@ -19,66 +19,60 @@ head-of-requires : tie.Need-head-of-requires
 head-of-requires c κs = leads (c .before .before .pre) (c .if1 .left) .words
 
 rest-of-requires : tie.Need-rest-of-requires
-rest-of-requires c κs = leads (c .before .before .before .pre) (c .before .if1 .left) .words
+rest-of-requires c κs =
+    let start = c .before .before .before in
+    leads (start .pre) (c .before .if1 .left) .words
 
 code-requires : tie.Need-code-requires
 code-requires c κs =
-    let h = c .before in
-    let x = leads (h .before .before .before .pre) (h .before .if1 .left) in
-    omega (arith, x .words, x .small, h .head-of .ensures)
+    let start = c .before .before .before .before in
+    let x = leads (start .pre) (c .before .before .if1 .left) in
+    omega (arith, x .words, x .small, (c .before .head-of .ensures))
 
 add-end : tie.Need-add-end
 add-end c =
-    let h = c .before .before .before in
-    let x = leads (h .before .before .before .pre) (h .before .if1 .left) in
-    omega (arith, x .small, h .head-of .ensures)
+    let at-head-of = c .before .before .before in
+    let at-if1 = at-head-of .before in
+    let start = at-if1 .before .before in
+    let x = leads (start .pre) (at-if1 .if1 .left) in
+    omega (arith, x .small, (at-head-of .head-of .ensures))
 
 end-requires : tie.Need-end-requires
 end-requires c κs =
-    let h = c .before .before .before in
-    let x = leads (h .before .before .before .pre) (h .before .if1 .left) in
-    omega (arith, x .words, x .small, h .head-of .ensures)
+    let at-head-of = c .before .before .before in
+    let at-if1 = at-head-of .before in
+    let start = at-if1 .before .before in
+    let x = leads (start .pre) (at-if1 .if1 .left) in
+    omega (arith, x .words, x .small, (at-head-of .head-of .ensures))
+
+formula-requires : tie.Need-formula-requires
+formula-requires c κs =
+    let at-head-of = c .before .before .before .before in
+    let at-if1 = at-head-of .before in
+    let start = at-if1 .before .before in
+    let x = leads (start .pre) (at-if1 .if1 .left) in omega (arith, second-small x (at-head-of .head-of .ensures) (sym (c .before .before .code .ensures) ∙ (c .before .if2 .taken)) (c .end .ensures), x .words)
+
+returns-2 : tie.Need-returns-2
+returns-2 c =
+    let at-code = c .before .before .before in
+    let at-rest-of = at-code .before in
+    let at-head-of = at-rest-of .before in
+    let at-if1 = at-head-of .before in
+    rw (c .formula .ensures)
+    (listed-form _ _ _ _ (at-if1 .if1 .left) (at-head-of .head-of .ensures) (at-rest-of .rest-of .ensures) (sym (at-code .code .ensures) ∙ (c .before .before .if2 .taken)) (c .before .end .ensures))
 
 plain-due-requires-2 : tie.Need-plain-due-requires-2
 plain-due-requires-2 c κs = search needs
 
-returns-2 : tie.Need-returns-2
-returns-2 c =
-    let i = c .before .before in
-    let h = i .before .before .before in
-    rw (c .plain-due2 .ensures)
-    (listed-form _ _ _ _ (h .before .if1 .left) (h .head-of .ensures) (i .before .before .rest-of .ensures) (sym (i .before .code .ensures) ∙ i .if2 .taken) (c .before .end .ensures))
-
-current-of-requires : tie.Need-current-of-requires
-current-of-requires c κs =
-    let h = c .before .before .before in
-    leads (h .before .before .before .pre) (h .before .if1 .left) .words
-
-last-of-requires : tie.Need-last-of-requires
-last-of-requires c κs =
-    let h = c .before .before .before .before in
-    leads (h .before .before .before .pre) (h .before .if1 .left) .words
-
 returns-3 : tie.Need-returns-3
 returns-3 c =
-    let i = c .before .before in
-    let h = i .before .before .before in
-    listed-again _ _ _ _ (h .before .if1 .left) (h .head-of .ensures) (i .before .before .rest-of .ensures) (λ e. i .if2 .left (i .before .code .ensures ∙ e)) (c .before .current-of .ensures) (c .last-of .ensures)
+    let at-rest-of = c .before .before .before in
+    let at-head-of = at-rest-of .before in
+    let at-if1 = at-head-of .before in
+    rw (c .plain-due2 .ensures)
+    (listed-again _ _ _ _ (at-if1 .if1 .left) (at-head-of .head-of .ensures) (at-rest-of .rest-of .ensures) (λ e. (c .before .if2 .left) ((c .before .before .code .ensures) ∙ e)))
 
 pub list-at-spec : {M : Type 1} → statement M
 list-at-spec =
     tie.close
-    (tie.spec
-    plain-due-requires
-    returns
-    sub-k
-    head-of-requires
-    rest-of-requires
-    code-requires
-    add-end
-    end-requires
-    plain-due-requires-2
-    returns-2
-    current-of-requires
-    last-of-requires
-    returns-3)
+    (tie.spec plain-due-requires returns sub-k head-of-requires rest-of-requires code-requires add-end end-requires formula-requires returns-2 plain-due-requires-2 returns-3)

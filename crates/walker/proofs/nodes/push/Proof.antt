@@ -8,7 +8,7 @@ use Rattle.walker.proofs.nodes.push.Statement.{statement}
 use Rattle.walker.proofs.nodes.push.Tie as tie
 
 returns : tie.Need-returns
-returns c = pushed _ _ _ _ _ _ _ _ _ (c .place .ensures) (c .before .before .pre)
+returns c = pushed _ _ _ _ _ _ _ _ _ _ (c .place .ensures) (c .before .before .pre)
 
 pub push-spec : {M : Type 1} → statement M
 push-spec =

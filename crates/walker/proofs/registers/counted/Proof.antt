@@ -3,7 +3,7 @@ use native.Mathlib.Omega.{arith}
 use native.Mathlib.Numerals.{add-one}
 use borrow.Author.Needs.{needs}
 use borrow.Author.Tests.{ne-eqb}
-use Rattle.walker.specs.Steps.{counted}
+use Rattle.walker.specs.Registers.{counted}
 use Rattle.walker.proofs.registers.counted.Statement.{statement}
 use Rattle.walker.proofs.registers.counted.Tie as tie
 

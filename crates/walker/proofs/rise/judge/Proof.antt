@@ -8,7 +8,7 @@ use mathlib.Core.Path.{refl, sym, _∙_, ap}
 use lib.ListN.{length, length-set}
 use Rattle.walker.specs.Loop.{Topped, Rising}
 use Rattle.walker.proofs.Rises.{son-finished}
-use Rattle.walker.proofs.Turns.{rose-up, rose-yes, Judges, judging, judge-small, judge-leads, judge-bad, judge-on, judge-not, judge-imp}
+use Rattle.walker.proofs.Turns.{rose-up, rose-yes, Judges, judging, judge-small, judge-leads, judge-bad, judge-on, judge-not, judge-imp, judge-far}
 use Rattle.walker.proofs.rise.judge.Statement.{statement}
 use Rattle.walker.proofs.rise.judge.Tie as tie
 
@@ -19,17 +19,18 @@ known : (c : tie.After-put) →
     let a = k .before .before .before .before .args in
     Topped (now (a .w)) (a .r) 4 × Rising (now (a .w)) (a .r))
 known c =
-    let s = c .before .before .before .before in
-    let k = s .before .before .before .before in
-    k .before .before .before .before .pre
+    let at-inner-of-arg = c .before .before .before .before .before in
+    let at-struct-known = at-inner-of-arg .before .before .before .before .before in
+    let start = at-struct-known .before .before in
+    (start .pre)
 
 token-small : (c : tie.After-put) →
     (let s = c .before .before .before .before in
     s .before .before .before .before .head-of .result < 1024)
 token-small c =
-    let s = c .before .before .before .before in
-    let h = s .before .before .before .before in
-    omega (arith, h .head-of .ensures, judge-small (known c .0))
+    let at-inner-of-arg = c .before .before .before .before .before in
+    let at-head-of = at-inner-of-arg .before .before .before in
+    omega (arith, (at-head-of .head-of .ensures), judge-small (known c .0))
 
 -- what was read at the node, which has nothing left to do now
 read : (c : tie.After-put) →
@@ -39,9 +40,10 @@ read : (c : tie.After-put) →
     Judges (now (a .w)) (now (setVals (c .put .last .0) (a .w))) (a .r) (head .head-of .result) (inner .before .before .rest-of .result)
     (inner .inner-of .result) (c .before .before .bad-of .result))
 read c =
-    let inner = c .before .before .before .before in
-    let head = inner .before .before .before .before in
-    judging (known c .0) (head .head-of .ensures) (inner .before .before .rest-of .ensures) (inner .inner-of .ensures) (c .before .before .bad-of .ensures)
+    let at-inner-of = c .before .before .before .before in
+    let at-rest-of = at-inner-of .before .before in
+    let at-head-of = at-rest-of .before .before in
+    judging (known c .0) (at-head-of .head-of .ensures) (at-rest-of .rest-of .ensures) (at-inner-of .inner-of .ensures) (c .before .before .bad-of .ensures)
     (c .put .ensures)
 
 sub-k : tie.Need-sub-k
@@ -76,23 +78,27 @@ put-requires c κs = search needs
 
 code-requires : tie.Need-code-requires
 code-requires c κs =
-    let put = c .before .before .before .before .before in
-    omega (arith, token-small put, known put .0 .path .size, simp length-set at (ap length (put .put .ensures)))
+    let at-put = c .before .before .before .before .before in
+    omega (arith, token-small at-put, known at-put .0 .path .size, simp length-set at (ap length (at-put .put .ensures)))
 
 add-end : tie.Need-add-end
 add-end c =
-    let mode = c .before .before .before .before in
-    let put = mode .before .before .before .before in
-    omega (arith, token-small put)
+    let at-struct-known2 = c .before .before .before .before .before in
+    let at-put = at-struct-known2 .before .before .before in
+    omega (arith, token-small at-put)
 
 end-requires : tie.Need-end-requires
 end-requires c κs =
-    let mode = c .before .before .before .before in
-    let put = mode .before .before .before .before in
-    omega (arith, token-small put, known put .0 .path .size, simp length-set at (ap length (put .put .ensures)))
+    let at-struct-known2 = c .before .before .before .before .before in
+    let at-put = at-struct-known2 .before .before .before in
+    omega (arith, token-small at-put, known at-put .0 .path .size, simp length-set at (ap length (at-put .put .ensures)))
 
-plain-due-requires : tie.Need-plain-due-requires
-plain-due-requires c κs = search needs
+formula-requires : tie.Need-formula-requires
+formula-requires c κs =
+    let at-code = c .before .before .before in
+    let at-w = at-code .before .before .before .before .before in
+    let at-put = at-w .before in
+    omega (arith, judge-far (read at-put) (known at-put .0) (sym (at-code .code .ensures) ∙ (c .before .before .if2 .taken)) (c .end .ensures), known at-put .0 .path .size, simp length-set at (ap length (at-put .put .ensures)))
 
 due-requires : tie.Need-due-requires
 due-requires c κs = search needs
@@ -102,14 +108,15 @@ same-length c = search needs
 
 returns : tie.Need-returns
 returns c =
-    let test = c .before .before .before .before in
-    let mode = test .before .before .before in
-    let put = mode .before .before .before .before in
-    rose-yes (c .due .ensures) (c .before .plain-due .ensures) (mode .if1 .taken)
-    (λ d o. judge-imp (read put) (sym (test .before .code .ensures) ∙ test .if2 .taken) (c .before .before .end .ensures))
+    let at-if2 = c .before .before .before .before in
+    let at-code = at-if2 .before in
+    let at-if1 = at-code .before .before in
+    let at-put = at-if1 .before .before .before .before in
+    rose-yes (c .due .ensures) (c .before .formula .ensures) (at-if1 .if1 .taken)
+    (λ d o. judge-imp (read at-put) (sym (at-code .code .ensures) ∙ (at-if2 .if2 .taken)) (c .before .before .end .ensures))
 
-plain-due-requires-2 : tie.Need-plain-due-requires-2
-plain-due-requires-2 c κs = search needs
+plain-due-requires : tie.Need-plain-due-requires
+plain-due-requires c κs = search needs
 
 due-requires-2 : tie.Need-due-requires-2
 due-requires-2 c κs = search needs
@@ -119,11 +126,11 @@ same-length-2 c = search needs
 
 returns-2 : tie.Need-returns-2
 returns-2 c =
-    let test = c .before .before in
-    let mode = test .before .before .before in
-    let put = mode .before .before .before .before in
-    rose-yes (c .due2 .ensures) (c .before .plain-due2 .ensures) (mode .if1 .taken)
-    (λ d o. judge-not (read put) (λ e. test .if2 .left (test .before .code .ensures ∙ e)))
+    let at-code = c .before .before .before in
+    let at-if1 = at-code .before .before in
+    let at-put = at-if1 .before .before .before .before in
+    rose-yes (c .due2 .ensures) (c .before .plain-due .ensures) (at-if1 .if1 .taken)
+    (λ d o. judge-not (read at-put) (λ e. (c .before .before .if2 .left) ((at-code .code .ensures) ∙ e)))
 
 error-due-requires : tie.Need-error-due-requires
 error-due-requires c κs = search needs
@@ -136,16 +143,15 @@ same-length-3 c = search needs
 
 returns-3 : tie.Need-returns-3
 returns-3 c =
-    let test = c .before .before in
-    let mode = test .before .before in
-    let put = mode .before .before .before .before in
-    rose-up (c .due3 .ensures) (c .before .error-due .ensures) (son-finished (known put .1) (mode .if1 .left)) (λ d o. judge-bad (read put) (test .if3 .taken))
+    let at-if1 = c .before .before .before .before in
+    let at-put = at-if1 .before .before .before .before in
+    rose-up (c .due3 .ensures) (c .before .error-due .ensures) (son-finished (known at-put .1) (at-if1 .if1 .left)) (λ d o. judge-bad (read at-put) (c .before .before .if3 .taken))
 
 list-at-requires : tie.Need-list-at-requires
 list-at-requires c κs =
-    let mode = c .before .before .before in
-    let put = mode .before .before .before .before in
-    judge-leads (read put) (known put .0)
+    let at-slice-known2 = c .before .before .before .before .before in
+    let at-put = at-slice-known2 .before .before in
+    judge-leads (read at-put) (known at-put .0)
 
 due-requires-4 : tie.Need-due-requires-4
 due-requires-4 c κs = search needs
@@ -155,41 +161,12 @@ same-length-4 c = search needs
 
 returns-4 : tie.Need-returns-4
 returns-4 c =
-    let test = c .before .before .before in
-    let mode = test .before .before in
-    let put = mode .before .before .before .before in
-    rose-up (c .due4 .ensures) refl (son-finished (known put .1) (mode .if1 .left)) (λ d o. judge-on (read put) (test .if3 .left) (c .before .list-at .ensures))
+    let at-if3 = c .before .before .before in
+    let at-if1 = at-if3 .before .before in
+    let at-put = at-if1 .before .before .before .before in
+    rose-up (c .due4 .ensures) refl (son-finished (known at-put .1) (at-if1 .if1 .left)) (λ d o. judge-on (read at-put) (at-if3 .if3 .left) (c .before .list-at .ensures))
 
 pub judge-spec : {M : Type 1} → statement M
 judge-spec =
     tie.close
-    (tie.spec
-    sub-k
-    head-of-requires
-    rest-of-requires
-    inner-of-requires
-    bad-of-requires
-    cast-put
-    mul-put
-    add-put
-    add-put-2
-    put-requires
-    code-requires
-    add-end
-    end-requires
-    plain-due-requires
-    due-requires
-    same-length
-    returns
-    plain-due-requires-2
-    due-requires-2
-    same-length-2
-    returns-2
-    error-due-requires
-    due-requires-3
-    same-length-3
-    returns-3
-    list-at-requires
-    due-requires-4
-    same-length-4
-    returns-4)
+    (tie.spec sub-k head-of-requires rest-of-requires inner-of-requires bad-of-requires cast-put mul-put add-put add-put-2 put-requires code-requires add-end end-requires formula-requires due-requires same-length returns plain-due-requires due-requires-2 same-length-2 returns-2 error-due-requires due-requires-3 same-length-3 returns-3 list-at-requires due-requires-4 same-length-4 returns-4)

@@ -1,7 +1,7 @@
 -- `rise::other` meets its contract.
 use borrow.Author.Needs.{needs}
 use native.Mathlib.Omega.{arith}
-use Rattle.walker.proofs.Turns.{rose-up, other-small, other-up}
+use Rattle.walker.proofs.Turns.{rose-up, other-small, other-up, other-far}
 use Rattle.walker.proofs.rise.other.Statement.{statement}
 use Rattle.walker.proofs.rise.other.Tie as tie
 
@@ -13,20 +13,23 @@ head-of-requires c κs = search needs
 
 add-end : tie.Need-add-end
 add-end c =
-    let h = c .before in
-    omega (arith, h .head-of .ensures, other-small (h .before .before .before .before .pre .0))
+    let start = c .before .before .before .before .before in
+    omega (arith, (c .before .head-of .ensures), other-small (start .pre .0))
 
 end-requires : tie.Need-end-requires
 end-requires c κs =
-    let h = c .before in
-    let x = h .before .before .before .before .pre .0 in
-    omega (arith, h .head-of .ensures, other-small x, x .path .size)
+    let start = c .before .before .before .before .before in
+    let x = (start .pre .0) in
+    omega (arith, (c .before .head-of .ensures), other-small x, x .path .size)
 
 rest-of-requires : tie.Need-rest-of-requires
 rest-of-requires c κs = search needs
 
-plain-due-requires : tie.Need-plain-due-requires
-plain-due-requires c κs = search needs
+formula-requires : tie.Need-formula-requires
+formula-requires c κs =
+    let at-head-of = c .before .before .before .before in
+    let start = at-head-of .before .before .before .before in
+    omega (arith, other-far (start .pre .0) (at-head-of .head-of .ensures) (c .before .before .end .ensures), (start .pre .0 .path .size))
 
 cast-put : tie.Need-cast-put
 cast-put c = search needs
@@ -51,29 +54,17 @@ same-length c = search needs
 
 returns : tie.Need-returns
 returns c =
-    let put = c .before .before .before in
-    let rest = put .before .before .before in
-    let end = rest .before .before in
-    let head = end .before .before in
-    let x = head .before .before .before .before .pre in
-    rose-up (c .due .ensures) (put .before .before .plain-due .ensures) (x .1)
-    (λ d o. other-up (x .0 .some) (x .0 .todo) (head .head-of .ensures) (end .end .ensures) (rest .rest-of .ensures) (put .put .ensures))
+    let at-put = c .before .before .before in
+    let at-formula = at-put .before .before in
+    let at-rest-of = at-formula .before in
+    let at-end = at-rest-of .before .before in
+    let at-head-of = at-end .before .before in
+    let start = at-head-of .before .before .before .before in
+    let x = (start .pre) in
+    rose-up (c .due .ensures) (at-formula .formula .ensures) (x .1)
+    (λ d o. other-up (x .0 .some) (x .0 .todo) (at-head-of .head-of .ensures) (at-end .end .ensures) (at-rest-of .rest-of .ensures) (at-put .put .ensures))
 
 pub other-spec : {M : Type 1} → statement M
 other-spec =
     tie.close
-    (tie.spec
-    sub-k
-    head-of-requires
-    add-end
-    end-requires
-    rest-of-requires
-    plain-due-requires
-    cast-put
-    mul-put
-    add-put
-    add-put-2
-    put-requires
-    due-requires
-    same-length
-    returns)
+    (tie.spec sub-k head-of-requires add-end end-requires rest-of-requires formula-requires cast-put mul-put add-put add-put-2 put-requires due-requires same-length returns)

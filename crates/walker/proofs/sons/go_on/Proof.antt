@@ -5,13 +5,14 @@ use Rattle.walker.proofs.Simple.{goes-leads, goes-down}
 use Rattle.walker.proofs.sons.go_on.Statement.{statement}
 use Rattle.walker.proofs.sons.go_on.Tie as tie
 
-push-requires : tie.Need-push-requires
-push-requires c κs = search needs
+pass-requires : tie.Need-pass-requires
+pass-requires c κs = search needs
 
 list-at-requires : tie.Need-list-at-requires
 list-at-requires c κs =
-    let p = c .before .before .before in
-    goes-leads (p .push .ensures) (p .before .before .before .pre)
+    let at-pass = c .before .before .before in
+    let start = at-pass .before .before .before in
+    goes-leads (at-pass .pass .ensures) (start .pre)
 
 add-due : tie.Need-add-due
 add-due c = search needs
@@ -24,17 +25,12 @@ same-length c = search needs
 
 returns : tie.Need-returns
 returns c =
-    let l = c .before .before in
-    let p = l .before .before .before .before in
-    stepped (c .due .ensures) (goes-down (p .push .ensures) (p .before .before .before .pre) (l .list-at .ensures))
+    let at-w = c .before .before .before .before .before in
+    let at-pass = at-w .before in
+    let start = at-pass .before .before .before in
+    stepped (c .due .ensures) (goes-down (at-pass .pass .ensures) (start .pre) (c .before .before .list-at .ensures))
 
 pub go-on-spec : {M : Type 1} → statement M
 go-on-spec =
     tie.close
-    (tie.spec
-    push-requires
-    list-at-requires
-    add-due
-    due-requires
-    same-length
-    returns)
+    (tie.spec pass-requires list-at-requires add-due due-requires same-length returns)

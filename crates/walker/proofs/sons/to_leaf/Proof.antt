@@ -5,8 +5,8 @@ use Rattle.walker.proofs.Simple.{leaf-down}
 use Rattle.walker.proofs.sons.to_leaf.Statement.{statement}
 use Rattle.walker.proofs.sons.to_leaf.Tie as tie
 
-push-requires : tie.Need-push-requires
-push-requires c κs = search needs
+pass-requires : tie.Need-pass-requires
+pass-requires c κs = search needs
 
 add-due : tie.Need-add-due
 add-due c = search needs
@@ -19,15 +19,11 @@ same-length c = search needs
 
 returns : tie.Need-returns
 returns c =
-    let p = c .before .before .before .before in
-    stepped (c .due .ensures) (leaf-down (p .push .ensures) (p .before .before .before .pre))
+    let at-pass = c .before .before .before .before in
+    let start = at-pass .before .before .before in
+    stepped (c .due .ensures) (leaf-down (at-pass .pass .ensures) (start .pre))
 
 pub to-leaf-spec : {M : Type 1} → statement M
 to-leaf-spec =
     tie.close
-    (tie.spec
-    push-requires
-    add-due
-    due-requires
-    same-length
-    returns)
+    (tie.spec pass-requires add-due due-requires same-length returns)

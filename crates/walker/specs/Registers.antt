@@ -1,0 +1,47 @@
+-- The values that the functions of src/registers.rt make. Assumes nothing.
+use Prim.Native.Nat.{ℕ, _-_}
+use lib.Dec.{eqb}
+use Rattle.specification.specs.declared.Tallies.{Tallies}
+use Rattle.specification.specs.Bytes.{pick}
+use Rattle.specification.specs.Run.{addNode, addAnswer, addError, addFail}
+use Rattle.sheet.specs.Tables.{Words}
+use Rattle.sheet.specs.Held.{codeAt}
+use Rattle.walker.specs.declared.Due.{Due}
+use Rattle.walker.specs.declared.Regs.{Regs}
+
+-- ---- what is due
+
+abbrev pub dueOf : ℕ → ℕ → ℕ → Due
+dueOf job head rest = record { head = head; job = job; rest = rest }
+
+-- the formula at token i
+abbrev pub formulaDue : Words → ℕ → ℕ → Due
+formulaDue w i rest = dueOf (codeAt w i) i rest
+
+abbrev pub errorDue : ℕ → ℕ → Due
+errorDue kind head = dueOf 18 head kind
+
+-- ---- registers
+
+-- a visit is due
+abbrev pub dueRegs : Regs → ℕ → Due → ℕ → ℕ → Regs
+dueRegs r depth d inner bad =
+    record { mode = 1; depth = depth; due = d; inner = inner; bad = bad; end = r .end; tallies = r .tallies; written = r .written }
+
+-- the topmost node is left
+abbrev pub popRegs : Regs → Regs
+popRegs r =
+    record { mode = r .mode; depth = r .depth - 1; due = r .due; inner = r .inner; bad = r .bad; end = r .end; tallies = r .tallies; written = r .written }
+
+-- another mode, with the flag and the tallies that a leaf makes
+abbrev pub leafRegs : Regs → ℕ → ℕ → Tallies → ℕ → Regs
+leafRegs r mode bad t written =
+    record { mode = mode; depth = r .depth; due = r .due; inner = r .inner; bad = bad; end = r .end; tallies = t; written = written }
+
+abbrev pub stopRegs : Regs → ℕ → Regs
+stopRegs r end =
+    record { mode = 0; depth = r .depth; due = r .due; inner = r .inner; bad = r .bad; end = end; tallies = r .tallies; written = r .written }
+
+-- one more of a kind: 0 a node, 1 an answer, 2 an error, 3 a failure
+unfoldable pub counted : Tallies → ℕ → Tallies
+counted t leaf = pick (eqb leaf 0) (addNode t) (pick (eqb leaf 1) (addAnswer t) (pick (eqb leaf 2) (addError t) (addFail t)))

@@ -1,0 +1,42 @@
+-- A formula that stands in the tables, the formula under a quantifier, and the values left to it. Assumes nothing.
+use Prim.Native.Nat.{ℕ, suc, _-_, _≤_, _<_}
+use mathlib.Core.Path.{_≡_}
+use lib.Dec.{T}
+use lib.IntN.{ℤ, pos, _+ℤ_}
+use Rattle.specification.specs.Lines.{Declared}
+use Rattle.specification.specs.Ast.{Formula}
+use Rattle.specification.proofs.Laws.Scope.{Scope, Ok}
+use Rattle.values.specs.Word.{signed}
+use Rattle.sheet.specs.Tables.{Words}
+use Rattle.sheet.specs.Held.{endAt, LocalAt, FormulaAt, Shallow}
+
+pub record Good (D : Declared) (F : Formula) : Type 0 where
+  pub scope : Scope
+  pub locals : (l : ℕ) → T (scope l) → l < 32
+  pub ok : Ok D scope F
+  pub shallow : Shallow F
+
+-- F stands from token i of the tables t on
+pub record Stands (D : Declared) (t : Words) (i : ℕ) (F : Formula) : Type 0 where
+  pub held : FormulaAt t i F
+  pub good : Good D F
+
+-- the formula under a `some` or `all` whose token is h
+abbrev pub bodyOf : Words → ℕ → ℕ
+bodyOf t h = endAt t (endAt t (suc (suc h)))
+
+-- token h is a quantifier over the local l, of F
+pub record Binds (D : Declared) (t : Words) (h l : ℕ) (F : Formula) : Type 0 where
+  pub near : suc (suc h) < 1024
+  pub middle : endAt t (suc (suc h)) < 1024
+  pub local : LocalAt t (suc h) l
+  pub small : l < 32
+  pub inside : bodyOf t h < 1024
+  pub body : Stands D t (bodyOf t h) F
+
+-- n values are left after the word `current`, up to the word `last`, and v is the lowest
+pub record LeftAfter (current last n : ℕ) (v : ℤ) : Type 0 where
+  pub fits : last < 4294967296
+  pub order : current ≤ last
+  pub count : n ≡ last - current
+  pub lowest : v ≡ signed current +ℤ pos 1

@@ -1,0 +1,67 @@
+-- The contract of the whole walk: from the tables of a sheet to its run. Assumes nothing.
+use Prim.Native.Nat.{ℕ, _+_, _*_, _≤_}
+use mathlib.Core.Path.{_≡_}
+use mathlib.Core.List.{_++_}
+use lib.ListN.{length, drop, replicate}
+use Rattle.specification.specs.declared.Setting.{Setting}
+use Rattle.specification.specs.declared.Outcome.{Outcome}
+use Rattle.specification.specs.declared.End.{End}
+use Rattle.specification.specs.declared.End.the-variants.{Done, Spent, Path, Output}
+use Rattle.specification.specs.Bytes.{Bytes}
+use Rattle.specification.specs.Sheet.{Sheet}
+use Rattle.specification.specs.Run.{tallies}
+use Rattle.specification.specs.Outcome.{resultOf, start, runOf, outcome, outputAfter}
+use Rattle.specification.proofs.Laws.ReadSheet.{WellFormed}
+use Rattle.sheet.specs.Tables.{Words}
+use Rattle.sheet.specs.Held.{Holds, ArraysAt}
+use Rattle.walker.specs.declared.Regs.{Regs}
+use Rattle.walker.specs.Stands.{Stands}
+use Rattle.walker.specs.Registers.{formulaDue}
+use Rattle.walker.specs.Sim.{ended}
+
+-- the work words hold the sheet's tables, with room for the path
+pub record Ready (w : Words) (S : Setting) (scalars arrays : ℕ) (s : Sheet) : Type 0 where
+  pub well : WellFormed s
+  pub formula : Stands (s .declared) w 0 (s .formula)
+  pub holds : Holds w (start (s .given))
+  pub firsts : ArraysAt w (s .declared)
+  pub scalar-count : scalars ≡ s .declared .scalars
+  pub array-count : arrays ≡ length (s .declared .arrays)
+  pub limit : S .path ≤ 32768
+  pub size : 6144 + 12 * S .path ≤ length w
+
+pub record Readied (w : Words) (S : Setting) (scalars arrays : ℕ) : Type 0 where
+  pub sheet : Sheet
+  pub ready : Ready w S scalars arrays sheet
+
+-- before the first visit
+abbrev pub startRegs : Words → Regs
+startRegs w = record {
+  mode = 1;
+  depth = 0;
+  due = formulaDue w 0 0;
+  inner = 0;
+  bad = 0;
+  end = 0;
+  tallies = tallies 0 0 0 0;
+  written = 0;
+}
+
+-- the walk is over: its registers and the output are those of the sheet's run
+pub record Finished (w w' : Words) (o o' : Bytes) (S : Setting) (scalars arrays : ℕ) (r : Regs) : Type 0 where
+  pub run : (s : Sheet) → Ready w S scalars arrays s → (b : Bytes) × (ended (r .end) (r .tallies) b ≡ runOf s S (length o)) × (r .written ≡ length b) × (o' ≡ b ++ drop (length b) o)
+  pub words : length w' ≡ length w
+  pub size : length o' ≡ length o
+
+-- the end that a number stands for
+abbrev pub EndOf : ℕ → End → Type 0
+EndOf n Done = n ≡ 0
+EndOf n Spent = n ≡ 1
+EndOf n Path = n ≡ 2
+EndOf n Output = (n ≡ 0 → ⊥) × (n ≡ 1 → ⊥) × (n ≡ 2 → ⊥)
+
+-- the sheet's run, and the work words all zero
+pub record Walked (w w' : Words) (o o' : Bytes) (S : Setting) (scalars arrays : ℕ) (r : Outcome) : Type 0 where
+  pub result : (s : Sheet) → Ready w S scalars arrays s → r ≡ outcome (resultOf (runOf s S (length o)))
+  pub output : (s : Sheet) → Ready w S scalars arrays s → o' ≡ outputAfter (resultOf (runOf s S (length o))) o
+  pub words : w' ≡ replicate (length w) 0
