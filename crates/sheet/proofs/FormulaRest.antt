@@ -8,7 +8,7 @@ use lib.ListN.{length, drop, drop-of-length-le}
 use lib.Seq.{drop-cons, drop-drop}
 use lib.Dec.{eqb}
 use Rattle.specification.specs.Bytes.{Bytes, bytes, feed, classNumber, begins}
-use Rattle.specification.specs.Parser.{Reader, Read, refused, found, give, andThen, _>>=_, _>>_, past, mark, exactly, finish}
+use Rattle.specification.specs.Parser.{Reader, Read, refused, found, give, andThen, _>>_, past, mark, exactly, finish}
 use Rattle.specification.specs.Lines.{Declared}
 use Rattle.specification.specs.Ast.{Formula}
 use Rattle.specification.specs.Formula.{Locals, formula}

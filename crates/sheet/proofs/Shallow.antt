@@ -1,17 +1,16 @@
 -- A formula that is read is shallow: its terms nest at most 64 deep, and its binders' locals are below 32. Assumes nothing.
 use Prim.Native.Nat.{ℕ, zero, suc, _≤_, _<_, max}
 use native.Mathlib.Omega.{arith}
-use mathlib.Core.Path.{_≡_}
-use mathlib.Core.List.{List, _∷_}
+use mathlib.Core.List.{_∷_}
 use lib.ListN.{length}
 use lib.Dec.{ltb}
 use borrow.Author.Tests.{ltb-true}
 use Rattle.specification.specs.Bytes.{space}
-use Rattle.specification.specs.Parser.{Reader, Read, Parser, give, _>>=_, mark}
+use Rattle.specification.specs.Parser.{Reader, Parser, give, _>>=_, mark}
 use Rattle.specification.specs.Lines.{Declared}
-use Rattle.specification.specs.Ast.{Term, constant, scalarAt, localAt, elementAt, apply, Formula, truth, and, or, imp, neg, eq, compare, ex, some, all}
+use Rattle.specification.specs.Ast.{Term, Formula, and, or, imp, eq, compare, some, all}
 use Rattle.specification.specs.Words.{FormulaWord, trueWord, andWord, orWord, impWord, notWord, eqWord, exWord, someWord, allWord, relWord, TermWord, constantWord, scalarWord, localWord, arrayWord, opWord, Word, formulaWord, termWord, unknown}
-use Rattle.specification.specs.Formula.{Token, token, operand, Locals, has, bind, binderOf, binderWith, binder, termOf, termWith, term, formulaOf, formulaWith, formula}
+use Rattle.specification.specs.Formula.{Token, token, operand, Locals, has, binderOf, binderWith, binder, termOf, termWith, term, formulaOf, formulaWith, formula}
 use Rattle.specification.proofs.Laws.Parser.{Post, refusal, holds, bind-post, after, require-post, pick-post}
 use Rattle.sheet.specs.Held.{height, Shallow}
 

@@ -6,7 +6,7 @@ use mathlib.Core.Bool.{Bool, true, false}
 use mathlib.Core.List.{List, []}
 use lib.ListN.{length, getD, set, replicate, length-set, length-replicate}
 use lib.Seq.{getD-set-same, getD-set-other, ext-getD}
-use lib.Dec.{ltb, leb}
+use lib.Dec.{ltb}
 use borrow.Author.Tests.{ltb-true, ltb-false}
 use Rattle.specification.specs.Bytes.{Bytes, bytes, feed}
 use Rattle.specification.specs.Parser.{Reader, Read, refused, found, give, andThen, _>>=_, _>>_, mark, key, finish}
@@ -15,7 +15,7 @@ use Rattle.specification.specs.Given.{Item, givenLine}
 use Rattle.specification.specs.Ast.{Formula}
 use Rattle.specification.specs.Formula.{formula}
 use Rattle.specification.specs.Sheet.{Sheet, sheet, read}
-use Rattle.specification.proofs.Laws.Parser.{Post, refusal, holds, of-found, bind-post, after}
+use Rattle.specification.proofs.Laws.Parser.{Post, holds, of-found, bind-post, after}
 use Rattle.specification.proofs.Laws.ReadLines.{line-post}
 use Rattle.specification.proofs.Laws.ReadSheet.{read-well-formed}
 use Rattle.sheet.specs.declared.lines.Count.{Count}
@@ -32,8 +32,7 @@ use Rattle.sheet.specs.declared.Reading.the-variants as reading
 use Rattle.sheet.specs.declared.whole.Heading.{Heading}
 use Rattle.sheet.specs.declared.whole.Heading.the-variants as heads
 use Rattle.sheet.specs.Reader.{lineAt}
-use Rattle.sheet.specs.Tables.{Words, laidArrays, laidGiven, tables}
-use Rattle.sheet.specs.Turn.{Limited}
+use Rattle.sheet.specs.Tables.{Words, laidArrays, tables}
 use Rattle.sheet.specs.Stack.{Beside}
 use Rattle.sheet.specs.Answers.{countRead}
 use Rattle.sheet.specs.Firsts.{ArraysFound, ArraysDone}
@@ -41,7 +40,7 @@ use Rattle.sheet.specs.Items.{Declares, Arranged, GivenFound, GivenDone}
 use Rattle.sheet.specs.FormulaLine.{formulaRest, Small, Counts, Laid, LineRead}
 use Rattle.sheet.specs.Whole.{readingOf, wordsOf, Zeroed, headed, headingRead, sheetOf, fromGiven, SheetFound, SheetDone, withGiven, withArrays}
 use Rattle.sheet.proofs.Regions.{zeros, firsts-length, given-length}
-use Rattle.sheet.proofs.Tables.{tables-length, rest-zero}
+use Rattle.sheet.proofs.Tables.{rest-zero}
 use Rattle.sheet.proofs.ReadSheet.{read-counts}
 use Rattle.sheet.proofs.Declares.{arrays-few, found-declares}
 

@@ -1,9 +1,9 @@
 -- A reader at a place of a sheet, and what the answers of the code say in the specification's words. Assumes nothing.
 use Prim.Native.Nat.{ℕ}
-use mathlib.Core.List.{List, []}
+use mathlib.Core.List.{[]}
 use lib.ListN.{drop}
 use Rattle.specification.specs.Bytes.{Bytes}
-use Rattle.specification.specs.Parser.{Reader, Read, refused, found}
+use Rattle.specification.specs.Parser.{Reader}
 use Rattle.specification.specs.Formula.{Locals}
 
 -- after so many tokens, with these locals bound

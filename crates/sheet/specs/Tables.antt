@@ -8,7 +8,7 @@
 -- Assumes nothing.
 use Prim.Native.Nat.{ℕ, zero, suc, _+_, _-_, _*_}
 use mathlib.Core.List.{List, [], _∷_}
-use lib.ListN.{length, set, drop, replicate}
+use lib.ListN.{length, set, replicate}
 use Rattle.specification.specs.Lines.{Declared, firstOf}
 use Rattle.specification.specs.Given.{Item}
 use Rattle.specification.specs.Sheet.{Sheet}

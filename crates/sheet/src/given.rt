@@ -5,8 +5,6 @@ ghost use lib.ListN.{length, set};
 ghost use Rattle.specification.specs.Lines.{Declared};
 ghost use Rattle.specification.specs.Given.{scalarName, elementName, name, item, items};
 ghost use Rattle.sheet.specs.Reader.{lineAt};
-ghost use Rattle.sheet.specs.Tables.{laidGiven};
-ghost use Rattle.sheet.specs.Answers.{mapped};
 ghost use Rattle.sheet.specs.Items.{heldNames, elementAfter, nameRead, scalarIn, elementIn, afterName, entryRead, Declares, Arranged, laidItems, givenRead, givenValue, GivenDone};
 use crate::lines;
 use crate::lines::Index;

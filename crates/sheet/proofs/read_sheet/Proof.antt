@@ -26,13 +26,23 @@ same-length : tie.Need-same-length
 same-length c = search needs
 
 returns : tie.Need-returns
-returns c = refused-whole ((c .before .before .before .before .before .before .before .before .before .before .before .before .before .before .before .before .before .args .s .now)) ((c .before .before .before .before .before .before .before .before .before .before .before .before .before .before .before .before .before .args .w .now)) _ ((c .before .before .before .before .before .before .before .before .before .six-lines .last .1 .0)) _ ((c .before .before .before .before .before .before .before .before .before .six-lines .result)) (c .before .before .before .before .before .before .before .before .before .before .before .before .before .clear .ensures) (c .before .before .before .before .before .before .before .before .before .six-lines .ensures) (c .before .before .clear2 .ensures) _ _ (c .before .before .before .before .before .k .given .1)
+returns c =
+    let at-k = c .before .before .before .before .before in
+    let at-six-lines = at-k .before .before .before .before in
+    let at-clear = at-six-lines .before .before .before .before in
+    let start = at-clear .before .before .before .before in
+    refused-whole (start .args .s .now) (start .args .w .now) _ (at-six-lines .six-lines .last .1 .0) _ (at-six-lines .six-lines .result) (at-clear .clear .ensures) (at-six-lines .six-lines .ensures) (c .before .before .clear2 .ensures) _ _ (at-k .k .given .1)
 
 same-length-2 : tie.Need-same-length-2
 same-length-2 c = search needs
 
 returns-2 : tie.Need-returns-2
-returns-2 c = found-whole ((c .before .before .before .before .before .before .before .before .before .before .before .before .before .before .before .before .before .args .s .now)) ((c .before .before .before .before .before .before .before .before .before .before .before .before .before .before .before .before .before .args .w .now)) _ ((c .before .before .before .before .before .before .before .before .before .six-lines .last .1 .0)) _ ((c .before .before .before .before .before .before .before .before .before .six-lines .result)) (c .before .before .before .before .before .before .before .before .before .before .before .before .before .clear .ensures) (c .before .before .before .before .before .before .before .before .before .six-lines .ensures) (c .before .before .before .before .before .before .before .before .before .before .before .before .before .before .before .before .before .pre) (c .before .before .zero .ensures) _ _ (c .before .before .before .before .before .scalars .given .1)
+returns-2 c =
+    let at-scalars = c .before .before .before .before .before in
+    let at-six-lines = at-scalars .before .before .before .before in
+    let at-clear = at-six-lines .before .before .before .before in
+    let start = at-clear .before .before .before .before in
+    found-whole (start .args .s .now) (start .args .w .now) _ (at-six-lines .six-lines .last .1 .0) _ (at-six-lines .six-lines .result) (at-clear .clear .ensures) (at-six-lines .six-lines .ensures) (start .pre) (c .before .before .zero .ensures) _ _ (at-scalars .scalars .given .1)
 
 pub read-sheet-spec : {M : Type 1} → statement M
 read-sheet-spec =

@@ -1,7 +1,6 @@
 -- The invariant: the words up to here are zero. Assumes nothing.
 use Prim.Native.Nat.{_-_, _≤_}
 use native.Mathlib.Omega.{arith}
-use mathlib.Core.Path.{_≡_, refl}
 use Rattle.sheet.specs.Whole.{Zeroed}
 use Rattle.sheet.proofs.SixLines.{zeroed-none, zeroed-more, zeroed-end}
 use borrow.Author.Needs.{needs}

@@ -2,7 +2,6 @@
 -- listed what the plain reading says. And truth of a filling is two-valued. Assumes nothing.
 use Prim.Native.Nat.{ℕ, _<_}
 use mathlib.Core.Path.{_≡_, refl, sym, _∙_, ap, subst}
-use mathlib.Core.Bool.{Bool}
 use mathlib.Core.List.{List, [], _∷_}
 use lib.Dec.{T, T-not}
 use lib.IntN.{ℤ, pos}
@@ -13,15 +12,13 @@ use Rattle.specification.specs.Lists.{Each, Some}
 use Rattle.specification.specs.Bytes.{Bytes}
 use Rattle.specification.specs.Number.{in32}
 use Rattle.specification.specs.Lines.{Declared, cells, cellOf}
-use Rattle.specification.specs.Given.{Item}
-use Rattle.specification.specs.Ast.{Formula}
 use Rattle.specification.specs.Sheet.{Sheet}
 use Rattle.specification.specs.Place.{cell}
 use Rattle.specification.specs.Value.{Slot, empty, full, Valuation}
 use Rattle.specification.specs.Tree.{treeOf}
-use Rattle.specification.specs.Listing.{Named, Block, cellNames, valued, listingText}
+use Rattle.specification.specs.Listing.{Named, Block, listingText}
 use Rattle.specification.specs.Outcome.{ran, start, visitsOf, call}
-use Rattle.specification.specs.Plain.{Filling, env, Fills, Keeps, Truth, True}
+use Rattle.specification.specs.Plain.{Filling, env, Fills, Keeps, True}
 use Rattle.specification.specs.Demand3.{headsAnswer, IsAnswer, IsError, Names, Agrees, Such, Agreement, Demand3}
 use Rattle.specification.proofs.Laws.Lists.{each-map, each-both, each-some, some-map, some-and-each}
 use Rattle.specification.proofs.Laws.Blocks.{listing-injective}

@@ -16,7 +16,10 @@ enum-known-edition : tie.Need-enum-known-edition
 enum-known-edition c = search needs
 
 arrays-line-requires : tie.Need-arrays-line-requires
-arrays-line-requires c κs = (headed-low _ _ _ (three-yes _ _ (c .before .before .before .before .three-lines .ensures) _ _ _ _ (c .before .before .edition .given .1)) .0, (c .before .before .before .before .before .before .before .pre))
+arrays-line-requires c κs =
+    let at-three-lines = c .before .before .before .before in
+    let start = at-three-lines .before .before .before in
+    (headed-low _ _ _ (three-yes _ _ (at-three-lines .three-lines .ensures) _ _ _ _ (c .before .before .edition .given .1)) .0, (start .pre))
 
 enum-known-k-2 : tie.Need-enum-known-k-2
 enum-known-k-2 c = search needs
@@ -25,22 +28,41 @@ enum-known-n : tie.Need-enum-known-n
 enum-known-n c = search needs
 
 from-given-requires : tie.Need-from-given-requires
-from-given-requires c κs = let h = (three-yes _ _ (c .before .before .before .before .before .before .before .before .before .before .before .three-lines .ensures) _ _ _ _ (c .before .before .before .before .before .before .before .before .before .edition .given .1)) in let f = (arrays-yes _ _ _ _ _ _ (c .before .before .before .before .before .before .arrays-line .ensures) _ _ _ (c .before .before .n .given .1)) in (arranged _ _ _ h (c .before .before .before .before .before .before .before .before .before .before .before .before .before .before .pre) f, small _ _ _ h (c .before .before .before .before .before .before .before .before .before .before .before .before .before .before .pre) f, omega (arith, same _ _ _ h (c .before .before .before .before .before .before .before .before .before .before .before .before .before .before .pre) f, (c .before .before .before .before .before .before .before .before .before .before .before .before .before .before .pre)))
+from-given-requires c κs =
+    let at-w = c .before .before .before .before .before in
+    let at-arrays-line = at-w .before in
+    let at-edition = at-arrays-line .before .before .before in
+    let at-three-lines = at-edition .before .before in
+    let start = at-three-lines .before .before .before in
+    let h = (three-yes _ _ (at-three-lines .three-lines .ensures) _ _ _ _ (at-edition .edition .given .1)) in let f = (arrays-yes _ _ _ _ _ _ (at-arrays-line .arrays-line .ensures) _ _ _ (c .before .before .n .given .1)) in (arranged _ _ _ h (start .pre) f, small _ _ _ h (start .pre) f, omega (arith, same _ _ _ h (start .pre) f, (start .pre)))
 
 returns : tie.Need-returns
-returns c = (heading-refused _ _ _ (three-no _ _ (c .before .before .before .three-lines .ensures) _ _ (c .before .k .given .1)), refl)
+returns c =
+    let at-three-lines = c .before .before .before in
+    (heading-refused _ _ _ (three-no _ _ (at-three-lines .three-lines .ensures) _ _ (c .before .k .given .1)), refl)
 
 same-length : tie.Need-same-length
 same-length c = search needs
 
 returns-2 : tie.Need-returns-2
-returns-2 c = let x = arrays-no _ _ _ _ _ _ (c .before .before .before .before .before .arrays-line .ensures) _ _ (c .before .k2 .given .1) in (arrays-refused _ _ _ (three-yes _ _ (c .before .before .before .before .before .before .before .before .before .before .three-lines .ensures) _ _ _ _ (c .before .before .before .before .before .before .before .before .edition .given .1)) _ _ (x .0), x .1)
+returns-2 c =
+    let at-arrays-line = c .before .before .before .before .before in
+    let at-edition = at-arrays-line .before .before .before in
+    let at-three-lines = at-edition .before .before in
+    let x = arrays-no _ _ _ _ _ _ (at-arrays-line .arrays-line .ensures) _ _ (c .before .k2 .given .1) in (arrays-refused _ _ _ (three-yes _ _ (at-three-lines .three-lines .ensures) _ _ _ _ (at-edition .edition .given .1)) _ _ (x .0), x .1)
 
 same-length-2 : tie.Need-same-length-2
 same-length-2 c = search needs
 
 returns-3 : tie.Need-returns-3
-returns-3 c = six-done _ _ _ (three-yes _ _ (c .before .before .before .before .before .before .before .before .before .before .before .before .before .before .three-lines .ensures) _ _ _ _ (c .before .before .before .before .before .before .before .before .before .before .before .before .edition .given .1)) (c .before .before .before .before .before .before .before .before .before .before .before .before .before .before .before .before .before .pre) (arrays-yes _ _ _ _ _ _ (c .before .before .before .before .before .before .before .before .before .arrays-line .ensures) _ _ _ (c .before .before .before .before .before .n .given .1)) (c .before .before .from-given .last .1 .1 .1 .0) (c .before .before .from-given .result) (c .before .before .from-given .ensures)
+returns-3 c =
+    let at-from-given = c .before .before in
+    let at-n = at-from-given .before .before .before in
+    let at-arrays-line = at-n .before .before .before .before in
+    let at-edition = at-arrays-line .before .before .before in
+    let at-three-lines = at-edition .before .before in
+    let start = at-three-lines .before .before .before in
+    six-done _ _ _ (three-yes _ _ (at-three-lines .three-lines .ensures) _ _ _ _ (at-edition .edition .given .1)) (start .pre) (arrays-yes _ _ _ _ _ _ (at-arrays-line .arrays-line .ensures) _ _ _ (at-n .n .given .1)) (at-from-given .from-given .last .1 .1 .1 .0) (at-from-given .from-given .result) (at-from-given .from-given .ensures)
 
 pub six-lines-spec : {M : Type 1} → statement M
 six-lines-spec =

@@ -41,16 +41,38 @@ enum-known-locals : tie.Need-enum-known-locals
 enum-known-locals c = search needs
 
 returns : tie.Need-returns
-returns c = edition-refused ((c .before .before .before .before .before .before .args .s .now)) _ (c .before .before .before .count-line .ensures) _ _ (c .before .k .given .1)
+returns c =
+    let at-count-line = c .before .before .before in
+    let start = at-count-line .before .before .before in
+    edition-refused (start .args .s .now) _ (at-count-line .count-line .ensures) _ _ (c .before .k .given .1)
 
 returns-2 : tie.Need-returns-2
-returns-2 c = scalars-refused ((c .before .before .before .before .before .before .before .before .before .before .before .args .s .now)) _ (c .before .before .before .before .before .before .before .before .count-line .ensures) _ _ (c .before .before .before .before .before .before .edition .given .1) _ (c .before .before .before .count-line2 .ensures) _ _ (c .before .k2 .given .1)
+returns-2 c =
+    let at-count-line2 = c .before .before .before in
+    let at-edition = at-count-line2 .before .before .before in
+    let at-count-line = at-edition .before .before in
+    let start = at-count-line .before .before .before in
+    scalars-refused (start .args .s .now) _ (at-count-line .count-line .ensures) _ _ (at-edition .edition .given .1) _ (at-count-line2 .count-line2 .ensures) _ _ (c .before .k2 .given .1)
 
 returns-3 : tie.Need-returns-3
-returns-3 c = locals-refused ((c .before .before .before .before .before .before .before .before .before .before .before .before .before .before .before .before .args .s .now)) _ (c .before .before .before .before .before .before .before .before .before .before .before .before .before .count-line .ensures) _ _ (c .before .before .before .before .before .before .before .before .before .before .before .edition .given .1) _ (c .before .before .before .before .before .before .before .before .count-line2 .ensures) _ _ (c .before .before .before .before .before .before .scalars .given .1) _ (c .before .before .before .count-line3 .ensures) _ _ (c .before .k3 .given .1)
+returns-3 c =
+    let at-count-line3 = c .before .before .before in
+    let at-scalars = at-count-line3 .before .before .before in
+    let at-count-line2 = at-scalars .before .before in
+    let at-edition = at-count-line2 .before .before .before in
+    let at-count-line = at-edition .before .before in
+    let start = at-count-line .before .before .before in
+    locals-refused (start .args .s .now) _ (at-count-line .count-line .ensures) _ _ (at-edition .edition .given .1) _ (at-count-line2 .count-line2 .ensures) _ _ (at-scalars .scalars .given .1) _ (at-count-line3 .count-line3 .ensures) _ _ (c .before .k3 .given .1)
 
 returns-4 : tie.Need-returns-4
-returns-4 c = heading-found ((c .before .before .before .before .before .before .before .before .before .before .before .before .before .before .before .before .args .s .now)) _ (c .before .before .before .before .before .before .before .before .before .before .before .before .before .count-line .ensures) _ _ (c .before .before .before .before .before .before .before .before .before .before .before .edition .given .1) _ (c .before .before .before .before .before .before .before .before .count-line2 .ensures) _ _ (c .before .before .before .before .before .before .scalars .given .1) _ (c .before .before .before .count-line3 .ensures) _ _ (c .before .locals .given .1)
+returns-4 c =
+    let at-count-line3 = c .before .before .before in
+    let at-scalars = at-count-line3 .before .before .before in
+    let at-count-line2 = at-scalars .before .before in
+    let at-edition = at-count-line2 .before .before .before in
+    let at-count-line = at-edition .before .before in
+    let start = at-count-line .before .before .before in
+    heading-found (start .args .s .now) _ (at-count-line .count-line .ensures) _ _ (at-edition .edition .given .1) _ (at-count-line2 .count-line2 .ensures) _ _ (at-scalars .scalars .given .1) _ (at-count-line3 .count-line3 .ensures) _ _ (c .before .locals .given .1)
 
 pub three-lines-spec : {M : Type 1} → statement M
 three-lines-spec =
