@@ -2,10 +2,12 @@
 -- Assumes nothing.
 use Prim.Native.Nat.{ℕ, _+_, _*_, _≤_, _<_}
 use native.Mathlib.Omega.{arith}
-use mathlib.Core.Path.{_≡_, refl, _∙_}
+use mathlib.Core.Path.{_≡_, refl, _∙_, subst}
+use mathlib.Core.Logic.{inl, inr}
 use mathlib.Core.Bool.{Bool, true, false, _&&_}
 use lib.ListN.{length, getD, set}
-use borrow.Author.Tests.{le-leb, lt-leb}
+use lib.Dec.{leb}
+use borrow.Author.Tests.{leb-true, leb-false, le-leb, lt-leb}
 use Rattle.specification.specs.Bytes.{Bytes}
 use Rattle.specification.specs.Lines.{sum, cells, firstOf}
 use Rattle.specification.specs.Place.{Place, cell, local}
@@ -20,7 +22,7 @@ use Rattle.walker.specs.Frame as frames
 use Rattle.walker.specs.Frame.{the, innerIn}
 use Rattle.walker.specs.Path.{World, InTable, bit}
 use Rattle.walker.specs.Sim.{In, Down}
-use Rattle.walker.specs.Steps.{Pushed, Leads, Listed, GoesOn, OneLeaf, Assigns, Sets, Tested}
+use Rattle.walker.specs.Steps.{Assignable, Pushed, Leads, Listed, GoesOn, OneLeaf, Assigns, Sets, Tested}
 use Rattle.walker.specs.Registers.{dueOf, errorDue, dueRegs}
 use Rattle.walker.proofs.Slots.{in-table as slot-within, alter-two}
 use Rattle.walker.proofs.Heads.{room-words}
@@ -34,6 +36,16 @@ test-true x e = record { at = x .at; son = λ c o i. let q = x .son c o i in (q 
 
 pub test-false : {w : Words} {r : Regs} {b : Bool} → Tested w r b → b ≡ false → OneLeaf w r (dueOf 17 0 0)
 test-false x e = record { at = x .at; son = λ c o i. let q = x .son c o i in (frames.failure, q .1 ∙ rw e, refl, omega arith) }
+
+-- ---- whether a slot may be assigned
+
+-- the last test, where the others do not hold
+pub by-locals : (w : Words) (inner slot : ℕ) → ¬ (inner ≡ 0) → 4096 + 2 * getD w 5184 0 ≤ slot → Assignable w inner slot (leb 5120 slot)
+by-locals w inner slot n h = go (leb 5120 slot) refl
+  where
+    go : (b : Bool) → leb 5120 slot ≡ b → Assignable w inner slot b
+    go true e = inr (inr (leb-true 5120 slot e))
+    go false e = (n, h, leb-false 5120 slot e)
 
 -- ---- an assignment, by where it stands and what is assigned
 
@@ -70,14 +82,14 @@ module _ {w : Words} {r : Regs} {slot value : ℕ} (x : Assigns w r slot value) 
       go true q = refl
       go false q = absurd (n q)
 
-  pub sets-main : r .inner ≡ 0 → Sets w r slot value
+  sets-main : r .inner ≡ 0 → Sets w r slot value
   sets-main e = sets-by (λ c o i p place inside. rw (flag-main c o i e))
 
   and-false : (m : Bool) → m && false ≡ false
   and-false true = refl
   and-false false = refl
 
-  pub sets-scalar : slot < 4096 + 2 * getD w 5184 0 → Sets w r slot value
+  sets-scalar : slot < 4096 + 2 * getD w 5184 0 → Sets w r slot value
   sets-scalar h = sets-by go
     where
       go : (c : World) (o : Bytes) (i : In c o w r) (p : Place) → slot ≡ slotOf p → InTable p → innerIn (i .fr) && isElement (c .declared) p ≡ false
@@ -86,28 +98,44 @@ module _ {w : Words} {r : Regs} {slot value : ℕ} (x : Assigns w r slot value) 
           rw (lt-leb (c .declared .scalars) k (omega arith)) (and-false (innerIn (i .fr)))
       go c o i (local l) place inside = and-false (innerIn (i .fr))
 
-  pub sets-local : 5120 ≤ slot → Sets w r slot value
+  sets-local : 5120 ≤ slot → Sets w r slot value
   sets-local h = sets-by go
     where
       go : (c : World) (o : Bytes) (i : In c o w r) (p : Place) → slot ≡ slotOf p → InTable p → innerIn (i .fr) && isElement (c .declared) p ≡ false
       go c o i (cell k) place inside = absurd (omega arith)
       go c o i (local l) place inside = and-false (innerIn (i .fr))
 
-  pub element-error : ¬ (r .inner ≡ 0) → 4096 + 2 * getD w 5184 0 ≤ slot → slot < 5120 → OneLeaf w r (errorDue 1 (r .due .head))
-  element-error n low high = record {
+  pub sets-may : {b : Bool} → Assignable w (r .inner) slot b → b ≡ true → Sets w r slot value
+  sets-may a e = go (subst (Assignable w (r .inner) slot) e a)
+    where
+      go : Assignable w (r .inner) slot true → Sets w r slot value
+      go (inl m) = sets-main m
+      go (inr (inl h)) = sets-scalar h
+      go (inr (inr h)) = sets-local h
+
+  pub element-error : {b : Bool} → Assignable w (r .inner) slot b → b ≡ false → OneLeaf w r (errorDue 1 (r .due .head))
+  element-error a e = record {
     at = x .at;
     son = λ c o i.
         let (is, p, v, tree, rest, place, word, inside, none, good) = x .son c o i in
+        let n : ¬ (r .inner ≡ 0) = elsewhere .0 in
         (frames.error 1 (r .due .head), tree ∙ rw (flag-inner c o i n, element c o i p place), (refl, refl, refl), omega arith);
   }
     where
+      elsewhere : Assignable w (r .inner) slot false
+      elsewhere = subst (Assignable w (r .inner) slot) e a
+
       element : (c : World) (o : Bytes) (i : In c o w r) (p : Place) → slot ≡ slotOf p → isElement (c .declared) p ≡ true
-      element c o i (cell k) place = let f = first-is c o i in le-leb (c .declared .scalars) k (omega arith)
-      element c o i (local l) place = absurd (omega arith)
+      element c o i (cell k) place = let f = first-is c o i in le-leb (c .declared .scalars) k (omega (arith, elsewhere .1, elsewhere .2))
+      element c o i (local l) place = absurd (omega (arith, elsewhere .1, elsewhere .2))
 
   -- the word that the code reads
-  pub assigns-few : getD w 5184 0 ≤ 512
-  assigns-few = let v = x .at in let f = first-is (v .c) (v .o) (v .ins) in let h = few-scalars (v .c) (v .o) (v .ins) in omega arith
+  pub assigns-words : (5184 < length w) × (getD w 5184 0 ≤ 512)
+  assigns-words =
+      let v = x .at in
+      let f = first-is (v .c) (v .o) (v .ins) in
+      let h = few-scalars (v .c) (v .o) (v .ins) in
+      (omega (arith, v .ins .path .size), omega arith)
 
 -- ---- the step
 

@@ -2,7 +2,8 @@
 -- after, in every world. Assumes nothing.
 use Prim.Native.Nat.{ℕ, suc, _+_, _*_, _-_, _≤_, _<_}
 use mathlib.Core.Path.{_≡_}
-use mathlib.Core.Bool.{Bool}
+use mathlib.Core.Bool.{Bool, true, false}
+use mathlib.Core.Logic.{_⊎_}
 use mathlib.Core.List.{List, _∷_}
 use lib.ListN.{length, getD}
 use lib.Dec.{T}
@@ -116,6 +117,11 @@ pub record Assigns (w : Words) (r : Regs) (slot value : ℕ) : Type 0 where
       × InTable p
       × (i .α p ≡ empty)
       × T (in32 v)
+
+-- whether the place of a slot may be assigned: in an inner tree no array element is, and array 0 begins after the scalars
+abbrev pub Assignable : Words → ℕ → ℕ → Bool → Type 0
+Assignable w inner slot true = (inner ≡ 0) ⊎ (slot < 4096 + 2 * getD w 5184 0) ⊎ (5120 ≤ slot)
+Assignable w inner slot false = (inner ≡ 0 → ⊥) × (4096 + 2 * getD w 5184 0 ≤ slot) × (slot < 5120)
 
 -- the same where the place may be assigned
 pub record Sets (w : Words) (r : Regs) (slot value : ℕ) : Type 0 where

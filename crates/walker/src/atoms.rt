@@ -1,6 +1,7 @@
 // Entering a node whose first formula is an atom.
-ghost use Prim.Native.Nat.{_+_, _*_, _≤_, _<_};
-ghost use Rattle.walker.specs.Steps.{Entered, Stepped, Assigns, Sets, Tested, KindOf, Compares};
+ghost use Prim.Native.Nat.{_≤_, _<_};
+ghost use lib.ListN.{length, getD};
+ghost use Rattle.walker.specs.Steps.{Entered, Stepped, Assignable, Assigns, Sets, Tested, KindOf, Compares};
 use crate::Regs;
 use crate::nodes;
 use crate::registers;
@@ -20,20 +21,27 @@ fn set(w: &mut [u32], r: Regs, slot: u32, value: u32) -> Regs
     registers::due(r, r.depth + 1, d, r.inner, r.bad)
 }
 
-// An `eq` with a bare side. In an inner tree no array element is assigned.
+// Whether the slot may be assigned: in an inner tree no array element is.
+fn assignable(w: &[u32], inner: u32, slot: u32) -> bool
+    requires { ⌜ (5184 < length (now w)) × (getD (now w) 5184 0 ≤ 512) ⌝ }
+    ensures { λ b. ⌜ Assignable (now (w .entry)) inner slot b ⌝ }
+{
+    if inner == 0 {
+        return true;
+    }
+    // the first element's slot: array 0 begins after the scalars
+    if slot < 4096 + 2 * nodes::word(w, 5184) {
+        return true;
+    }
+    5120 <= slot
+}
+
+// An `eq` with a bare side.
 fn assign(w: &mut [u32], r: Regs, slot: u32, value: u32) -> Regs
     requires { ⌜ Assigns (now w) r slot value ⌝ }
     ensures { λ q. ⌜ Stepped (now (w .entry)) (now (w .exit)) r q ⌝ }
 {
-    if r.inner == 0 {
-        return set(w, r, slot, value);
-    }
-    // the first element's slot: array 0 begins after the scalars
-    let first = 4096 + 2 * nodes::word(w, 5184);
-    if slot < first {
-        return set(w, r, slot, value);
-    }
-    if 5120 <= slot {
+    if assignable(w, r.inner, slot) {
         return set(w, r, slot, value);
     }
     sons::err(w, r, 1)
