@@ -10,6 +10,7 @@ mod ends;
 mod formula;
 mod given;
 mod lines;
+mod reader;
 mod stack;
 mod whole;
 mod words;
