@@ -14,7 +14,7 @@ pub struct Sides {
 
 // The results that are not used yet: the last one's tag and word, and where in the words the others end.
 pub(crate) struct Stack {
-    pub at: usize,
     pub tag: u32,
     pub value: u32,
+    pub at: usize,
 }
