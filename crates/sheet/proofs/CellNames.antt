@@ -1,18 +1,16 @@
 -- Laws of the names of given cells: a name is read with held indices, and the work words have its cell. Assumes nothing.
-use Prim.Native.Nat.{ℕ, zero, suc, _+_, _<_, _≤_, min}
+use Prim.Native.Nat.{ℕ, suc, _+_, _<_, _≤_, min}
 use mathlib.Core.Path.{_≡_, refl, sym, ap, _∙_}
 use mathlib.Core.Bool.{Bool, true, false}
-use mathlib.Core.List.{List, [], _∷_}
+use mathlib.Core.List.{List}
 use native.Mathlib.Numerals.{add-one}
-use native.Mathlib.Nat.{add-zero}
 use native.Mathlib.Omega.{arith}
 use lib.Dec.{ltb}
-use lib.ListN.{getD, take, drop, List·getD-eq-default}
-use lib.Seq.{getD-drop, take-nil}
+use lib.ListN.{getD, drop, List·getD-eq-default}
 use borrow.Author.Tests.{ltb-true, ltb-false, lt-ltb, le-ltb}
 use Rattle.specification.specs.Bytes.{Bytes, bytes, pick, point, classNumber, begins}
 use Rattle.specification.specs.Parser.{Read, refused, found, Parser, andThen, _>>=_, _>>_, give, mark}
-use Rattle.specification.specs.Lines.{index, sum, Declared, cells, firstOf, lengthOf, CellName, scalar, element, isDeclared, cellOf}
+use Rattle.specification.specs.Lines.{index, Declared, cells, firstOf, lengthOf, CellName, scalar, element, isDeclared, cellOf}
 use Rattle.specification.specs.Given.{scalarName, elementName, name}
 use Rattle.text.specs.Class.{classAt}
 use Rattle.sheet.specs.declared.lines.Index.{Index}
@@ -25,7 +23,7 @@ use Rattle.sheet.specs.Tables.{Words}
 use Rattle.sheet.specs.Answers.{mapped, heldIndex, indexRead}
 use Rattle.sheet.specs.Items.{heldName, heldNames, elementAfter, scalarIn, elementIn, Declares}
 use Rattle.sheet.proofs.NumberLines.{mapped-refused, mapped-found, exactly-yes, exactly-no, mark-yes, mark-no}
-use Rattle.sheet.proofs.ArrayLine.{first-more}
+use Rattle.specification.proofs.Laws.Elements.{first-next, first-limit, scalar-declared, element-declared}
 
 -- ---- names, of what an index is told to be
 
@@ -98,25 +96,15 @@ module _ (s : Bytes) (at : ℕ) where
 
 -- ---- cells
 
-sum-part : (ns : List ℕ) (a : ℕ) → sum (take a ns) + getD ns a 0 ≤ sum ns
-unfolding sum
-sum-part [] a = omega (arith, ap sum (take-nil a))
-sum-part (n ∷ ns) zero = omega arith
-sum-part (n ∷ ns) (suc a) = omega (arith, sum-part ns a)
-
 -- the number of a declared cell
 abbrev pub cellIn : Declared → CellName → Cell
 cellIn D n = pick (isDeclared D n) (cell.Is (cellOf D n)) cell.Undeclared
 
 module _ (D : Declared) where
-  first-next : (a : ℕ) → firstOf D (a + 1) ≡ firstOf D a + lengthOf D a
-  unfolding lengthOf
-  first-next a = rw (add-one a, first-more D a, getD-drop, add-zero a)
-
   below : (n : CellName) → isDeclared D n ≡ true → cellOf D n < cells D
-  unfolding isDeclared cellOf cells firstOf lengthOf
-  below (scalar n) h = omega (arith, ltb-true n (D .scalars) h)
-  below (element a i) h = omega (arith, ltb-true i (getD (D .arrays) a 0) h, sum-part (D .arrays) a)
+  unfolding isDeclared cellOf
+  below (scalar n) h = scalar-declared D n (ltb-true n (D .scalars) h)
+  below (element a i) h = element-declared D a i (ltb-true i (lengthOf D a) h)
 
   -- a declared cell lies among the cells
   pub cell-below : (n : CellName) (c : ℕ) → cellIn D n ≡ cell.Is c → c < cells D
@@ -132,8 +120,7 @@ module _ {D : Declared} {scalars arrays : ℕ} {w : Words} (d : Declares D scala
   scalars-few = omega (arith, d .small)
 
   length-few : (a : ℕ) → lengthOf D a ≤ 512
-  unfolding cells lengthOf
-  length-few a = omega (arith, d .small, sum-part (D .arrays) a)
+  length-few a = omega (arith, d .small, first-next D a, first-limit D (suc a))
 
   -- what the words have of an array
   module _ (a : ℕ) (l : a < arrays) where
@@ -143,7 +130,7 @@ module _ {D : Declared} {scalars arrays : ℕ} {w : Words} (d : Declares D scala
     end-held : getD w (5184 + a + 1) 0 ≡ firstOf D a + lengthOf D a
     end-held =
         let q : 5184 + a + 1 ≡ 5184 + (a + 1) = omega arith in
-        ap (λ (k : ℕ). getD w k 0) q ∙ d .held (a + 1) (omega (arith, d .few)) ∙ first-next D a
+        ap (λ (k : ℕ). getD w k 0) q ∙ d .held (a + 1) (omega (arith, d .few)) ∙ rw (add-one a) (first-next D a)
 
   none-beyond : (b : ℕ) → arrays ≤ b → (j : ℕ) → ltb j (lengthOf D b) ≡ false
   unfolding lengthOf

@@ -1,12 +1,11 @@
 -- The formula's line from its parts: the key, the tokens, a line feed and the sheet's end. Assumes nothing.
-use Prim.Native.Nat.{ℕ, suc, _+_, _<_, _≤_}
+use Prim.Native.Nat.{ℕ, _+_, _<_, _≤_}
 use native.Mathlib.Omega.{arith}
 use mathlib.Core.Path.{_≡_, sym, ap, _∙_}
-use mathlib.Core.Bool.{Bool, true, false, _&&_}
-use mathlib.Core.List.{List, [], _∷_}
+use mathlib.Core.Bool.{true, false}
+use mathlib.Core.List.{List, []}
 use lib.ListN.{length, drop, drop-of-length-le}
 use lib.Seq.{drop-cons, drop-drop}
-use lib.Dec.{eqb}
 use Rattle.specification.specs.Bytes.{Bytes, bytes, feed, classNumber, begins}
 use Rattle.specification.specs.Parser.{Reader, Read, refused, found, give, andThen, _>>_, past, mark, exactly, finish}
 use Rattle.specification.specs.Lines.{Declared}
@@ -24,21 +23,11 @@ use Rattle.sheet.specs.Tables.{Words, laidEnds}
 use Rattle.sheet.specs.Ends.{tokensIn}
 use Rattle.sheet.specs.FormulaLine.{formulaRest, Counts, whole, Through, Scans, Laid}
 use Rattle.sheet.proofs.Left.{left-formula}
-use Rattle.sheet.proofs.Laid.{tokens-length}
+use Rattle.sheet.proofs.Laid.{tokens-length, ends-length}
 use Rattle.sheet.proofs.Beside.{beside-ends}
-use Rattle.sheet.proofs.Subtrees.{ends-length, beside-tokens-in}
+use Rattle.sheet.proofs.Subtrees.{beside-tokens-in}
 
 -- ---- the key
-
-pub begins-long : (k bs : Bytes) → begins k bs ≡ true → length k ≤ length bs
-unfolding begins
-begins-long [] bs e = omega arith
-begins-long (x ∷ k) [] e = let z : _≡_ {A = ℕ} 0 1 = cc in absurd (omega arith)
-begins-long (x ∷ k) (b ∷ bs) e = by (eqb x b) (begins-long k bs) e
-  where
-    by : (t : Bool) → (begins k bs ≡ true → length k ≤ length bs) → (t && begins k bs) ≡ true → suc (length k) ≤ suc (length bs)
-    by true h e = omega (arith, h e)
-    by false h e = let z : _≡_ {A = ℕ} 0 1 = cc in absurd (omega arith)
 
 -- ---- the formula, from its tokens
 

@@ -58,7 +58,7 @@ module _ (key v : Bytes) (i : ℕ) where
   unfolding begins
   key-done l = rw (drop-of-length-le key l)
 
-begins-long : (k bs : Bytes) → begins k bs ≡ true → length k ≤ length bs
+pub begins-long : (k bs : Bytes) → begins k bs ≡ true → length k ≤ length bs
 unfolding begins
 begins-long [] bs p = omega arith
 begins-long (k ∷ ks) [] p = let z : _≡_ {A = ℕ} 0 1 = cc in omega arith

@@ -18,7 +18,7 @@ use Rattle.sheet.specs.Held.{codeAt, operandAt, endAt}
 use Rattle.sheet.specs.Stack.{Beside}
 use Rattle.sheet.specs.Ends.{tokensIn, endIn, EndsAfter, endFrom}
 use Rattle.sheet.proofs.Ranges.{inside, under, over}
-use Rattle.sheet.proofs.After.{after-none, after-add}
+use Rattle.sheet.proofs.After.{after-none, after-add, after-length, after-drop}
 use Rattle.sheet.proofs.Laid.{tokens-other, ends-other}
 
 -- ---- arities by ranges of codes
@@ -107,22 +107,6 @@ beside-tokens-in ts w w′ h l b =
 
 -- ---- one subtree
 
--- what is after subtrees is the end of the tokens
-after-le : (ts : List Token) (n : ℕ) → length (after ts n) ≤ length ts
-unfolding after
-after-le [] n = omega arith
-after-le (t ∷ ts) zero = omega arith
-after-le (t ∷ ts) (suc n) = omega (arith, after-le ts (arity (t .code) + n))
-
-after-drop : (ts : List Token) (n : ℕ) → after ts n ≡ drop (length ts - length (after ts n)) ts
-unfolding after
-after-drop [] n = refl
-after-drop (t ∷ ts) zero = let e : suc (length ts) - suc (length ts) ≡ 0 = omega arith in rw e
-after-drop (t ∷ ts) (suc n) =
-    let k = after ts (arity (t .code) + n) in
-    let e : suc (length ts) - length k ≡ suc (length ts - length k) = omega (arith, after-le ts (arity (t .code) + n)) in
-    rw e (after-drop ts (arity (t .code) + n))
-
 abbrev none : Token
 none = token 0 0
 
@@ -139,13 +123,13 @@ module _ (ts : List Token) where
   unfolding endIn
   end-drop i h =
       let k = length (after (drop i ts) 1) in
-      let e : i + (length ts - i - k) ≡ length ts - k = omega (arith, after-le (drop i ts) 1, length-drop i ts) in
-      after-drop (drop i ts) 1 ∙ rw (length-drop i ts, drop-drop, e)
+      let e : i + (length ts - i - k) ≡ length ts - k = omega (arith, after-length (drop i ts) 1, length-drop i ts) in
+      sym (after-drop (drop i ts) 1) ∙ rw (length-drop i ts, drop-drop, e)
 
   end-past : (i : ℕ) → i < length ts → (i < endIn ts i) × (endIn ts i ≤ length ts)
   unfolding endIn
   end-past i h =
-      let a : length (after (drop i ts) 1) ≤ length ts - suc i = rw (after-one i h) (omega (arith, after-le (drop (suc i) ts) (arity (getD ts i none .code)), length-drop (suc i) ts)) in
+      let a : length (after (drop i ts) 1) ≤ length ts - suc i = rw (after-one i h) (omega (arith, after-length (drop (suc i) ts) (arity (getD ts i none .code)), length-drop (suc i) ts)) in
       (omega arith, omega arith)
 
   -- the subtree of i ends k subtrees behind e
@@ -205,11 +189,6 @@ module _ (w : Words) (n : ℕ) where
 
 ends-in : (k : ℕ) (us : List Token) (w : Words) (n : ℕ) → tokensIn (laidEnds k us w) 0 n ≡ tokensIn w 0 n
 ends-in k us w n = tokens-in-same w (laidEnds k us w) 0 n (λ j a b. (ends-other (4 * j) k us w (λ m p q. omega arith), ends-other (4 * j + 1) k us w (λ m p q. omega arith)))
-
-pub ends-length : (i : ℕ) (ts : List Token) (w : Words) → length (laidEnds i ts w) ≡ length w
-unfolding laidEnds
-ends-length i [] w = refl
-ends-length i (t ∷ ts) w = ends-length (suc i) ts (set w (4 * i + 2) (suc i + length ts - length (after ts (arity (t .code))))) ∙ simp length-set
 
 ends-set : (ts : List Token) (k j v : ℕ) (w : Words) → j < k → laidEnds k ts (set w (4 * j + 2) v) ≡ set (laidEnds k ts w) (4 * j + 2) v
 unfolding laidEnds

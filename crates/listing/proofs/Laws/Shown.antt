@@ -5,11 +5,12 @@ use native.Mathlib.Omega.{arith}
 use native.Mathlib.Numerals.{add-one}
 use mathlib.Core.Path.{_≡_, refl, sym, _∙_, ap}
 use mathlib.Core.List.{List, [], _∷_, _++_}
-use lib.ListN.{length, getD, take, drop, drop-of-length-le}
+use lib.ListN.{length, getD, drop, drop-of-length-le}
 use lib.Seq.{drop-cons, sets-eq}
 use borrow.Author.Tests.{eq-eqb, ne-eqb}
 use Rattle.specification.specs.Bytes.{Bytes}
-use Rattle.specification.specs.Lines.{Declared, CellName, scalar, element, sum, cells, firstOf, cellOf}
+use Rattle.specification.proofs.Laws.Elements.{first-next, first-limit}
+use Rattle.specification.specs.Lines.{lengthOf, Declared, CellName, scalar, element, cells, firstOf, cellOf}
 use Rattle.specification.specs.Place.{cell}
 use Rattle.specification.specs.Value.{Slot, empty, full, Valuation}
 use Rattle.specification.specs.Listing.{Named, namedIf, valued, scalarNames, elementNames, arrayNames, cellNames, blockOf}
@@ -27,31 +28,10 @@ use Rattle.listing.specs.Block.{Shows, Wrote}
 
 -- ---- the arrays' cells
 
-sum-next : (xs : List ℕ) (a : ℕ) → sum (take (a + 1) xs) ≡ sum (take a xs) + getD xs a 0
-unfolding sum
-sum-next xs a = rw add-one (go xs a)
-  where
-    go : (xs : List ℕ) (a : ℕ) → sum (take (suc a) xs) ≡ sum (take a xs) + getD xs a 0
-    go [] zero = refl
-    go [] (suc a) = refl
-    go (x ∷ xs) zero = omega arith
-    go (x ∷ xs) (suc a) = omega (arith, go xs a)
-
-sum-part : (xs : List ℕ) (a : ℕ) → sum (take a xs) ≤ sum xs
-unfolding sum
-sum-part [] zero = omega arith
-sum-part [] (suc a) = omega arith
-sum-part (x ∷ xs) zero = omega arith
-sum-part (x ∷ xs) (suc a) = omega (arith, sum-part xs a)
-
-module _ (D : Declared) where
-  first-next : (a : ℕ) → firstOf D (a + 1) ≡ firstOf D a + getD (D .arrays) a 0
-  unfolding firstOf
-  first-next a = omega (arith, sum-next (D .arrays) a)
-
-  first-limit : (a : ℕ) → firstOf D a ≤ cells D
-  unfolding firstOf cells
-  first-limit a = omega (arith, sum-part (D .arrays) a)
+-- as the code has the next array's number
+first-after : (D : Declared) (a : ℕ) → firstOf D (a + 1) ≡ firstOf D a + getD (D .arrays) a 0
+unfolding lengthOf
+first-after D a = rw (add-one a) (first-next D a)
 
 -- ---- the lines of the cells
 
@@ -69,7 +49,7 @@ module _ {w : Words} {scalars arrays : ℕ} {D : Declared} {β : Valuation} (s :
             let k = s .few in
             let e = s .firsts (a + 1) (omega arith) in
             record {
-              rising = omega (arith, s .firsts a (omega arith), first-next D a);
+              rising = omega (arith, s .firsts a (omega arith), first-after D a);
               limit = omega (arith, first-limit D (a + 1), s .limit);
             };
       }
@@ -117,9 +97,9 @@ module _ {w : Words} {scalars arrays : ℕ} {D : Declared} {β : Valuation} (s :
   one-array : (a n : ℕ) → a < 16 → n ≡ getD (D .arrays) a 0 → cellLines (valued D β (elementNames a 0 n)) ≡ arrayLines w a
   one-array a n h e =
       let f = s .firsts a (omega arith) in
-      let g = s .firsts (a + 1) (omega arith) ∙ first-next D a in
+      let g = s .firsts (a + 1) (omega arith) ∙ first-after D a in
       let d : n ≡ firstAt w (a + 1) - firstAt w a = omega (arith, f, g) in
-      element-lines a 0 n (omega (arith, first-next D a, first-limit D (a + 1), s .limit)) ∙
+      element-lines a 0 n (omega (arith, first-after D a, first-limit D (a + 1), s .limit)) ∙
       ap (λ k. eachLine (elementLine w a (firstOf D a)) 0 k) d ∙
       ap (λ k. eachLine (elementLine w a k) 0 (firstAt w (a + 1) - firstAt w a)) (sym f)
 

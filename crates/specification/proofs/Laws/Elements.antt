@@ -1,6 +1,8 @@
--- The cells of declared scalars and of elements inside declared arrays are declared, and an element's cell is one. Assumes nothing.
-use Prim.Native.Nat.{ℕ, zero, suc, _+_, _<_}
+-- Where arrays begin and end. The cells of declared scalars and of elements inside declared arrays are declared, and an element's cell is one.
+-- Assumes nothing.
+use Prim.Native.Nat.{ℕ, zero, suc, _+_, _≤_, _<_}
 use native.Mathlib.Omega.{arith}
+use mathlib.Core.Path.{_≡_, refl}
 use mathlib.Core.List.{List, [], _∷_}
 use lib.ListN.{take, getD}
 use lib.Dec.{T, le→leb}
@@ -15,7 +17,30 @@ sum-take a i [] h = absurd (omega arith)
 sum-take zero i (n ∷ ns) h = omega arith
 sum-take (suc a) i (n ∷ ns) h = let r = sum-take a i ns h in omega arith
 
+sum-next : (ns : List ℕ) (a : ℕ) → sum (take (suc a) ns) ≡ sum (take a ns) + getD ns a 0
+unfolding sum
+sum-next [] zero = refl
+sum-next [] (suc a) = refl
+sum-next (n ∷ ns) zero = omega arith
+sum-next (n ∷ ns) (suc a) = omega (arith, sum-next ns a)
+
+sum-part : (ns : List ℕ) (a : ℕ) → sum (take a ns) ≤ sum ns
+unfolding sum
+sum-part [] zero = omega arith
+sum-part [] (suc a) = omega arith
+sum-part (n ∷ ns) zero = omega arith
+sum-part (n ∷ ns) (suc a) = omega (arith, sum-part ns a)
+
 module _ (D : Declared) where
+  -- an array ends where the next begins, and none beyond the cells
+  pub first-next : (a : ℕ) → firstOf D (suc a) ≡ firstOf D a + lengthOf D a
+  unfolding firstOf lengthOf
+  first-next a = omega (arith, sum-next (D .arrays) a)
+
+  pub first-limit : (a : ℕ) → firstOf D a ≤ cells D
+  unfolding firstOf cells
+  first-limit a = omega (arith, sum-part (D .arrays) a)
+
   pub scalar-declared : (c : ℕ) → c < D .scalars → c < cells D
   unfolding cells
   scalar-declared c h = omega arith

@@ -1,15 +1,15 @@
 -- Elements of arrays: where an array begins and ends among the cells, and an element from what the code tested. Assumes nothing.
-use Prim.Native.Nat.{ℕ, zero, suc, _+_, _-_, _*_, _<_, _≤_}
+use Prim.Native.Nat.{ℕ, suc, _+_, _-_, _*_, _<_, _≤_}
 use native.Mathlib.Omega.{arith}
 use native.Mathlib.Numerals.{add-one}
 use mathlib.Core.Path.{_≡_, sym, _∙_}
-use mathlib.Core.List.{List, [], _∷_}
 use borrow.Author.Tests.{lt-ltb, le-ltb}
-use lib.ListN.{length, getD, take}
+use lib.ListN.{length, getD}
 use lib.IntN.{ℤ, pos, negsuc}
-use Rattle.specification.specs.Lines.{Declared, sum, cells, firstOf, lengthOf}
+use Rattle.specification.specs.Lines.{Declared, cells, firstOf, lengthOf}
 use Rattle.specification.specs.Place.{cell}
 use Rattle.specification.specs.Value.{Valuation, val, bare, err, elementSide}
+use Rattle.specification.proofs.Laws.Elements.{first-next, first-limit}
 use Rattle.values.specs.Word.{biased}
 use Rattle.sheet.specs.Tables.{Words}
 use Rattle.terms.specs.declared.Stack.{Stack}
@@ -18,41 +18,19 @@ use Rattle.terms.specs.Machine.{Context, Element, Elements}
 
 -- ---- where arrays stand
 
-sum-next : (ns : List ℕ) (a : ℕ) → a < length ns → sum (take (suc a) ns) ≡ sum (take a ns) + getD ns a 0
-unfolding sum
-sum-next [] a h = absurd (omega arith)
-sum-next (n ∷ ns) zero h = omega arith
-sum-next (n ∷ ns) (suc a) h = let e = sum-next ns a (omega arith) in omega arith
-
-sum-part : (ns : List ℕ) (a : ℕ) → sum (take a ns) ≤ sum ns
-unfolding sum
-sum-part [] zero = omega arith
-sum-part [] (suc a) = omega arith
-sum-part (n ∷ ns) zero = omega arith
-sum-part (n ∷ ns) (suc a) = omega (arith, sum-part ns a)
-
-module _ (D : Declared) (a : ℕ) where
-  pub first-next : a < length (D .arrays) → firstOf D (suc a) ≡ firstOf D a + lengthOf D a
-  unfolding firstOf lengthOf
-  first-next h = omega (arith, sum-next (D .arrays) a h)
-
-  pub first-below : firstOf D a ≤ cells D
-  unfolding firstOf cells
-  first-below = omega (arith, sum-part (D .arrays) a)
-
 module _ {w : Words} {D : Declared} {α : Valuation} (c : Context w D α) (a : ℕ) (declared : a < length (D .arrays)) where
   pub first-at : getD w (5184 + a) 0 ≡ firstOf D a
   first-at = c .arrays a (omega (arith, c .few))
 
   pub next-at : getD w (5184 + (a + 1)) 0 ≡ firstOf D a + lengthOf D a
-  next-at = rw add-one (c .arrays (suc a) (omega (arith, c .few)) ∙ first-next D a declared)
+  next-at = rw add-one (c .arrays (suc a) (omega (arith, c .few)) ∙ first-next D a)
 
   pub elements : Elements w a
   elements =
       record {
         number = omega (arith, c .few);
         rising = omega (arith, first-at, next-at);
-        last = rw add-one (omega (arith, c .arrays (suc a) (omega (arith, c .few)), first-below D (suc a), c .cells));
+        last = rw add-one (omega (arith, c .arrays (suc a) (omega (arith, c .few)), first-limit D (suc a), c .cells));
         size = c .size;
       }
 
@@ -104,7 +82,7 @@ module _ {w : Words} {a : ℕ} {s : Stack} where
             let from = first-at c a d in
             let to = next-at c a d in
             let here = firstOf D a + n in
-            let below : here < 512 = omega (arith, first-below D (suc a), first-next D a d, c .cells) in
+            let below : here < 512 = omega (arith, first-limit D (suc a), first-next D a, c .cells) in
             let slot : 4096 + 2 * here ≡ 4096 + 2 * (first + (s .value - 2147483648)) = omega arith in
             rw (lt-ltb n (lengthOf D a) (omega arith)) (h (cell here) (α (cell here)) slot (rw (sym slot) (c .holds .cells here below)))
         go D α (negsuc n) c d e = absurd (omega arith)

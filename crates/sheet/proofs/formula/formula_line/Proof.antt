@@ -9,7 +9,8 @@ use Rattle.specification.specs.Bytes.{bytes, begins}
 use Rattle.specification.specs.Parser.{refused}
 use Rattle.specification.specs.Lines.{Declared}
 use Rattle.sheet.specs.FormulaLine.{Counts, whole, Through}
-use Rattle.sheet.proofs.FormulaRest.{begins-long, line-no-key, line-refused, scans-refused, scans-read, through-no-feed, through-more, through-long, through-end}
+use Rattle.sheet.proofs.NumberLines.{begins-long}
+use Rattle.sheet.proofs.FormulaRest.{line-no-key, line-refused, scans-refused, scans-read, through-no-feed, through-more, through-long, through-end}
 use borrow.Author.Needs.{needs}
 use Rattle.sheet.proofs.formula.formula_line.Statement.{statement}
 use Rattle.sheet.proofs.formula.formula_line.Tie as tie
