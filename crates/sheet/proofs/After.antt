@@ -2,10 +2,10 @@
 use Prim.Native.Nat.{ℕ, zero, suc, _+_, _-_, _≤_}
 use native.Mathlib.Nat.{zero-add, suc-add, add-assoc}
 use native.Mathlib.Omega.{arith}
-use mathlib.Core.Path.{_≡_, refl, sym, _∙_, ap}
+use mathlib.Core.Path.{_≡_, refl, _∙_, ap}
 use mathlib.Core.List.{List, [], _∷_, _++_, append-assoc}
-use lib.ListN.{length, drop, length-drop}
-use lib.Seq.{drop-nil, drop-drop}
+use lib.ListN.{length, drop}
+use lib.Seq.{drop-nil}
 use Rattle.specification.specs.Ast.{Op, add, sub, mul, div, modulo, Rel, ne, lt, le, gt, ge, Term, constant, scalarAt, localAt, elementAt, apply, Formula, truth, and, or, imp, neg, eq, compare, ex, some, all}
 use Rattle.values.specs.Word.{biased}
 use Rattle.sheet.specs.declared.Token.{Token}
@@ -100,12 +100,6 @@ formula-subtree (all n l a b F) = range 14 l a b (formulaTokens F) refl (formula
 pub after-subtree : (xs rest : List Token) → Subtrees 1 xs → after (xs ++ rest) 1 ≡ rest
 after-subtree xs rest h = h rest 0 ∙ after-none rest
 
-pub after-term : (t : Term) (rest : List Token) → after (termTokens t ++ rest) 1 ≡ rest
-after-term t rest = after-subtree (termTokens t) rest (term-subtree t)
-
-pub after-formula : (F : Formula) (rest : List Token) → after (formulaTokens F ++ rest) 1 ≡ rest
-after-formula F rest = after-subtree (formulaTokens F) rest (formula-subtree F)
-
 -- ---- by numbers: what is left is an end of the list
 
 pub after-length : (ts : List Token) (n : ℕ) → length (after ts n) ≤ length ts
@@ -122,11 +116,3 @@ after-drop (t ∷ ts) (suc n) =
     let m = arity (t .code) + n in
     let e : suc (length ts) - length (after ts m) ≡ suc (length ts - length (after ts m)) = omega (arith, after-length ts m) in
     rw e (after-drop ts m)
-
--- of the tokens us, those after n subtrees from token j on, found by the number of the first of them
-pub after-at : (us : List Token) (j n : ℕ) → j ≤ length us → drop (length us - length (after (drop j us) n)) us ≡ after (drop j us) n
-after-at us j n h =
-    let b = length (after (drop j us) n) in
-    let l = after-length (drop j us) n in
-    let e : length us - b ≡ j + (length (drop j us) - b) = omega (arith, length-drop j us) in
-    rw e (sym (drop-drop (length (drop j us) - b) j us) ∙ after-drop (drop j us) n)

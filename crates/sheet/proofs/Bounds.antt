@@ -69,10 +69,6 @@ unfolding weights
 length-weights [] = omega arith
 length-weights (d ∷ ds) = omega (arith, some-weight d, length-weights ds)
 
-pub fits-room : (d : Due) (ds : List Due) → Fits (d ∷ ds) → room d ≤ 64
-unfolding Fits weights
-fits-room d ds f = omega (arith, some-weight d)
-
 pub fits-length : (ds : List Due) → Fits ds → length ds ≤ 129
 unfolding Fits
 fits-length [] f = omega arith

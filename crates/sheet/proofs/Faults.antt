@@ -15,7 +15,7 @@ use Rattle.sheet.specs.declared.formula.Limits.{Limits}
 use Rattle.sheet.specs.Dues.{Due, dueFormula, dueTerm, dueEx, dueRange}
 use Rattle.sheet.specs.Turn.{room, suits, declared, placed, faultOf, binds}
 use Rattle.sheet.specs.Stack.{sortOf, scopeOf}
-use Rattle.sheet.specs.FormulaLine.{Small, Counts, counted, refusalOf}
+use Rattle.sheet.specs.FormulaLine.{Counts, counted, refusalOf}
 
 -- ---- by the number of the sort
 
@@ -44,16 +44,6 @@ binds-local (dueEx k S) t B h = refl
 binds-local (dueRange k S) t B h = refl
 
 -- ---- what is declared
-
--- the numbers decide
-pub counts-counted : (l : Limits) → Small l → Counts l (counted l)
-counts-counted l s = record {
-  edition = refl;
-  scalars = refl;
-  locals = refl;
-  arrays = length-replicate (l .arrays) 0;
-  limited = record { scalars = s .scalars; locals = s .locals; arrays = rw length-replicate (s .arrays) };
-}
 
 module _ {l : Limits} {D : Declared} (g : Counts l D) where
   declared-counted : (t : Token) → declared D t ≡ declared (counted l) t

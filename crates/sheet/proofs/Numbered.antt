@@ -4,12 +4,12 @@ use native.Mathlib.Omega.{arith}
 use mathlib.Core.Path.{_≡_, refl, subst}
 use mathlib.Core.List.{_∷_, _++_}
 use lib.ListN.{length, length-append}
-use Rattle.specification.specs.Parser.{Reader, found, Parser, give, _>>=_}
+use Rattle.specification.specs.Parser.{Reader, Parser, give, _>>=_}
 use Rattle.specification.specs.Lines.{Declared}
 use Rattle.specification.specs.Ast.{Term, Formula, and, or, imp, eq, compare, some, all}
 use Rattle.specification.specs.Words.{FormulaWord, trueWord, andWord, orWord, impWord, notWord, eqWord, exWord, someWord, allWord, relWord, Word, formulaWord, termWord, unknown}
 use Rattle.specification.specs.Formula.{Token, operand, Locals, binder, term, formulaOf, formulaWith, formula}
-use Rattle.specification.proofs.Laws.Parser.{Post, refusal, holds, of-found, bind-post}
+use Rattle.specification.proofs.Laws.Parser.{Post, refusal, holds, bind-post}
 use Rattle.sheet.specs.Codes.{termTokens, formulaTokens}
 use Rattle.sheet.specs.Numbered.{termSize, formulaSize, Numbered}
 use Rattle.sheet.proofs.Counted.{Counted, Counting, operand-counts, token-counts, term-operand-counts, local-operand-counts}
@@ -106,8 +106,3 @@ module _ (D : Declared) where
   formula-counts (suc k) S r =
       bind-post (token-counts (D .edition) r) λ t r₁ h.
       formula-with D k (λ S′ r′. formula-counts k S′ r′) S (r .tokens) r₁ (h .1) t (t .word) (h .0)
-
-  -- its numbers, and how many tokens it has
-  pub read-numbered : (k : ℕ) (S : Locals) (r r′ : Reader) (F : Formula) → formula D k S r ≡ found F r′ →
-      Numbered (r .tokens) F × Counted (r .tokens) (formulaSize F) (r′ .tokens)
-  read-numbered k S r r′ F e = of-found (formula-counts k S r) e

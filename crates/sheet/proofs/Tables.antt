@@ -102,16 +102,6 @@ module _ (s : Sheet) (n : ℕ) (enough : 6144 ≤ n) (few : formulaSize (s .form
     pub rest-zero : (j : ℕ) → 5201 ≤ j → getD (tables s n) j 0 ≡ 0
     rest-zero j l = above j (omega arith) ∙ zero-base j (λ c x. (omega arith, omega arith)) (λ m x. omega arith)
 
-    -- the words of a token that is not there, and the spare word of each token
-    pub beyond-zero : (j : ℕ) → 4 * formulaSize (s .formula) ≤ j → j < 4096 → getD (tables s n) j 0 ≡ 0
-    beyond-zero j l h =
-        beside j (λ m x. (omega arith, omega arith, omega arith)) ∙ zero-base j (λ c x. (omega arith, omega arith)) (λ m x. omega arith)
-
-    pub spare-zero : (m : ℕ) → m < 1024 → getD (tables s n) (4 * m + 3) 0 ≡ 0
-    spare-zero m h =
-        beside (4 * m + 3) (λ k x. (omega arith, omega arith, omega arith)) ∙
-        zero-base (4 * m + 3) (λ c x. (omega arith, omega arith)) (λ k x. omega arith)
-
     -- ---- the start valuation
 
     pub start-held : Holds (tables s n) (start (s .given))

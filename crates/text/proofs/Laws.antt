@@ -2,4 +2,3 @@
 pub mod Class
 pub mod Run
 pub mod Decimal
-pub mod Result

@@ -26,15 +26,6 @@ module _ {c : World} {w : Words} {d : ℕ} {α : Valuation} (Q : List Frame → 
   wrong : {f : Frame} {fr : List Frame} (u v : ℕ) → Path c w d α (f ∷ fr) → todoAt w (len fr) ≡ u → todoAt w (d - 1) ≡ v → ¬ (u ≡ v) → Q (f ∷ fr)
   wrong u v P e h n = absurd (n (sym e ∙ ap (todoAt w) (sym (top-index P)) ∙ h))
 
-  pub top-pass : todoAt w (d - 1) ≡ 0 →
-      ((β : Valuation) (fr : List Frame) → Path c w d α (pass β ∷ fr) → Q (pass β ∷ fr)) → (fr : List Frame) → Path c w d α fr → Q fr
-  top-pass h k [] P = nothing P
-  top-pass h k (pass β ∷ fr) P = k β fr P
-  top-pass h k (other G is β ∷ fr) P = wrong 1 0 P (P .stack .0 .0) h (λ z. omega arith)
-  top-pass h k (undo p s β ∷ fr) P = wrong 2 0 P (P .stack .0 .0) h (λ z. omega arith)
-  top-pass h k (range l x i n F is β ∷ fr) P = wrong 3 0 P (P .stack .0 .0) h (λ z. omega arith)
-  top-pass h k (asks tok q is β e ∷ fr) P = wrong 4 0 P (P .stack .0 .0) h (λ z. omega arith)
-
   pub top-other : todoAt w (d - 1) ≡ 1 →
       ((G : Formula) (is : List Item) (β : Valuation) (fr : List Frame) → Path c w d α (other G is β ∷ fr) → Q (other G is β ∷ fr)) →
       (fr : List Frame) → Path c w d α fr → Q fr

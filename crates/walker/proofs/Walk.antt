@@ -1,7 +1,7 @@
 -- The walk is the scan of the tree's visits, in the main tree and in an inner tree. So a run is a walk, and a walk may go on from an inner
 -- tree by what it has seen there, in place of its verdict. Assumes nothing.
 use Prim.Native.Nat.{ℕ, zero, suc}
-use mathlib.Core.Path.{_≡_, refl, sym, _∙_, ap, fun-ext}
+use mathlib.Core.Path.{_≡_, refl, sym, _∙_, ap}
 use mathlib.Core.Bool.{Bool, true, false}
 use mathlib.Core.List.{List, [], _∷_}
 use Rattle.specification.specs.declared.Setting.{Setting}
@@ -12,28 +12,15 @@ use Rattle.specification.specs.Sheet.{Sheet}
 use Rattle.specification.specs.Inner.{Tree, successLeaf, failureLeaf, errorLeaf, step, fork, fan, ask, Verdict, succeeds, join, joined, verdict}
 use Rattle.specification.specs.Tree.{treeOf}
 use Rattle.specification.specs.Visits.{node, Visit, at, _then_, each, inside, visits}
-use Rattle.specification.specs.Run.{tallies, addNode, Run, going, stopped}
+use Rattle.specification.specs.Run.{tallies, Run, going, stopped}
 use Rattle.specification.specs.Outcome.{start, visitsOf, runOf}
 use Rattle.walker.specs.Walk.{Next, onto, flagged, gated, sonsFrom, within, walk}
 use Rattle.walker.proofs.Answers.{answered-visits}
-use Rattle.walker.proofs.Continuation.{choose, after, seen, seen-nil, seen-node, seen-inside, after-fails, by-flags, through, through-nil, through-then, through-leaf, through-node, through-both}
+use Rattle.walker.proofs.Continuation.{after, seen, seen-nil, seen-node, seen-inside, after-fails, by-flags, through, through-nil, through-then, through-leaf, through-node, through-both}
 
 -- ---- equal continuations
 
 module _ (D : Declared) (S : Setting) (size : ℕ) where
-  pub gated-same : (d : ℕ) (k k′ : Next) → ((t : Tallies) (w : Bytes) → k t w ≡ k′ t w) →
-      (t : Tallies) (w : Bytes) → gated D S size d k t w ≡ gated D S size d k′ t w
-  unfolding gated
-  gated-same d k k′ h t w = rw (h (addNode t) w)
-
-  pub within-same : (m : Bool) (d : ℕ) (T : Tree) (y y′ : Next) (k k′ : Bool → Next) →
-      ((t : Tallies) (w : Bytes) → y t w ≡ y′ t w) → ((e : Bool) (t : Tallies) (w : Bytes) → k e t w ≡ k′ e t w) →
-      (e : Bool) (t : Tallies) (w : Bytes) → within D S size m d T y k e t w ≡ within D S size m d T y′ k′ e t w
-  within-same m d T y y′ k k′ h g e t w =
-      let p : y ≡ y′ = fun-ext (λ t. fun-ext (λ w. h t w)) in
-      let q : k ≡ k′ = fun-ext (λ e. fun-ext (λ t. fun-ext (λ w. g e t w))) in
-      cc
-
   -- ---- the walk of a tree is the scan of its visits
 
   abbrev Scans : Bool → ℕ → Tree → Type 0
@@ -90,9 +77,6 @@ module _ (D : Declared) (S : Setting) (size : ℕ) where
   module _ (d : ℕ) (T : Tree) (y : Next) (k : Bool → Next) (e : Bool) (t : Tallies) (w : Bytes) where
     pub walk-main : walk D S size false d T y k e t w ≡ through D S size (k e) (visits d T) t w
     walk-main = ap (λ r. r t w) (scans false T d y k e)
-
-    pub walk-inner : walk D S size true d T y k e t w ≡ through D S size (choose (verdict T) y k e) (inside (visits d T)) t w
-    walk-inner = ap (λ r. r t w) (scans true T d y k e)
 
   -- the son of a node of `not` or `imp` may be chosen after its inner tree, by what was seen there
   pub within-ask : (I : Tree) (son : Verdict → Tree) (m : Bool) (d : ℕ) (y : Next) (k : Bool → Next) (e : Bool) (t : Tallies) (w : Bytes) →

@@ -13,7 +13,7 @@ use Rattle.walker.specs.Registers.{leafRegs}
 abbrev pub HeadDue : Regs → Type 0
 HeadDue r = r .tallies .answers + r .tallies .errors + r .tallies .fails < 4294967295
 
--- job 3 an answer, else an error
+-- a success leaf has an answer, another leaf an error
 unfoldable pub headDue : Regs → Head
 headDue r = pick (eqb (r .due .job) 16) (Answer (suc (r .tallies .answers))) (Error (suc (r .tallies .errors)) (r .due .rest) (r .due .head))
 

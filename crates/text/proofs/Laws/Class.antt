@@ -97,27 +97,16 @@ module _ (s : Bytes) (at : ℕ) where
   unfolding classAt
   next-class c = next-head c (drop at s)
 
-  pub ended-class : ended (drop at s) ≡ eqb (classAt s at) 10
-  unfolding classAt
-  ended-class = ended-head (drop at s)
-
   pub class-next : (c : Class) → classAt s at ≡ classNumber c → next c (drop at s) ≡ true
   class-next c e = next-class c ∙ eq-eqb _ _ (sym e)
 
   pub class-not-next : (c : Class) → (classAt s at ≡ classNumber c → ⊥) → next c (drop at s) ≡ false
   class-not-next c h = next-class c ∙ ne-eqb _ _ (λ e. h (sym e))
 
-  pub next-has-class : (c : Class) → next c (drop at s) ≡ true → classAt s at ≡ classNumber c
-  next-has-class c e = sym (eqb-true _ _ (sym (next-class c) ∙ e))
-
   -- a class that is not the end's stands inside
   pub class-inside : (c : Class) → classAt s at ≡ classNumber c → at < length s
   unfolding classAt
   class-inside c e = omega (arith, head-long (drop at s) (omega (arith, number-lt c)), length-drop at s)
-
-  pub class-end : classAt s at ≡ 10 → drop at s ≡ []
-  unfolding classAt
-  class-end e = head-none (drop at s) e
 
   pub end-class : drop at s ≡ [] → classAt s at ≡ 10
   unfolding classAt

@@ -1,13 +1,13 @@
 -- Laws of runs: how a run from a place grows byte by byte, and, where r is the place after it, that r is within the sheet and
 -- which part of the sheet the run is. Assumes nothing.
 use Prim.Native.Nat.{ℕ, suc, _+_, _-_, _<_, _≤_}
-use mathlib.Core.Path.{_≡_, refl, sym, ap, _∙_}
+use mathlib.Core.Path.{_≡_, refl, ap, _∙_}
 use mathlib.Core.Bool.{Bool, true, false}
 use mathlib.Core.List.{[], _∷_}
 use native.Mathlib.Numerals.{add-one}
 use native.Mathlib.Omega.{arith}
 use lib.ListN.{length, getD, take, drop, drop-of-length-le, length-drop}
-use lib.Seq.{drop-cons, drop-drop}
+use lib.Seq.{drop-cons}
 use Rattle.specification.specs.Bytes.{Bytes, pick, run}
 
 module _ (f : ℕ → Bool) where
@@ -59,7 +59,3 @@ module _ (f : ℕ → Bool) where
     end-part =
         let e : r - at ≡ length (run f (drop at s)) = omega arith in
         ap (λ (n : ℕ). take n (drop at s)) e ∙ run-first (drop at s)
-
-    -- the sheet after the run
-    pub end-rest : drop r s ≡ drop (length (run f (drop at s))) (drop at s)
-    end-rest = ap (λ (n : ℕ). drop n s) is ∙ sym (drop-drop (length (run f (drop at s))) at s)

@@ -1,8 +1,7 @@
--- What the result of an operation says: whether a value is held to 32 bits, when a divisor is zero, and the way back from the code's
--- result to the specification's. Assumes nothing.
+-- What the result of an operation says: whether a value is held to 32 bits, and when a divisor is zero. Assumes nothing.
 use Prim.Native.Nat.{ℕ, zero, suc, _-_}
 use native.Mathlib.Omega.{arith}
-use mathlib.Core.Path.{_≡_, refl, sym, _∙_, ap, subst}
+use mathlib.Core.Path.{_≡_, refl, ap, subst}
 use mathlib.Core.Bool.{Bool, true, false}
 use lib.Dec.{T}
 use lib.IntN.{ℤ, pos, negsuc, _+ℤ_, _-ℤ_, _*ℤ_}
@@ -11,10 +10,8 @@ use Rattle.specification.specs.Bytes.{pick}
 use Rattle.specification.specs.Number.{in32, least}
 use Rattle.specification.specs.Ast.{Op, add, sub, mul, div, modulo}
 use Rattle.specification.specs.Arithmetic.{Computed, value, fault, fit, divided, compute, outside32, zeroDivisor}
-use Rattle.values.specs.declared.Computed.the-variants.{Value, Fault}
-use Rattle.values.specs.Word.{signed, biased}
-use Rattle.values.specs.Packed.{packed}
-use Rattle.values.proofs.Laws.Word.{by-sign, signed-biased}
+use Rattle.values.specs.Word.{signed}
+use Rattle.values.proofs.Laws.Word.{by-sign}
 
 -- ---- 32 bits
 
@@ -101,16 +98,3 @@ least-div edition = refl
 pub least-modulo : (edition : ℕ) → compute edition modulo least (negsuc 0) ≡ value (pos 0)
 unfolding compute fit
 least-modulo edition = refl
-
--- ---- the way back
-
-pub packed-value : (edition : ℕ) (op : Op) (x y : ℤ) (w : ℕ) → packed (compute edition op x y) ≡ Value w → compute edition op x y ≡ value (signed w)
-packed-value edition op x y w e = go (compute edition op x y) (compute-in32 edition op x y) e
-  where
-    go : (c : Computed) → ((z : ℤ) → c ≡ value z → T (in32 z)) → packed c ≡ Value w → c ≡ value (signed w)
-    go (value z) f e = let same : biased z ≡ w = cc in ap value (sym (signed-biased z (f z refl)) ∙ ap signed same)
-    go (fault κ) f e = let n : _≡_ {A = ℕ} 0 1 = cc in absurd (omega arith)
-
-pub packed-fault : (c : Computed) (κ : ℕ) → packed c ≡ Fault κ → c ≡ fault κ
-packed-fault (value z) κ e = let n : _≡_ {A = ℕ} 0 1 = cc in absurd (omega arith)
-packed-fault (fault k) κ e = let same : k ≡ κ = cc in ap fault same

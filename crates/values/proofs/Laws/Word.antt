@@ -32,9 +32,6 @@ signed-biased (negsuc n) t =
     let h = in32-below n t in
     subℕ-lt (2147483647 - n) 2147483648 (omega arith) ∙ ap negsuc {x = 2147483648 - suc (2147483647 - n)} {y = n} (omega arith)
 
-pub signed-injective : (a b : ℕ) → signed a ≡ signed b → a ≡ b
-signed-injective a b e = sym (biased-signed a) ∙ ap biased e ∙ biased-signed b
-
 -- ---- ranges
 
 pub signed-in32 : (w : ℕ) → w < 4294967296 → T (in32 (signed w))
