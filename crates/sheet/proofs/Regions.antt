@@ -15,9 +15,10 @@ use Rattle.specification.specs.Lines.{Declared, firstOf}
 use Rattle.specification.specs.Given.{Item}
 use Rattle.specification.specs.Place.{cell, put}
 use Rattle.specification.specs.Value.{Slot, empty, full}
+use Rattle.specification.specs.WellFormed.{Rising}
 use Rattle.specification.specs.Outcome.{start}
 use Rattle.specification.proofs.Laws.Lists.{each-map}
-use Rattle.specification.proofs.Laws.ReadGiven.{Rising, rising-above}
+use Rattle.specification.proofs.Laws.ReadGiven.{rising-above}
 use Rattle.values.specs.Word.{biased}
 use Rattle.sheet.specs.Tables.{Words, laidFirsts, laidGiven}
 

@@ -10,10 +10,10 @@ use lib.ListN.{length, getD, replicate, length-replicate}
 use Rattle.specification.specs.Sheet.{Sheet}
 use Rattle.specification.specs.Place.{cell}
 use Rattle.specification.specs.Value.{Slot, empty, full}
+use Rattle.specification.specs.WellFormed.{WellFormed}
 use Rattle.specification.specs.Outcome.{start}
 use Rattle.specification.proofs.Laws.Lists.{each-map}
 use Rattle.specification.proofs.Laws.Start.{start-local}
-use Rattle.specification.proofs.Laws.ReadSheet.{WellFormed}
 use Rattle.sheet.specs.Codes.{formulaTokens}
 use Rattle.sheet.specs.Tables.{Words, laidArrays, laidGiven, laidTokens, tables}
 use Rattle.sheet.specs.Held.{FormulaAt, SlotAt, Holds, ArraysAt}

@@ -12,7 +12,7 @@ use Rattle.specification.specs.Parser.{Reader, Read, refused, found, Parser, gi
 use Rattle.specification.specs.Lines.{Declared}
 use Rattle.specification.specs.Words.{Word, wordOf}
 use Rattle.specification.specs.Formula.{Token as WordToken, Locals, token, binder, term, formula}
-use Rattle.specification.proofs.Laws.ReadLines.{Limits}
+use Rattle.specification.specs.WellFormed.{Limits}
 use Rattle.sheet.specs.declared.Token.{Token}
 use Rattle.sheet.specs.Codes.{tokenOf}
 use Rattle.sheet.specs.Dues.{Due, dueFormula, dueTerm, dueEx, dueRange, parse}

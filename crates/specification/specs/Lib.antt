@@ -12,7 +12,8 @@ pub mod Sheet
 pub mod Place
 pub mod Arithmetic
 pub mod Value
-pub mod Inner
+pub mod WellFormed
+pub mod Closed
 pub mod Tree
 pub mod Visits
 pub mod Listing

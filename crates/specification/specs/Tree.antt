@@ -1,4 +1,4 @@
--- The computation tree (source document 001, Definition 4, with bounded quantifiers of 1.4.4): one clause for each case of document 01,
+-- The computation tree (Apt and Bezem, "Formulas as Programs", Definition 4, with the bounded quantifiers of 1.4.4): one clause for each case of document 01,
 -- "The tree". A node is a list of formulas still to hold and a valuation; the first formula decides. `grow F k α` is the tree of a list
 -- that begins with F, where k gives the tree of the rest, so the definition is structural in F. Assumes nothing.
 use Prim.Native.Nat.{ℕ, zero, suc}
@@ -11,7 +11,49 @@ use Rattle.specification.specs.Ast.{Rel, Formula, truth, and, or, imp, n
 use Rattle.specification.specs.Arithmetic.{noValue, openVariable, undecidedInside, eqZ, test, count}
 use Rattle.specification.specs.Place.{Place, cell, local, put}
 use Rattle.specification.specs.Value.{empty, full, Valuation, Side, val, bare, err, Pair, values, faulty, pairOf, side}
-use Rattle.specification.specs.Inner.{Tree, successLeaf, failureLeaf, errorLeaf, step, fork, fan, ask, Verdict, succeeds, fails, undecided, verdict, closed}
+use Rattle.specification.specs.Closed.{closed}
+
+-- ---- trees
+
+-- a success leaf has its valuation; an error leaf its kind, its token and the valuation it was met in
+pub data Tree : Type 0 where
+  successLeaf : Valuation → Tree
+  failureLeaf : Tree
+  errorLeaf : ℕ → ℕ → Valuation → Tree
+  -- a node with one son, with two, with n by their numbers; a node of `not` or `imp`, with its inner tree and its son
+  step : Tree → Tree
+  fork : Tree → Tree → Tree
+  fan : ℕ → (ℕ → Tree) → Tree
+  ask : Tree → Tree → Tree
+
+-- ---- the verdict on an inner tree: a success leaf in it; failure leaves only; otherwise
+
+pub data Verdict : Type 0 where
+  succeeds fails undecided : Verdict
+
+-- of a tree's parts together
+abbrev pub join : Verdict → Verdict → Verdict
+join succeeds w = succeeds
+join fails w = w
+join undecided succeeds = succeeds
+join undecided fails = undecided
+join undecided undecided = undecided
+
+-- of n sons from the i-th on
+unfoldable pub joined : ℕ → ℕ → (ℕ → Verdict) → Verdict
+joined zero i f = fails
+joined (suc n) i f = let w = joined n (suc i) f in join (f i) w
+
+unfoldable pub verdict : Tree → Verdict
+verdict (successLeaf β) = succeeds
+verdict failureLeaf = fails
+verdict (errorLeaf κ t β) = undecided
+verdict (step T) = verdict T
+verdict (fork T U) = let w = verdict U in join (verdict T) w
+verdict (fan n f) = joined n 0 (λ i. verdict (f i))
+verdict (ask I T) = verdict T
+
+-- ---- what a node leads to
 
 -- the tree of the rest of a list, from a valuation
 abbrev pub Rest : Type 0

@@ -3,7 +3,7 @@
 use Prim.Native.Nat.{ℕ, zero, suc}
 use mathlib.Core.List.{List, [], _∷_}
 use Rattle.specification.specs.Value.{Valuation}
-use Rattle.specification.specs.Inner.{Tree, successLeaf, failureLeaf, errorLeaf, step, fork, fan, ask}
+use Rattle.specification.specs.Tree.{Tree, successLeaf, failureLeaf, errorLeaf, step, fork, fan, ask}
 
 -- a node, or a leaf of the main tree: a failure, an answer, or an error with its kind and token
 pub data Event : Type 0 where

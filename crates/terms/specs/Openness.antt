@@ -11,10 +11,10 @@ use Rattle.specification.specs.Lines.{Declared, cells}
 use Rattle.specification.specs.Ast.{Term, constant, scalarAt, localAt, elementAt, apply, Formula, truth, and, or, imp, neg, eq, compare, ex, some, all}
 use Rattle.specification.specs.Place.{Place, cell, local, put}
 use Rattle.specification.specs.Value.{Valuation}
+use Rattle.specification.specs.WellFormed.{Scope, Ok}
+use Rattle.specification.specs.Closed.{filled, closed}
 use Rattle.specification.specs.Value as value
-use Rattle.specification.specs.Inner.{filled, closed}
-use Rattle.specification.specs.Inner as inner
-use Rattle.specification.proofs.Laws.Scope.{Scope, Ok}
+use Rattle.specification.specs.Closed as specified
 use Rattle.sheet.specs.Tables.{Words}
 use Rattle.sheet.specs.Held.{codeAt, operandAt, endAt, FormulaAt, SlotAt, Holds}
 
@@ -96,18 +96,18 @@ MarksAt w i e (x ∷ xs) = (i < 1024) × MarkAt w i x × MarksAt w (suc i) e xs
 -- ---- a pass over the marks
 
 -- the places known after a mark
-abbrev pub learnt : Mark → inner.Known → inner.Known
+abbrev pub learnt : Mark → specified.Known → specified.Known
 learnt (bindMark l) K = put K (local l) true
 learnt (askMark p) K = K
 learnt plainMark K = K
 
 -- what it asks is known
-abbrev pub answered : Mark → inner.Known → Bool
+abbrev pub answered : Mark → specified.Known → Bool
 answered (bindMark l) K = true
 answered (askMark p) K = K p
 answered plainMark K = true
 
-unfoldable pub pass : inner.Known → List Mark → Bool
+unfoldable pub pass : specified.Known → List Mark → Bool
 pass K [] = true
 pass K (x ∷ xs) = answered x (learnt x K) && pass (learnt x K) xs
 
@@ -121,7 +121,7 @@ inSet m (cell c) = false
 inSet m (local l) = has m l
 
 -- a place is known whose binder was met, or that has a value
-abbrev pub knownBy : Valuation → ℕ → inner.Known
+abbrev pub knownBy : Valuation → ℕ → specified.Known
 knownBy α m p = inSet m p || filled (α p)
 
 -- ---- one token

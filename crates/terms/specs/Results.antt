@@ -9,7 +9,7 @@ use Rattle.specification.specs.Ast.{Term}
 use Rattle.specification.specs.Arithmetic.{noValue}
 use Rattle.specification.specs.Place.{Place}
 use Rattle.specification.specs.Value.{Slot, Valuation, Side, val, bare, err, look, side}
-use Rattle.specification.proofs.Laws.Scope.{Scope, OkTerm, Valid}
+use Rattle.specification.specs.WellFormed.{Scope, OkTerm, Valid}
 use Rattle.values.specs.Word.{biased}
 use Rattle.sheet.specs.Tables.{Words}
 use Rattle.sheet.specs.Held.{TermsAt, height, SlotAt, slotOf, Holds, ArraysAt}

@@ -15,8 +15,8 @@ use Rattle.specification.specs.Parser.{Reader, Read, refused, found, mark, key,
 use Rattle.specification.specs.Lines.{Declared, line, arraysLine}
 use Rattle.specification.specs.Given.{givenLine}
 use Rattle.specification.specs.Sheet.{Sheet, sheet, opened, read}
+use Rattle.specification.specs.WellFormed.{nowhere}
 use Rattle.specification.specs.Outcome.{refusal, afterReading, enoughMemory, call, outcome, outputAfter, wordsAfter}
-use Rattle.specification.proofs.Laws.Scope.{nowhere}
 use Rattle.specification.proofs.Laws.Parser.{Post, holds, of-found, bind-post, after}
 use Rattle.specification.proofs.Laws.ReadLines.{line-post}
 use Rattle.specification.proofs.Laws.ReadSheet.{read-well-formed}

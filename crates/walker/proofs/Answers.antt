@@ -5,7 +5,7 @@ use mathlib.Core.Path.{_≡_, refl, _∙_, ap}
 use mathlib.Core.Bool.{Bool, true, false, _||_, or-assoc}
 use mathlib.Core.List.{List, [], _∷_}
 use Rattle.specification.specs.Bytes.{pick}
-use Rattle.specification.specs.Inner.{Tree, successLeaf, failureLeaf, errorLeaf, step, fork, fan, ask, Verdict, succeeds, fails, undecided, join, joined, verdict}
+use Rattle.specification.specs.Tree.{Tree, successLeaf, failureLeaf, errorLeaf, step, fork, fan, ask, Verdict, succeeds, fails, undecided, join, joined, verdict}
 use Rattle.specification.specs.Visits.{Event, node, fail, answer, error, Visit, at, _then_, each, insideThen, inside, visits}
 
 -- ---- whether there is an answer

@@ -9,7 +9,7 @@ use mathlib.Core.Logic.{_⊎_, inl, inr}
 use mathlib.Core.List.{List, [], _∷_}
 use Rattle.specification.specs.Bytes.{Bytes}
 use Rattle.specification.specs.Ast.{Formula, truth, and, or, imp, neg, eq, compare, ex, some, all}
-use Rattle.specification.specs.Inner.{closed}
+use Rattle.specification.specs.Closed.{closed}
 use Rattle.specification.specs.Tree.{enquire, grow}
 use Rattle.sheet.specs.Tables.{Words}
 use Rattle.sheet.specs.Held.{endAt, Shallow}

@@ -12,8 +12,7 @@ use Rattle.specification.specs.Bytes.{Bytes}
 use Rattle.specification.specs.Lines.{sum, cells, firstOf}
 use Rattle.specification.specs.Place.{Place, cell, local}
 use Rattle.specification.specs.Value.{full}
-use Rattle.specification.specs.Inner.{step}
-use Rattle.specification.specs.Tree.{isElement, assign}
+use Rattle.specification.specs.Tree.{step, isElement, assign}
 use Rattle.sheet.specs.Tables.{Words}
 use Rattle.sheet.specs.Held.{slotOf}
 use Rattle.walker.specs.declared.Due.{Due}

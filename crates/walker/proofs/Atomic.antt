@@ -13,8 +13,7 @@ use Rattle.specification.specs.Ast.{ne, lt, le, gt, ge, Term, eq, compare}
 use Rattle.specification.specs.Arithmetic.{eqZ, test}
 use Rattle.specification.specs.Place.{Place, cell, local}
 use Rattle.specification.specs.Value.{Valuation, Side, val, bare, err, pairOf, side}
-use Rattle.specification.specs.Inner.{errorLeaf, step}
-use Rattle.specification.specs.Tree.{Rest, assign, equate, compared, grow}
+use Rattle.specification.specs.Tree.{errorLeaf, step, Rest, assign, equate, compared, grow}
 use Rattle.specification.proofs.Laws.Scope as scopes
 use Rattle.specification.proofs.Laws.Value.{sane-val, sane-bare}
 use Rattle.values.specs.Word.{biased, signed}

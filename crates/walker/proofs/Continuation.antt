@@ -8,7 +8,7 @@ use Rattle.specification.specs.declared.Setting.{Setting}
 use Rattle.specification.specs.declared.Tallies.{Tallies}
 use Rattle.specification.specs.Bytes.{Bytes, pick}
 use Rattle.specification.specs.Lines.{Declared}
-use Rattle.specification.specs.Inner.{Verdict, succeeds, fails, undecided, join}
+use Rattle.specification.specs.Tree.{Verdict, succeeds, fails, undecided, join}
 use Rattle.specification.specs.Visits.{Event, node, Visit, at, _then_, inside}
 use Rattle.specification.specs.Run.{addNode, spent, path, Run, going, stopped, arrive, visit, scan}
 use Rattle.specification.proofs.Laws.Run.{scan-stopped, scan-append}

@@ -8,7 +8,7 @@ use borrow.Author.Tests.{eqb-true, ne-eqb}
 use Rattle.specification.specs.Bytes.{pick}
 use Rattle.specification.specs.Lines.{Declared}
 use Rattle.specification.specs.Ast.{Rel, ne, lt, le, gt, ge, Term, Formula, truth, and, or, imp, neg, eq, compare, ex, some, all}
-use Rattle.specification.proofs.Laws.Scope.{Scope, enter, OkTerm, Ok}
+use Rattle.specification.specs.WellFormed.{Scope, enter, OkTerm, Ok}
 use Rattle.sheet.specs.Tables.{Words}
 use Rattle.sheet.specs.Codes.{relCode}
 use Rattle.sheet.specs.Held.{codeAt, endAt, TermsAt, LocalAt, FormulaAt, height, Shallow}

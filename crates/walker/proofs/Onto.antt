@@ -12,7 +12,7 @@ use Rattle.specification.specs.Bytes.{Bytes}
 use Rattle.specification.specs.Ast.{Formula}
 use Rattle.specification.specs.Place.{Place, local, put}
 use Rattle.specification.specs.Value.{Slot, full}
-use Rattle.specification.specs.Inner.{Tree, step, fork, fan, ask, Verdict, verdict}
+use Rattle.specification.specs.Tree.{Tree, step, fork, fan, ask, Verdict, verdict}
 use Rattle.specification.proofs.Laws.Place.{valid-put}
 use Rattle.values.specs.Word.{signed}
 use Rattle.sheet.specs.Tables.{Words}

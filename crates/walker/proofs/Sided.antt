@@ -7,7 +7,7 @@ use lib.IntN.{ℤ}
 use Rattle.specification.specs.Bytes.{Bytes}
 use Rattle.specification.specs.Ast.{Term}
 use Rattle.specification.specs.Value.{Side, val, bare, err, values, faulty, pairOf, side}
-use Rattle.specification.specs.Inner.{errorLeaf, step}
+use Rattle.specification.specs.Tree.{errorLeaf, step}
 use Rattle.values.specs.Word.{biased}
 use Rattle.sheet.specs.Tables.{Words}
 use Rattle.terms.specs.declared.Sides.{Sides}

@@ -11,7 +11,7 @@ use lib.Seq.{getD-set-same}
 use Rattle.specification.specs.Bytes.{Bytes}
 use Rattle.specification.specs.Lines.{Declared}
 use Rattle.specification.specs.Value.{Valuation}
-use Rattle.specification.specs.Inner.{Tree, errorLeaf, fails, undecided}
+use Rattle.specification.specs.Tree.{Tree, errorLeaf, fails, undecided}
 use Rattle.sheet.specs.Tables.{Words}
 use Rattle.sheet.specs.Held.{codeAt, endAt, Holds}
 use Rattle.walker.specs.declared.Regs.{Regs}

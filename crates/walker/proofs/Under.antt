@@ -5,7 +5,7 @@ use mathlib.Core.Bool.{Bool, true, false}
 use lib.Dec.{T, eqb}
 use Rattle.specification.specs.Lines.{Declared}
 use Rattle.specification.specs.Ast.{Rel, Term, Formula, truth, and, or, imp, neg, eq, compare, ex, some, all}
-use Rattle.specification.proofs.Laws.Scope.{Scope, OkTerm}
+use Rattle.specification.specs.WellFormed.{Scope, OkTerm}
 use Rattle.sheet.specs.Tables.{Words}
 use Rattle.sheet.specs.Codes.{relCode}
 use Rattle.sheet.specs.Held.{endAt, TermsAt, LocalAt, height}

@@ -9,8 +9,7 @@ use Rattle.specification.specs.declared.Tallies.{Tallies}
 use Rattle.specification.specs.Bytes.{Bytes}
 use Rattle.specification.specs.Lines.{Declared}
 use Rattle.specification.specs.Sheet.{Sheet}
-use Rattle.specification.specs.Inner.{Tree, successLeaf, failureLeaf, errorLeaf, step, fork, fan, ask, Verdict, succeeds, join, joined, verdict}
-use Rattle.specification.specs.Tree.{treeOf}
+use Rattle.specification.specs.Tree.{Tree, successLeaf, failureLeaf, errorLeaf, step, fork, fan, ask, Verdict, succeeds, join, joined, verdict, treeOf}
 use Rattle.specification.specs.Visits.{node, Visit, at, _then_, each, inside, visits}
 use Rattle.specification.specs.Run.{tallies, Run, going, stopped}
 use Rattle.specification.specs.Outcome.{start, visitsOf, runOf}

@@ -8,7 +8,7 @@ use lib.ListN.{length, getD, set, length-set}
 use lib.Seq.{getD-set-other}
 use Rattle.specification.specs.Place.{Place}
 use Rattle.specification.specs.Value.{Slot, Valuation}
-use Rattle.specification.proofs.Laws.Scope.{Valid}
+use Rattle.specification.specs.WellFormed.{Valid}
 use Rattle.sheet.specs.Tables.{Words}
 use Rattle.sheet.specs.Held.{Holds}
 use Rattle.walker.specs.Frame.{Frame, here, below, len, innerIn}

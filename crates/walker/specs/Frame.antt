@@ -8,8 +8,7 @@ use Rattle.specification.specs.Lines.{Declared}
 use Rattle.specification.specs.Ast.{Formula}
 use Rattle.specification.specs.Place.{Place, local, put}
 use Rattle.specification.specs.Value.{Slot, full, Valuation}
-use Rattle.specification.specs.Inner.{Tree, successLeaf, failureLeaf, errorLeaf, Verdict, succeeds}
-use Rattle.specification.specs.Tree.{denied, implied, rounds, done, grow}
+use Rattle.specification.specs.Tree.{Tree, successLeaf, failureLeaf, errorLeaf, Verdict, succeeds, denied, implied, rounds, done, grow}
 use Rattle.specification.specs.Run.{going}
 use Rattle.walker.specs.Walk.{Next, flagged, sonsFrom, walk}
 

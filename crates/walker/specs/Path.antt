@@ -13,8 +13,8 @@ use Rattle.specification.specs.Lines.{Declared, cells}
 use Rattle.specification.specs.Ast.{and, or, all}
 use Rattle.specification.specs.Place.{Place, cell, local}
 use Rattle.specification.specs.Value.{Slot, empty, full, Valuation}
+use Rattle.specification.specs.WellFormed.{Valid}
 use Rattle.specification.specs.Run.{Run}
-use Rattle.specification.proofs.Laws.Scope.{Valid}
 use Rattle.values.specs.Word.{biased, signed}
 use Rattle.sheet.specs.Tables.{Words}
 use Rattle.sheet.specs.Held.{codeAt, endAt, slotOf, Holds, ArraysAt}

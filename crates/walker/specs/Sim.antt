@@ -9,7 +9,7 @@ use lib.Dec.{eqb}
 use Rattle.specification.specs.declared.Tallies.{Tallies}
 use Rattle.specification.specs.Bytes.{Bytes, pick}
 use Rattle.specification.specs.Value.{Valuation}
-use Rattle.specification.specs.Inner.{Tree}
+use Rattle.specification.specs.Tree.{Tree}
 use Rattle.specification.specs.Visits.{Event, answer, error}
 use Rattle.specification.specs.Run.{Run, going, stopped, spent, path, output}
 use Rattle.sheet.specs.Tables.{Words}

@@ -5,7 +5,7 @@ use lib.Dec.{T}
 use lib.IntN.{ℤ, pos, _+ℤ_}
 use Rattle.specification.specs.Lines.{Declared}
 use Rattle.specification.specs.Ast.{Formula}
-use Rattle.specification.proofs.Laws.Scope.{Scope, Ok}
+use Rattle.specification.specs.WellFormed.{Scope, Ok}
 use Rattle.values.specs.Word.{signed}
 use Rattle.sheet.specs.Tables.{Words}
 use Rattle.sheet.specs.Held.{endAt, LocalAt, FormulaAt, Shallow}

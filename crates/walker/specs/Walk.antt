@@ -7,7 +7,7 @@ use Rattle.specification.specs.declared.Setting.{Setting}
 use Rattle.specification.specs.declared.Tallies.{Tallies}
 use Rattle.specification.specs.Bytes.{Bytes, pick}
 use Rattle.specification.specs.Lines.{Declared}
-use Rattle.specification.specs.Inner.{Tree, successLeaf, failureLeaf, errorLeaf, step, fork, fan, ask, Verdict, fails, undecided}
+use Rattle.specification.specs.Tree.{Tree, successLeaf, failureLeaf, errorLeaf, step, fork, fan, ask, Verdict, fails, undecided}
 use Rattle.specification.specs.Visits.{Event, fail, answer, error}
 use Rattle.specification.specs.Run.{addNode, spent, path, Run, going, stopped, arrive}
 

@@ -9,9 +9,9 @@ use Rattle.specification.specs.declared.End.{End}
 use Rattle.specification.specs.declared.End.the-variants.{Done, Spent, Path, Output}
 use Rattle.specification.specs.Bytes.{Bytes}
 use Rattle.specification.specs.Sheet.{Sheet}
+use Rattle.specification.specs.WellFormed.{WellFormed}
 use Rattle.specification.specs.Run.{tallies}
 use Rattle.specification.specs.Outcome.{resultOf, start, runOf, outcome, outputAfter}
-use Rattle.specification.proofs.Laws.ReadSheet.{WellFormed}
 use Rattle.sheet.specs.Tables.{Words}
 use Rattle.sheet.specs.Held.{Holds, ArraysAt}
 use Rattle.walker.specs.declared.Regs.{Regs}

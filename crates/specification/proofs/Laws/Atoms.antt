@@ -9,9 +9,10 @@ use Rattle.specification.specs.Ast.{Rel, Term, eq, compare}
 use Rattle.specification.specs.Arithmetic.{eqZ}
 use Rattle.specification.specs.Place.{Place, put}
 use Rattle.specification.specs.Value.{full, Valuation, Side, val, bare, err, side}
+use Rattle.specification.specs.WellFormed.{Scope, OkTerm, Ok, Valid}
 use Rattle.specification.specs.Tree.{Rest, assign, equate, grow}
 use Rattle.specification.specs.Plain.{Env, Has, Truth}
-use Rattle.specification.proofs.Laws.Scope.{Every, Any, Scope, OkTerm, Ok, Agree, Ext, Valid}
+use Rattle.specification.proofs.Laws.Scope.{Every, Any, Agree, Ext}
 use Rattle.specification.proofs.Laws.Place.{put-same, valid-put, ext-refl, agree-ext, ext-put, agree-put}
 use Rattle.specification.proofs.Laws.Range.{eqZ-eq, eqZ-refl}
 use Rattle.specification.proofs.Laws.Value.{has-val, has-bare, same-val, sane-val, sane-bare}

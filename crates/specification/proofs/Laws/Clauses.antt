@@ -10,8 +10,8 @@ use Rattle.specification.specs.Ast.{Rel, Term, Formula, truth, and, or, 
 use Rattle.specification.specs.Arithmetic.{noValue, openVariable, undecidedInside, eqZ, test, count}
 use Rattle.specification.specs.Place.{Place, local, put}
 use Rattle.specification.specs.Value.{empty, full, Valuation, val, bare, err, faulty, pairOf, side}
-use Rattle.specification.specs.Inner.{successLeaf, failureLeaf, errorLeaf, step, fork, fan, ask, succeeds, fails, undecided, verdict, closed}
-use Rattle.specification.specs.Tree.{Rest, check, equate, compared, bounded, sons, rounds, enquire, done, grow, treeOf}
+use Rattle.specification.specs.Closed.{closed}
+use Rattle.specification.specs.Tree.{successLeaf, failureLeaf, errorLeaf, step, fork, fan, ask, succeeds, fails, undecided, verdict, Rest, check, equate, compared, bounded, sons, rounds, enquire, done, grow, treeOf}
 
 module _ (D : Declared) (α : Valuation) where
   -- 1: the empty conjunction

@@ -5,9 +5,10 @@ use mathlib.Core.Logic.{inl, inr}
 use Rattle.specification.specs.Lines.{Declared}
 use Rattle.specification.specs.Ast.{Formula, truth, and, or}
 use Rattle.specification.specs.Value.{Valuation}
+use Rattle.specification.specs.WellFormed.{Scope, Ok, Valid}
 use Rattle.specification.specs.Tree.{Rest, grow}
 use Rattle.specification.specs.Plain.{Env, Truth}
-use Rattle.specification.proofs.Laws.Scope.{Every, Any, Scope, Ok, Agree, Ext, Valid}
+use Rattle.specification.proofs.Laws.Scope.{Every, Any, Agree, Ext}
 use Rattle.specification.proofs.Laws.Place.{ext-refl, ext-trans, agree-ext}
 
 -- F is true in each environment that agrees with β

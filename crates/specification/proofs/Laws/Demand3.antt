@@ -15,6 +15,7 @@ use Rattle.specification.specs.Lines.{Declared, cells, cellOf}
 use Rattle.specification.specs.Sheet.{Sheet}
 use Rattle.specification.specs.Place.{cell}
 use Rattle.specification.specs.Value.{Slot, empty, full, Valuation}
+use Rattle.specification.specs.WellFormed.{Valid, WellFormed}
 use Rattle.specification.specs.Tree.{treeOf}
 use Rattle.specification.specs.Listing.{Named, Block, listingText}
 use Rattle.specification.specs.Outcome.{ran, start, visitsOf, call}
@@ -23,9 +24,8 @@ use Rattle.specification.specs.Demand3.{headsAnswer, IsAnswer, IsError, 
 use Rattle.specification.proofs.Laws.Lists.{each-map, each-both, each-some, some-map, some-and-each}
 use Rattle.specification.proofs.Laws.Blocks.{listing-injective}
 use Rattle.specification.proofs.Laws.Cells.{agrees-matches, matches-agrees, names-valued}
-use Rattle.specification.proofs.Laws.Scope.{Valid}
 use Rattle.specification.proofs.Laws.Start.{start-has, start-only, start-valid, keeps-matches, matches-keeps}
-use Rattle.specification.proofs.Laws.ReadSheet.{WellFormed, read-well-formed}
+use Rattle.specification.proofs.Laws.ReadSheet.{read-well-formed}
 use Rattle.specification.proofs.Laws.SheetTree.{Matches, Answer, sound, complete}
 use Rattle.specification.proofs.Laws.Decide.{decide}
 use Rattle.specification.proofs.Laws.Leaves.{blocksOf, CellsOf, every-blocks, some-blocks}

@@ -10,8 +10,7 @@ use Rattle.specification.specs.Ast.{Rel}
 use Rattle.specification.specs.Arithmetic.{test}
 use Rattle.specification.specs.Place.{Place, put}
 use Rattle.specification.specs.Value.{full, Valuation, Side, val, bare, err, Pair, values, faulty, pairOf}
-use Rattle.specification.specs.Inner.{Tree, successLeaf, failureLeaf, errorLeaf, step, fork, fan, ask, Verdict, verdict}
-use Rattle.specification.specs.Tree.{Rest, check, isElement, assignUnless, assign, compared, bounded, sons, enquire}
+use Rattle.specification.specs.Tree.{Tree, successLeaf, failureLeaf, errorLeaf, step, fork, fan, ask, Verdict, verdict, Rest, check, isElement, assignUnless, assign, compared, bounded, sons, enquire}
 use Rattle.specification.proofs.Laws.Scope.{Every, Any}
 
 pub every-and : (P Q : Valuation → Type 0) (T : Tree) → Every P T → Every Q T → Every (λ β. P β × Q β) T

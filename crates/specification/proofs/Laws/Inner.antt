@@ -5,7 +5,7 @@ use native.Mathlib.Omega.{arith}
 use mathlib.Core.Path.{_≡_, refl, subst}
 use mathlib.Core.Logic.{_⊎_, inl, inr, ⊎-elim}
 use Rattle.specification.specs.Value.{Valuation}
-use Rattle.specification.specs.Inner.{Tree, successLeaf, failureLeaf, errorLeaf, step, fork, fan, ask, Verdict, succeeds, fails, undecided, join, joined, verdict}
+use Rattle.specification.specs.Tree.{Tree, successLeaf, failureLeaf, errorLeaf, step, fork, fan, ask, Verdict, succeeds, fails, undecided, join, joined, verdict}
 use Rattle.specification.proofs.Laws.Scope.{Every, Any}
 
 -- ---- verdicts of parts

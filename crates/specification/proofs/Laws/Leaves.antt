@@ -12,11 +12,11 @@ use Rattle.specification.specs.declared.Tallies.{Tallies}
 use Rattle.specification.specs.Bytes.{Bytes}
 use Rattle.specification.specs.Lines.{Declared}
 use Rattle.specification.specs.Value.{Valuation}
-use Rattle.specification.specs.Inner.{Tree, successLeaf, failureLeaf, errorLeaf, step, fork, fan, ask}
 use Rattle.specification.specs.Visits.{Event, node, fail, answer, error, Visit, _then_, each, insideThen, inside, visits}
 use Rattle.specification.specs.Listing.{answerHead, errorHead, Block, cellNames, valued, blockOf, listingText}
 use Rattle.specification.specs.Run.{going, scan}
 use Rattle.specification.specs.Lists.{Each, Some}
+use Rattle.specification.specs.Tree.{Tree, successLeaf, failureLeaf, errorLeaf, step, fork, fan, ask}
 use Rattle.specification.specs.Demand3.{IsAnswer}
 use Rattle.specification.proofs.Laws.Scope.{Every, Any}
 use Rattle.specification.proofs.Laws.Stops.{added, counted}

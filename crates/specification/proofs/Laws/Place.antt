@@ -11,8 +11,9 @@ use Rattle.specification.specs.Number.{in32}
 use Rattle.specification.specs.Lines.{Declared}
 use Rattle.specification.specs.Place.{Place, cell, local, samePlace, put}
 use Rattle.specification.specs.Value.{Slot, empty, full, Valuation}
+use Rattle.specification.specs.WellFormed.{Scope, enter, Valid}
 use Rattle.specification.specs.Plain.{Env}
-use Rattle.specification.proofs.Laws.Scope.{Scope, enter, In, Agree, Ext, Valid}
+use Rattle.specification.proofs.Laws.Scope.{In, Agree, Ext}
 
 -- ---- the same place or another
 

@@ -11,9 +11,10 @@ use Rattle.specification.specs.Ast.{Term, Formula, ex, some, all}
 use Rattle.specification.specs.Arithmetic.{count}
 use Rattle.specification.specs.Place.{local, put}
 use Rattle.specification.specs.Value.{Slot, empty, full, Valuation, val, side}
+use Rattle.specification.specs.WellFormed.{Scope, enter, OkTerm, Ok, Valid}
 use Rattle.specification.specs.Tree.{Rest, sons, rounds, grow}
 use Rattle.specification.specs.Plain.{Env, SomeFrom, EachFrom, Truth}
-use Rattle.specification.proofs.Laws.Scope.{Every, Any, Scope, enter, OkTerm, Ok, Agree, Ext, Valid}
+use Rattle.specification.proofs.Laws.Scope.{Every, Any, Agree, Ext}
 use Rattle.specification.proofs.Laws.Place.{SlotIn, valid-put, ext-refl, ext-trans, agree-ext, agree-enter, agree-held, agree-leave, ext-leave, agree-bind}
 use Rattle.specification.proofs.Laws.Range.{range-at, range-in, in32-between, FromOn, each-on, on-each, on-first, on-later, on-both}
 use Rattle.specification.proofs.Laws.Value.{has-val, same-val, sane-val}

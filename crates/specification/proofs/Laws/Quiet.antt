@@ -10,9 +10,10 @@ use Rattle.specification.specs.Ast.{Formula, truth, and, or, imp, neg, e
 use Rattle.specification.specs.Arithmetic.{eqZ, count}
 use Rattle.specification.specs.Place.{Place, local, put}
 use Rattle.specification.specs.Value.{Slot, empty, full, Valuation, Side, val, bare, err, side}
-use Rattle.specification.specs.Inner.{succeeds, fails, undecided, Known, closedTerm, closedFormula, filled, closed}
-use Rattle.specification.specs.Tree.{Rest, assign, equate, sons, rounds, denied, implied, done, grow}
-use Rattle.specification.proofs.Laws.Scope.{Every, Scope, enter, In, Ok}
+use Rattle.specification.specs.WellFormed.{Scope, enter, Ok}
+use Rattle.specification.specs.Closed.{Known, closedTerm, closedFormula, filled, closed}
+use Rattle.specification.specs.Tree.{succeeds, fails, undecided, Rest, assign, equate, sons, rounds, denied, implied, done, grow}
+use Rattle.specification.proofs.Laws.Scope.{Every, In}
 use Rattle.specification.proofs.Laws.Place.{put-other, in-enter, in-fresh}
 use Rattle.specification.proofs.Laws.Value.{Calm, side-calm}
 use Rattle.specification.proofs.Laws.Every.{check-every, assign-every, compared-every, bounded-every, sons-every, enquire-every}

@@ -9,7 +9,7 @@ use Rattle.specification.specs.Lines.{Declared}
 use Rattle.specification.specs.Ast.{Term, Formula, and, or, imp, eq, compare, some, all}
 use Rattle.specification.specs.Words.{FormulaWord, trueWord, andWord, orWord, impWord, notWord, eqWord, exWord, someWord, allWord, relWord, TermWord, constantWord, scalarWord, localWord, arrayWord, opWord, Word, formulaWord, termWord, unknown}
 use Rattle.specification.specs.Formula.{Token, operand, Locals, has, bind, binderOf, binderWith, binder, term, formulaOf, formulaWith, formula}
-use Rattle.specification.proofs.Laws.Scope.{enter, OkTerm, Ok}
+use Rattle.specification.specs.WellFormed.{enter, OkTerm, Ok}
 use Rattle.specification.proofs.Laws.Parser.{false-T, Post, refusal, holds, bind-post, require-post, pick-post}
 use Rattle.specification.proofs.Laws.ReadTerm.{scope, scope-enter, Sub, sub-less, sub-both, fresh, Scoped, token-post, operand-post, two-post, term-post}
 

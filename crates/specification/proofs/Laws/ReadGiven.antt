@@ -13,6 +13,7 @@ use Rattle.specification.specs.Parser.{Reader, give, present, _>>_, next
 use Rattle.specification.specs.Lines.{value, Declared, CellName, scalar, element, cells, firstOf, lengthOf, isDeclared, cellOf}
 use Rattle.specification.specs.Given.{Item, name, item, items, givenLine}
 use Rattle.specification.specs.Lists.{Each}
+use Rattle.specification.specs.WellFormed.{Rising}
 use Rattle.specification.proofs.Laws.Elements.{sum-take}
 use Rattle.specification.proofs.Laws.Lists.{each-map}
 use Rattle.specification.proofs.Laws.Parser.{true-T, Post, holds, bind-post, after, require-post, choose-post}
@@ -26,11 +27,6 @@ module _ (D : Declared) where
   declared-cell (element a e) h = omega (arith, sum-take a e (D .arrays) (ltb-true e (getD (D .arrays) a 0) h))
 
 -- ---- rising cells
-
--- each cell is at least the floor and above those before it
-unfoldable pub Rising : ℕ → List Item → Type 0
-Rising floor [] = Unit {0}
-Rising floor (i ∷ is) = (floor ≤ i .cell) × Rising (suc (i .cell)) is
 
 pub rising-above : (floor : ℕ) (is : List Item) → Rising floor is → Each (λ i. floor ≤ i .cell) is
 unfolding Rising Each

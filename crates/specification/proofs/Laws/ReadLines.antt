@@ -1,15 +1,15 @@
 -- What the first four lines declare is within document 01's limits. Assumes nothing.
 use Prim.Native.Nat.{ℕ, zero, suc, _-_, _≤_}
 use native.Mathlib.Omega.{arith}
-use mathlib.Core.Path.{_≡_}
 use mathlib.Core.List.{List, [], _∷_}
 use lib.ListN.{length}
 use lib.Dec.{leb}
 use borrow.Author.Tests.{leb-true}
 use Rattle.specification.specs.Bytes.{Bytes, bytes, feed, comma}
 use Rattle.specification.specs.Parser.{Reader, give, _>>_, next, mark, key}
-use Rattle.specification.specs.Lines.{index, count, line, Declared, lengths, arraysLine, sum, cells}
+use Rattle.specification.specs.Lines.{index, count, line, lengths, arraysLine, sum, cells}
 use Rattle.specification.specs.Lists.{Each}
+use Rattle.specification.specs.WellFormed.{Limits}
 use Rattle.specification.proofs.Laws.Parser.{and-true, Post, refusal, holds, bind-post, after, require-post, choose-post}
 
 -- ---- numbers
@@ -67,14 +67,6 @@ arrays-post scalars r =
     after (mark feed r₂) λ u r₃. holds l
 
 -- ---- the limits
-
-pub record Limits (D : Declared) : Type 0 where
-  pub edition : D .edition ≡ 1
-  pub scalars : D .scalars ≤ 64
-  pub locals : D .locals ≤ 32
-  pub arrays : length (D .arrays) ≤ 16
-  pub positive : Each (λ n. 1 ≤ n) (D .arrays)
-  pub cells : cells D ≤ 512
 
 -- from what is known of the four lines
 module _ (edition scalars locals : ℕ) (arrays : List ℕ) where

@@ -1,31 +1,20 @@
 -- Whatever is read is well formed: a sheet that is read keeps document 01's limits, its given items are as they should be, and its formula is
 -- well scoped. Assumes nothing.
-use Prim.Native.Nat.{ℕ, _<_}
+use Prim.Native.Nat.{ℕ}
 use native.Mathlib.Omega.{arith}
 use mathlib.Core.Path.{_≡_}
 use mathlib.Core.List.{[]}
-use lib.Dec.{T}
 use Rattle.specification.specs.Bytes.{Bytes, bytes, feed}
-use Rattle.specification.specs.Number.{in32}
 use Rattle.specification.specs.Parser.{Reader, found, mark, key, finish}
-use Rattle.specification.specs.Lines.{Declared, cells}
+use Rattle.specification.specs.Lines.{Declared}
 use Rattle.specification.specs.Formula.{Locals, has}
 use Rattle.specification.specs.Sheet.{Sheet, sheet, opened, read}
-use Rattle.specification.specs.Lists.{Each}
-use Rattle.specification.proofs.Laws.Scope.{Ok, nowhere}
+use Rattle.specification.specs.WellFormed.{WellFormed}
 use Rattle.specification.proofs.Laws.Parser.{Post, holds, of-found, bind-post, after}
-use Rattle.specification.proofs.Laws.ReadLines.{line-post, arrays-post, Limits, limits}
-use Rattle.specification.proofs.Laws.ReadGiven.{Rising, given-post}
+use Rattle.specification.proofs.Laws.ReadLines.{line-post, arrays-post, limits}
+use Rattle.specification.proofs.Laws.ReadGiven.{given-post}
 use Rattle.specification.proofs.Laws.ReadTerm.{Sub}
 use Rattle.specification.proofs.Laws.ReadFormula.{formula-post}
-
-pub record WellFormed (s : Sheet) : Type 0 where
-  pub limits : Limits (s .declared)
-  -- each given value lies in 32 bits, each given cell is declared, and the cells rise strictly
-  pub values : Each (λ i. T (in32 (i .value))) (s .given)
-  pub declared : Each (λ i. i .cell < cells (s .declared)) (s .given)
-  pub rising : Rising 0 (s .given)
-  pub formula : Ok (s .declared) nowhere (s .formula)
 
 no-locals : (B : Locals) → Sub [] B
 unfolding has

@@ -13,7 +13,7 @@ use Rattle.specification.specs.Lines.{Declared}
 use Rattle.specification.specs.Ast.{Term, apply}
 use Rattle.specification.specs.Words.{TermWord, constantWord, scalarWord, localWord, arrayWord, opWord, Word, formulaWord, termWord, unknown, wordOf}
 use Rattle.specification.specs.Formula.{Token, token, numbered, operand, Locals, has, termOf, termWith, term}
-use Rattle.specification.proofs.Laws.Scope.{Scope, enter, OkTerm}
+use Rattle.specification.specs.WellFormed.{Scope, enter, OkTerm}
 use Rattle.specification.proofs.Laws.Parser.{true-T, Post, refusal, holds, bind-post, require-post, present-post, pick-post}
 use Rattle.specification.proofs.Laws.ReadWords.{WordOk, word-ok}
 

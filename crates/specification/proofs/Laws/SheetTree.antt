@@ -8,9 +8,10 @@ use Rattle.specification.specs.Lines.{Declared, cells}
 use Rattle.specification.specs.Ast.{Formula}
 use Rattle.specification.specs.Place.{cell, local}
 use Rattle.specification.specs.Value.{full, Valuation}
+use Rattle.specification.specs.WellFormed.{nowhere, Ok, Valid}
 use Rattle.specification.specs.Tree.{treeOf}
 use Rattle.specification.specs.Plain.{Truth, Filling, env}
-use Rattle.specification.proofs.Laws.Scope.{Every, Any, nowhere, Ok, Agree, Valid}
+use Rattle.specification.proofs.Laws.Scope.{Every, Any, Agree}
 use Rattle.specification.proofs.Laws.Truth.{laws}
 
 -- a filling agrees with the declared cells that have a value

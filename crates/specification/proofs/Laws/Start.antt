@@ -16,9 +16,9 @@ use Rattle.specification.specs.Value.{empty, full}
 use Rattle.specification.specs.Outcome.{start}
 use Rattle.specification.specs.Plain.{Filling, Keeps}
 use Rattle.specification.specs.Lists.{Each, Some}
-use Rattle.specification.proofs.Laws.Scope.{Valid}
+use Rattle.specification.specs.WellFormed.{Valid, Rising}
 use Rattle.specification.proofs.Laws.Lists.{each-map, each-both, each-some}
-use Rattle.specification.proofs.Laws.ReadGiven.{Rising, rising-above}
+use Rattle.specification.proofs.Laws.ReadGiven.{rising-above}
 
 -- the item gives this cell this value
 abbrev pub Gives : ℕ → ℤ → Item → Type 0

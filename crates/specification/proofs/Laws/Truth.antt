@@ -7,10 +7,11 @@ use lib.Dec.{T}
 use Rattle.specification.specs.Lines.{Declared}
 use Rattle.specification.specs.Ast.{Formula, truth, and, or, imp, neg, eq, compare, ex, some, all}
 use Rattle.specification.specs.Value.{Valuation}
-use Rattle.specification.specs.Inner.{succeeds, fails, undecided, verdict, filled, closed}
-use Rattle.specification.specs.Tree.{denied, implied, done, grow}
+use Rattle.specification.specs.WellFormed.{Scope, Ok, Valid}
+use Rattle.specification.specs.Closed.{filled, closed}
+use Rattle.specification.specs.Tree.{succeeds, fails, undecided, verdict, denied, implied, done, grow}
 use Rattle.specification.specs.Plain.{Env, Truth}
-use Rattle.specification.proofs.Laws.Scope.{Every, Any, Scope, In, Ok, Agree, Valid}
+use Rattle.specification.proofs.Laws.Scope.{Every, Any, In, Agree}
 use Rattle.specification.proofs.Laws.Place.{ext-refl}
 use Rattle.specification.proofs.Laws.Inner.{fails-none, succeeds-one}
 use Rattle.specification.proofs.Laws.Every.{every-and, enquire-every, enquire-any}

@@ -14,10 +14,11 @@ use Rattle.specification.specs.Ast.{Op, add, sub, mul, div, modulo, Term
 use Rattle.specification.specs.Arithmetic.{noValue, outsideArray, outside32, Computed, value, fault, fit, divided, compute}
 use Rattle.specification.specs.Place.{Place, cell, local}
 use Rattle.specification.specs.Value.{Slot, empty, full, Valuation, Side, val, bare, err, look, Pair, values, faulty, pairOf, sideOf, operate, inArray, elementSide, side}
-use Rattle.specification.specs.Inner.{Known, closedTerm}
+use Rattle.specification.specs.WellFormed.{Scope, OkTerm, Valid}
+use Rattle.specification.specs.Closed.{Known, closedTerm}
 use Rattle.specification.specs.Tree.{isElement}
 use Rattle.specification.specs.Plain.{Env, kept, applied, elementValue, valueOf, Has}
-use Rattle.specification.proofs.Laws.Scope.{Scope, In, OkTerm, Agree, Valid}
+use Rattle.specification.proofs.Laws.Scope.{In, Agree}
 use Rattle.specification.proofs.Laws.Elements.{scalar-declared, element-declared, element-is}
 
 -- ---- the value in an environment that agrees

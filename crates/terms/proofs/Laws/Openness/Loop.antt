@@ -12,9 +12,9 @@ use Rattle.specification.specs.Lines.{Declared, cells}
 use Rattle.specification.specs.Ast.{Formula}
 use Rattle.specification.specs.Place.{Place, cell, local}
 use Rattle.specification.specs.Value.{Valuation}
-use Rattle.specification.specs.Inner.{filled, closedFormula, closed}
-use Rattle.specification.specs.Inner as inner
-use Rattle.specification.proofs.Laws.Scope.{Scope}
+use Rattle.specification.specs.WellFormed.{Scope}
+use Rattle.specification.specs.Closed.{filled, closedFormula, closed}
+use Rattle.specification.specs.Closed as specified
 use Rattle.sheet.specs.Tables.{Words}
 use Rattle.sheet.specs.Held.{Holds}
 use Rattle.terms.specs.Openness.{Standing, Mark, formulaMarks, MarksAt, answered, pass, knownBy, Marked, Met, Known}
@@ -80,7 +80,7 @@ module _ {w : Words} {i to m : ℕ} {α : Valuation} {F : Formula} (rest : Rest 
         go (x ∷ xs) h e =
             let now = met α x (h .1) in
             let asked = known α x holds (h .1) ∙ ap (answered x) now in
-            (xs, (rw (add-one i) (h .2), ap₂ (λ (b : Bool) (K : inner.Known). b && pass K xs) asked now ∙ e))
+            (xs, (rw (add-one i) (h .2), ap₂ (λ (b : Bool) (K : specified.Known). b && pass K xs) asked now ∙ e))
 
     pub rest-next : r ≡ true → Rest w (i + 1) to n α F
     rest-next e =

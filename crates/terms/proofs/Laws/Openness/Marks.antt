@@ -12,7 +12,7 @@ use Rattle.specification.specs.Lines.{Declared, cells}
 use Rattle.specification.specs.Ast.{Rel, ne, lt, le, gt, ge, Op, add, sub, mul, div, modulo, Term, constant, scalarAt, localAt, elementAt, apply}
 use Rattle.specification.specs.Ast.{Formula, truth, and, or, imp, neg, eq, compare, ex, some, all}
 use Rattle.specification.specs.Place.{local}
-use Rattle.specification.proofs.Laws.Scope.{Scope, enter, OkTerm, Ok}
+use Rattle.specification.specs.WellFormed.{Scope, enter, OkTerm, Ok}
 use Rattle.sheet.specs.Tables.{Words}
 use Rattle.sheet.specs.Codes.{opCode, relCode}
 use Rattle.sheet.specs.Held.{codeAt, endAt, TokenAt, TermAt, TermsAt, FormulaAt, LocalAt}

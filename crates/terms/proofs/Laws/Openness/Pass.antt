@@ -9,9 +9,9 @@ use Rattle.specification.specs.Bytes.{pick}
 use Rattle.specification.specs.Lines.{Declared}
 use Rattle.specification.specs.Ast.{Term, constant, scalarAt, localAt, elementAt, apply, Formula, truth, and, or, imp, neg, eq, compare, ex, some, all}
 use Rattle.specification.specs.Place.{Place, cell, local, put}
-use Rattle.specification.specs.Inner.{closedTerm, closedFormula}
-use Rattle.specification.specs.Inner as inner
-use Rattle.specification.proofs.Laws.Scope.{Scope, enter, OkTerm, Ok}
+use Rattle.specification.specs.WellFormed.{Scope, enter, OkTerm, Ok}
+use Rattle.specification.specs.Closed.{closedTerm, closedFormula}
+use Rattle.specification.specs.Closed as specified
 use Rattle.terms.specs.Openness.{Mark, bindMark, askMark, termMarks, formulaMarks, pass, Known}
 
 -- ---- places in scope
@@ -22,7 +22,7 @@ In S (cell c) = Unit {0}
 In S (local l) = T (S l)
 
 -- a local that is not in scope says nothing of the places in scope
-put-other : (S : Scope) (l : ℕ) (K : inner.Known) → T (not (S l)) → (p : Place) → In S p → put K (local l) true p ≡ K p
+put-other : (S : Scope) (l : ℕ) (K : specified.Known) → T (not (S l)) → (p : Place) → In S p → put K (local l) true p ≡ K p
 unfolding put
 put-other S l K n (cell c) i = refl
 put-other S l K n (local j) i = go (eqb j l) refl
@@ -33,7 +33,7 @@ put-other S l K n (local j) i = go (eqb j l) refl
         absurd (T-not (S l) n (subst (λ (j : ℕ). T (S j)) same i))
     go false e = refl
 
-put-here : (l : ℕ) (K : inner.Known) → put K (local l) true (local l) ≡ true
+put-here : (l : ℕ) (K : specified.Known) → put K (local l) true (local l) ≡ true
 unfolding put
 put-here l K = go (eqb l l) (eqb-refl l)
   where
@@ -51,11 +51,11 @@ in-enter S l (local j) i = go (eqb j l)
     go false = i
 
 -- two agree on the places in scope
-abbrev pub Agree : Scope → inner.Known → inner.Known → Type 0
+abbrev pub Agree : Scope → specified.Known → specified.Known → Type 0
 Agree S K L = (p : Place) → In S p → K p ≡ L p
 
 -- and then on the larger scope too, once both know the local
-agree-enter : (S : Scope) (l : ℕ) (K L : inner.Known) → Agree S K L → Agree (enter S l) (put K (local l) true) (put L (local l) true)
+agree-enter : (S : Scope) (l : ℕ) (K L : specified.Known) → Agree S K L → Agree (enter S l) (put K (local l) true) (put L (local l) true)
 unfolding put enter
 agree-enter S l K L h (cell c) i = h (cell c) tt
 agree-enter S l K L h (local j) i = go (eqb j l) i
@@ -66,7 +66,7 @@ agree-enter S l K L h (local j) i = go (eqb j l) i
 
 -- ---- what is known after a formula
 
-unfoldable pub after : Formula → inner.Known → inner.Known
+unfoldable pub after : Formula → specified.Known → specified.Known
 after truth K = K
 after (and F G) K = after G (after F K)
 after (or F G) K = after G (after F K)
@@ -83,7 +83,7 @@ chain : (a b z : Bool) {x y : Bool} → x ≡ (a && y) → y ≡ (b && z) → x 
 chain a b z p q = p ∙ ap (λ (c : Bool). a && c) q ∙ sym (and-assoc a b z)
 
 module _ (D : Declared) where
-  after-kept : (S : Scope) (F : Formula) (K : inner.Known) → Ok D S F → (p : Place) → In S p → after F K p ≡ K p
+  after-kept : (S : Scope) (F : Formula) (K : specified.Known) → Ok D S F → (p : Place) → In S p → after F K p ≡ K p
   unfolding after Ok
   after-kept S truth K k p i = refl
   after-kept S (and F G) K k p i = after-kept S G (after F K) (k .1) p i ∙ after-kept S F K (k .0) p i
@@ -101,7 +101,7 @@ module _ (D : Declared) where
 
   -- ---- the pass over a formula's marks; L is what the pass knows, and agrees with K on the places in scope
 
-  pass-term : (S : Scope) (K L : inner.Known) → Agree S K L → (t : Term) → OkTerm D S t → (xs : List Mark) →
+  pass-term : (S : Scope) (K L : specified.Known) → Agree S K L → (t : Term) → OkTerm D S t → (xs : List Mark) →
       pass L (termMarks t xs) ≡ (closedTerm K t && pass L xs)
   unfolding termMarks pass closedTerm OkTerm
   pass-term S K L h (constant z) k xs = refl
@@ -112,21 +112,21 @@ module _ (D : Declared) where
       chain (closedTerm K s) (closedTerm K t) (pass L xs) (pass-term S K L h s (k .0) (termMarks t xs)) (pass-term S K L h t (k .1) xs)
 
   -- a binder, with its local
-  pass-bound : (L : inner.Known) (l : ℕ) (xs : List Mark) → pass L (bindMark l ∷ askMark (local l) ∷ xs) ≡ pass (put L (local l) true) xs
+  pass-bound : (L : specified.Known) (l : ℕ) (xs : List Mark) → pass L (bindMark l ∷ askMark (local l) ∷ xs) ≡ pass (put L (local l) true) xs
   unfolding pass
   pass-bound L l xs = ap (λ (b : Bool). b && pass (put L (local l) true) xs) (put-here l L)
 
   -- two formulas, one after the other, from what is said of each
-  pass-both : (S : Scope) (K L : inner.Known) → Agree S K L → (F G : Formula) → Ok D S F × Ok D S G → (xs : List Mark) →
+  pass-both : (S : Scope) (K L : specified.Known) → Agree S K L → (F G : Formula) → Ok D S F × Ok D S G → (xs : List Mark) →
       pass L (formulaMarks F (formulaMarks G xs)) ≡ (closedFormula K F && pass (after F L) (formulaMarks G xs)) →
-      ((M : inner.Known) → Agree S K M → pass M (formulaMarks G xs) ≡ (closedFormula K G && pass (after G M) xs)) →
+      ((M : specified.Known) → Agree S K M → pass M (formulaMarks G xs) ≡ (closedFormula K G && pass (after G M) xs)) →
       pass L (formulaMarks F (formulaMarks G xs)) ≡ (closedFormula K F && closedFormula K G && pass (after G (after F L)) xs)
   pass-both S K L h F G k xs f g =
       chain (closedFormula K F) (closedFormula K G) (pass (after G (after F L)) xs) f
       (g (after F L) (λ p i. h p i ∙ sym (after-kept S F L (k .0) p i)))
 
   -- a binder with bounds: the bounds are passed with its local known, which they do not name
-  pass-range : (S : Scope) (K L : inner.Known) → Agree S K L → (l : ℕ) (a b : Term) (F : Formula) → OkTerm D S a → OkTerm D S b →
+  pass-range : (S : Scope) (K L : specified.Known) → Agree S K L → (l : ℕ) (a b : Term) (F : Formula) → OkTerm D S a → OkTerm D S b →
       T (not (S l)) → (xs : List Mark) →
       pass (put L (local l) true) (formulaMarks F xs) ≡ (closedFormula (put K (local l) true) F && pass (after F (put L (local l) true)) xs) →
       pass L (bindMark l ∷ askMark (local l) ∷ termMarks a (termMarks b (formulaMarks F xs)))
@@ -139,7 +139,7 @@ module _ (D : Declared) where
       ∙ chain (closedTerm K a && closedTerm K b) (closedFormula (put K (local l) true) F) (pass (after F M) xs)
       (chain (closedTerm K a) (closedTerm K b) (pass M ms) (pass-term S K M agree a j (termMarks b ms)) (pass-term S K M agree b k ms)) f
 
-  pub pass-formula : (S : Scope) (K L : inner.Known) → Agree S K L → (F : Formula) → Ok D S F → (xs : List Mark) →
+  pub pass-formula : (S : Scope) (K L : specified.Known) → Agree S K L → (F : Formula) → Ok D S F → (xs : List Mark) →
       pass L (formulaMarks F xs) ≡ (closedFormula K F && pass (after F L) xs)
   unfolding formulaMarks pass closedFormula after Ok
   pass-formula S K L h truth k xs = refl

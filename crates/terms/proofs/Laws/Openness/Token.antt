@@ -14,7 +14,7 @@ use Rattle.specification.specs.Bytes.{pick}
 use Rattle.specification.specs.Lines.{cells}
 use Rattle.specification.specs.Place.{Place, cell, local, put}
 use Rattle.specification.specs.Value.{empty, full}
-use Rattle.specification.specs.Inner.{filled}
+use Rattle.specification.specs.Closed.{filled}
 use Rattle.sheet.specs.Tables.{Words}
 use Rattle.sheet.specs.Held.{codeAt, operandAt}
 use Rattle.terms.specs.Openness.{Mark, bindMark, askMark, plainMark, MarkAt, learnt, has, knownBy, Filled, Marked, Met, Known}

@@ -1,49 +1,9 @@
--- Trees, the judgement of an inner tree, and the openness test before it. Assumes nothing.
-use Prim.Native.Nat.{ℕ, zero, suc}
+-- The openness test before an inner tree: each scalar that stands in F, and each local bound outside F, has a value (document 01, "The
+-- tree", `not F`). Assumes nothing.
 use mathlib.Core.Bool.{Bool, true, false, _&&_}
 use Rattle.specification.specs.Ast.{Term, constant, scalarAt, localAt, elementAt, apply, Formula, truth, and, or, imp, neg, eq, compare, ex, some, all}
 use Rattle.specification.specs.Place.{Place, cell, local, put}
 use Rattle.specification.specs.Value.{Slot, empty, full, Valuation}
-
--- a success leaf has its valuation; an error leaf its kind, its token and the valuation it was met in
-pub data Tree : Type 0 where
-  successLeaf : Valuation → Tree
-  failureLeaf : Tree
-  errorLeaf : ℕ → ℕ → Valuation → Tree
-  -- a node with one son, with two, with n by their numbers; a node of `not` or `imp`, with its inner tree and its son
-  step : Tree → Tree
-  fork : Tree → Tree → Tree
-  fan : ℕ → (ℕ → Tree) → Tree
-  ask : Tree → Tree → Tree
-
--- ---- the verdict on an inner tree: a success leaf in it; failure leaves only; otherwise
-
-pub data Verdict : Type 0 where
-  succeeds fails undecided : Verdict
-
--- of a tree's parts together
-abbrev pub join : Verdict → Verdict → Verdict
-join succeeds w = succeeds
-join fails w = w
-join undecided succeeds = succeeds
-join undecided fails = undecided
-join undecided undecided = undecided
-
--- of n sons from the i-th on
-unfoldable pub joined : ℕ → ℕ → (ℕ → Verdict) → Verdict
-joined zero i f = fails
-joined (suc n) i f = let w = joined n (suc i) f in join (f i) w
-
-unfoldable pub verdict : Tree → Verdict
-verdict (successLeaf β) = succeeds
-verdict failureLeaf = fails
-verdict (errorLeaf κ t β) = undecided
-verdict (step T) = verdict T
-verdict (fork T U) = let w = verdict U in join (verdict T) w
-verdict (fan n f) = joined n 0 (λ i. verdict (f i))
-verdict (ask I T) = verdict T
-
--- ---- closed: each scalar that stands in F, and each local bound outside F, has a value
 
 -- the places known to have a value
 abbrev pub Known : Type 0

@@ -1,0 +1,87 @@
+-- Well-formed sheets: what holds of every sheet that is read (the theorem is in proofs/Laws/ReadSheet.antt), and what the contracts of the
+-- walk lean on without looking at bytes again. Assumes nothing.
+use Prim.Native.Nat.{ℕ, suc, _≤_, _<_}
+use mathlib.Core.Path.{_≡_}
+use mathlib.Core.Bool.{Bool, true, false, not}
+use mathlib.Core.List.{List, [], _∷_}
+use lib.ListN.{length}
+use lib.Dec.{T, eqb}
+use lib.IntN.{ℤ}
+use Rattle.specification.specs.Lists.{Each}
+use Rattle.specification.specs.Bytes.{pick}
+use Rattle.specification.specs.Number.{in32}
+use Rattle.specification.specs.Lines.{Declared, cells}
+use Rattle.specification.specs.Given.{Item}
+use Rattle.specification.specs.Ast.{Term, constant, scalarAt, localAt, elementAt, apply, Formula, truth, and, or, imp, neg, eq, compare, ex, some, all}
+use Rattle.specification.specs.Sheet.{Sheet}
+use Rattle.specification.specs.Place.{Place}
+use Rattle.specification.specs.Value.{full, Valuation}
+
+-- ---- what is declared: document 01's limits
+
+pub record Limits (D : Declared) : Type 0 where
+  pub edition : D .edition ≡ 1
+  pub scalars : D .scalars ≤ 64
+  pub locals : D .locals ≤ 32
+  pub arrays : length (D .arrays) ≤ 16
+  pub positive : Each (λ n. 1 ≤ n) (D .arrays)
+  pub cells : cells D ≤ 512
+
+-- ---- given items
+
+-- each cell is at least the floor and above those before it
+unfoldable pub Rising : ℕ → List Item → Type 0
+Rising floor [] = Unit {0}
+Rising floor (i ∷ is) = (floor ≤ i .cell) × Rising (suc (i .cell)) is
+
+-- ---- scopes: the locals that are bound around a formula
+
+abbrev pub Scope : Type 0
+Scope = ℕ → Bool
+
+-- no local
+abbrev pub nowhere : Scope
+nowhere l = false
+
+unfoldable pub enter : Scope → ℕ → Scope
+enter S l j = pick (eqb j l) true (S j)
+
+-- ---- well-scoped formulas
+
+module _ (D : Declared) where
+  -- names are declared or bound, and constants lie in 32 bits
+  unfoldable pub OkTerm : Scope → Term → Type 0
+  OkTerm S (constant z) = T (in32 z)
+  OkTerm S (scalarAt c) = c < D .scalars
+  OkTerm S (localAt l) = T (S l)
+  OkTerm S (elementAt a t) = (a < length (D .arrays)) × OkTerm S t
+  OkTerm S (apply o s t) = OkTerm S s × OkTerm S t
+
+  -- and each binder's local is not bound around it
+  unfoldable pub Ok : Scope → Formula → Type 0
+  Ok S truth = Unit {0}
+  Ok S (and F G) = Ok S F × Ok S G
+  Ok S (or F G) = Ok S F × Ok S G
+  Ok S (imp tok F G) = Ok S F × Ok S G
+  Ok S (neg tok F) = Ok S F
+  Ok S (eq tok s t) = OkTerm S s × OkTerm S t
+  Ok S (compare tok r s t) = OkTerm S s × OkTerm S t
+  Ok S (ex l F) = T (not (S l)) × Ok (enter S l) F
+  Ok S (some tok l a b F) = OkTerm S a × OkTerm S b × T (not (S l)) × Ok (enter S l) F
+  Ok S (all tok l a b F) = OkTerm S a × OkTerm S b × T (not (S l)) × Ok (enter S l) F
+
+-- ---- the sheet
+
+pub record WellFormed (s : Sheet) : Type 0 where
+  pub limits : Limits (s .declared)
+  -- each given value lies in 32 bits, each given cell is declared, and the cells rise strictly
+  pub values : Each (λ i. T (in32 (i .value))) (s .given)
+  pub declared : Each (λ i. i .cell < cells (s .declared)) (s .given)
+  pub rising : Rising 0 (s .given)
+  pub formula : Ok (s .declared) nowhere (s .formula)
+
+-- ---- valuations
+
+-- every value lies in 32 bits
+abbrev pub Valid : Valuation → Type 0
+Valid α = (p : Place) (v : ℤ) → α p ≡ full v → T (in32 v)
