@@ -39,10 +39,14 @@ pub mod Stops
 pub mod Run
 pub mod Budget
 pub mod Leaves
+pub mod Written
 pub mod Cut
-pub mod Done
+pub mod CallRan
 pub mod Whole
+pub mod Demand2
+pub mod Determined
 -- the tables of cases
 pub mod Marked
 -- the third demand
+pub mod Agreement
 pub mod Demand3

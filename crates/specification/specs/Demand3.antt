@@ -1,16 +1,16 @@
--- The third demand, as a statement over the bytes that a run wrote (../shared/00-demands.md, 3, sentence by sentence). Listed is what stands
--- in the bytes written. The theorem is in proofs/Laws/Demand3.antt. Assumes nothing.
+-- The third demand, sentence by sentence, of a sheet and the blocks that are listed; and over the bytes that a run wrote. The theorems are in
+-- proofs/Laws/Demand3.antt. Assumes nothing.
 use mathlib.Core.Path.{_≡_}
 use mathlib.Core.Bool.{Bool, true, false, not}
 use mathlib.Core.List.{List}
 use lib.Dec.{T}
 use Rattle.specification.specs.Lists.{Each, Some}
 use Rattle.specification.specs.Bytes.{Bytes}
-use Rattle.specification.specs.Parser.{Reader, found}
 use Rattle.specification.specs.Lines.{Declared, cellOf}
 use Rattle.specification.specs.Given.{Item}
-use Rattle.specification.specs.Sheet.{Sheet, read}
-use Rattle.specification.specs.Listing.{Head, answerHead, errorHead, Block, listingText}
+use Rattle.specification.specs.Sheet.{Sheet}
+use Rattle.specification.specs.Listing.{Head, answerHead, errorHead, Block}
+use Rattle.specification.specs.Listed.{Listed}
 use Rattle.specification.specs.Plain.{Filling, Fills, Keeps, True}
 
 -- ---- of blocks
@@ -39,11 +39,16 @@ Agrees D φ b = Each (λ n. φ (cellOf D (n .name)) ≡ n .value) (b .cells)
 abbrev pub Such : Sheet → Filling → Type 0
 Such s φ = Fills (s .declared) φ × Keeps (s .given) φ
 
-pub record Agreement (s : Sheet) (listed : List Block) : Type 0 where
+-- every listed answer is right
+pub record Right (s : Sheet) (listed : List Block) : Type 0 where
   -- every listed answer names each given cell with its given value
   pub names-given : Each (λ b. IsAnswer b → Each (Names (s .declared) b) (s .given)) listed
   -- such a filling that agrees with a listed answer makes the formula true
   pub sound : (φ : Filling) → Such s φ → Each (λ b. IsAnswer b → Agrees (s .declared) φ b → True s φ) listed
+
+-- and every pattern is listed
+pub record Agreement (s : Sheet) (listed : List Block) : Type 0 where
+  pub right : Right s listed
   -- such a filling that makes the formula true agrees with some listed answer or error block
   pub complete : (φ : Filling) → Such s φ → True s φ → Some (Agrees (s .declared) φ) listed
   -- where no error block is listed, it makes the formula true exactly when it agrees with some listed answer
@@ -57,12 +62,7 @@ pub record Agreement (s : Sheet) (listed : List Block) : Type 0 where
       (Each IsError listed → (φ : Filling) → Such s φ → ¬ True s φ) ×
       (((φ : Filling) → Such s φ → ¬ True s φ) → Each IsError listed)
 
--- of the sheet's bytes and the bytes written: the sheet that is read, and the blocks that stand there, which are the only ones that can
+-- of the sheet's bytes and the bytes written
 pub record Demand3 (sheet written : Bytes) : Type 0 where
-  pub what : Sheet
-  pub reader : Reader
-  pub reads : read sheet ≡ found what reader
-  pub listed : List Block
-  pub stands : written ≡ listingText listed
-  pub only : (bs : List Block) → written ≡ listingText bs → bs ≡ listed
-  pub agreement : Agreement what listed
+  pub listed : Listed sheet written
+  pub agreement : Agreement (listed .what) (listed .blocks)

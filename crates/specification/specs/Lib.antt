@@ -15,10 +15,13 @@ pub mod Value
 pub mod WellFormed
 pub mod Closed
 pub mod Tree
-pub mod Visits
 pub mod Listing
+pub mod Leaves
+pub mod Visits
 pub mod Run
 pub mod Outcome
+pub mod Listed
+pub mod Demand2
 pub mod Plain
 pub mod Demand3
 pub mod Marked

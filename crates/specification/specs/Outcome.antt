@@ -17,7 +17,7 @@ use Rattle.specification.specs.Given.{Item}
 use Rattle.specification.specs.Sheet.{Sheet, read}
 use Rattle.specification.specs.Place.{cell, put}
 use Rattle.specification.specs.Value.{Valuation, empty, full}
-use Rattle.specification.specs.Tree.{treeOf}
+use Rattle.specification.specs.Tree.{Tree, treeOf}
 use Rattle.specification.specs.Visits.{Visit, visits}
 use Rattle.specification.specs.Run.{tallies, Stop, spent, path, output, Run, going, stopped, scan}
 
@@ -43,9 +43,13 @@ unfoldable pub start : List Item → Valuation
 start [] p = empty
 start (i ∷ is) p = put (start is) (cell (i .cell)) (full (i .value)) p
 
+-- the root has the sheet's formula and the given values
+unfoldable pub rootOf : Sheet → Tree
+rootOf s = treeOf (s .declared) (s .formula ∷ []) (start (s .given))
+
 -- the root is on the path, so its path is 1 long
 unfoldable pub visitsOf : Sheet → List Visit
-visitsOf s = visits 1 (treeOf (s .declared) (s .formula ∷ []) (start (s .given)))
+visitsOf s = visits 1 (rootOf s)
 
 unfoldable pub runOf : Sheet → Setting → ℕ → Run
 runOf s S size = scan (s .declared) S size (going (tallies 0 0 0 0) []) (visitsOf s)

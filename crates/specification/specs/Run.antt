@@ -8,7 +8,8 @@ use Rattle.specification.specs.declared.Setting.{Setting}
 use Rattle.specification.specs.declared.Tallies.{Tallies}
 use Rattle.specification.specs.Bytes.{Bytes, pick}
 use Rattle.specification.specs.Lines.{Declared}
-use Rattle.specification.specs.Visits.{Event, node, fail, answer, error, Visit}
+use Rattle.specification.specs.Leaves.{answer, error, fail}
+use Rattle.specification.specs.Visits.{Event, node, leaf, Visit}
 use Rattle.specification.specs.Listing.{answerHead, errorHead, blockOf, blockText}
 
 -- ---- tallies
@@ -48,9 +49,9 @@ module _ (D : Declared) (S : Setting) (size : ℕ) where
   -- what a visited node or leaf adds; N counts its kind from 1, skipped blocks included
   unfoldable pub arrive : Event → Tallies → Bytes → Run
   arrive node t w = going t w
-  arrive fail t w = going (addFail t) w
-  arrive (answer β) t w = block t (addAnswer t) w (blockText (blockOf D (answerHead (suc (t .answers))) β))
-  arrive (error kind token β) t w = block t (addError t) w (blockText (blockOf D (errorHead (suc (t .errors)) kind token) β))
+  arrive (leaf fail) t w = going (addFail t) w
+  arrive (leaf (answer β)) t w = block t (addAnswer t) w (blockText (blockOf D (answerHead (suc (t .answers))) β))
+  arrive (leaf (error kind token β)) t w = block t (addError t) w (blockText (blockOf D (errorHead (suc (t .errors)) kind token) β))
 
   -- a visit, and the two limits before it
   unfoldable pub visit : Visit → Tallies → Bytes → Run

@@ -2,14 +2,13 @@
 -- node, on that node's path, and stops at its first success leaf. Assumes nothing.
 use Prim.Native.Nat.{ℕ, zero, suc}
 use mathlib.Core.List.{List, [], _∷_}
-use Rattle.specification.specs.Value.{Valuation}
 use Rattle.specification.specs.Tree.{Tree, successLeaf, failureLeaf, errorLeaf, step, fork, fan, ask}
+use Rattle.specification.specs.Leaves.{Leaf, answer, error, fail}
 
--- a node, or a leaf of the main tree: a failure, an answer, or an error with its kind and token
+-- a node (in an inner tree a leaf too), or a leaf of the main tree
 pub data Event : Type 0 where
-  node fail : Event
-  answer : Valuation → Event
-  error : ℕ → ℕ → Valuation → Event
+  node : Event
+  leaf : Leaf → Event
 
 pub record Visit : Type 0 where
   pub depth : ℕ
@@ -32,18 +31,18 @@ each (suc n) i f = let r = each n (suc i) f in f i then r
 -- a visit in an inner tree counts as a node only, and a success leaf is the last
 abbrev pub insideThen : ℕ → Event → List Visit → List Visit
 insideThen d node vs = at d node ∷ vs
-insideThen d fail vs = at d node ∷ vs
-insideThen d (error κ t β) vs = at d node ∷ vs
-insideThen d (answer β) vs = at d node ∷ []
+insideThen d (leaf fail) vs = at d node ∷ vs
+insideThen d (leaf (error κ t β)) vs = at d node ∷ vs
+insideThen d (leaf (answer β)) vs = at d node ∷ []
 
 unfoldable pub inside : List Visit → List Visit
 inside [] = []
 inside (v ∷ vs) = let r = inside vs in insideThen (v .depth) (v .event) r
 
 unfoldable pub visits : ℕ → Tree → List Visit
-visits d (successLeaf β) = at d (answer β) ∷ []
-visits d failureLeaf = at d fail ∷ []
-visits d (errorLeaf κ t β) = at d (error κ t β) ∷ []
+visits d (successLeaf β) = at d (leaf (answer β)) ∷ []
+visits d failureLeaf = at d (leaf fail) ∷ []
+visits d (errorLeaf κ t β) = at d (leaf (error κ t β)) ∷ []
 visits d (step T) = let r = visits (suc d) T in at d node ∷ r
 visits d (fork T U) = let u = visits (suc d) U in let r = visits (suc d) T then u in at d node ∷ r
 visits d (fan n f) = let r = each n 0 (λ i. visits (suc d) (f i)) in at d node ∷ r

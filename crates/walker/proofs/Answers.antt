@@ -6,15 +6,16 @@ use mathlib.Core.Bool.{Bool, true, false, _||_, or-assoc}
 use mathlib.Core.List.{List, [], _∷_}
 use Rattle.specification.specs.Bytes.{pick}
 use Rattle.specification.specs.Tree.{Tree, successLeaf, failureLeaf, errorLeaf, step, fork, fan, ask, Verdict, succeeds, fails, undecided, join, joined, verdict}
-use Rattle.specification.specs.Visits.{Event, node, fail, answer, error, Visit, at, _then_, each, insideThen, inside, visits}
+use Rattle.specification.specs.Leaves.{answer, error, fail}
+use Rattle.specification.specs.Visits.{Event, node, leaf, Visit, at, _then_, each, insideThen, inside, visits}
 
 -- ---- whether there is an answer
 
 abbrev isAnswer : Event → Bool
 isAnswer node = false
-isAnswer fail = false
-isAnswer (answer β) = true
-isAnswer (error κ t β) = false
+isAnswer (leaf fail) = false
+isAnswer (leaf (answer β)) = true
+isAnswer (leaf (error κ t β)) = false
 
 unfoldable pub answered : List Visit → Bool
 answered [] = false
@@ -48,18 +49,18 @@ inside-then (x ∷ xs) ys = go (x .event) (inside-then xs ys)
     go : (e : Event) → inside (xs then ys) ≡ inside xs then pick (answered xs) [] (inside ys) →
         insideThen (x .depth) e (inside (xs then ys)) ≡ insideThen (x .depth) e (inside xs) then pick (isAnswer e || answered xs) [] (inside ys)
     go node h = ap (at (x .depth) node ∷_) h
-    go fail h = ap (at (x .depth) node ∷_) h
-    go (answer β) h = refl
-    go (error κ t β) h = ap (at (x .depth) node ∷_) h
+    go (leaf fail) h = ap (at (x .depth) node ∷_) h
+    go (leaf (answer β)) h = refl
+    go (leaf (error κ t β)) h = ap (at (x .depth) node ∷_) h
 
 -- what is read inside an inner tree has no answer, and is read again as it is
 module _ (ys : List Visit) where
   nodes-only : (d : ℕ) (e : Event) (vs : List Visit) → answered (vs then ys) ≡ answered ys → answered (insideThen d e vs then ys) ≡ answered ys
   unfolding answered _then_
   nodes-only d node vs h = h
-  nodes-only d fail vs h = h
-  nodes-only d (answer β) vs h = refl
-  nodes-only d (error κ t β) vs h = h
+  nodes-only d (leaf fail) vs h = h
+  nodes-only d (leaf (answer β)) vs h = refl
+  nodes-only d (leaf (error κ t β)) vs h = h
 
   answered-inside : (xs : List Visit) → answered (inside xs then ys) ≡ answered ys
   unfolding inside _then_
@@ -74,9 +75,9 @@ module _ (ys : List Visit) where
       go : (e : Event) → inside (inside xs then ys) ≡ inside xs then inside ys →
           inside (insideThen (x .depth) e (inside xs) then ys) ≡ insideThen (x .depth) e (inside xs) then inside ys
       go node h = ap (at (x .depth) node ∷_) h
-      go fail h = ap (at (x .depth) node ∷_) h
-      go (answer β) h = refl
-      go (error κ t β) h = ap (at (x .depth) node ∷_) h
+      go (leaf fail) h = ap (at (x .depth) node ∷_) h
+      go (leaf (answer β)) h = refl
+      go (leaf (error κ t β)) h = ap (at (x .depth) node ∷_) h
 
 -- ---- a tree's visits have an answer exactly where its verdict is success
 

@@ -12,7 +12,7 @@ use borrow.Rule.Slice.PartMut.{putMid, midOf, postOf, put-same}
 use Rattle.specification.specs.declared.Setting.{Setting}
 use Rattle.specification.specs.declared.Tallies.{Tallies}
 use Rattle.specification.specs.Bytes.{Bytes, pick}
-use Rattle.specification.specs.Visits.{Event, node, fail, answer, error}
+use Rattle.specification.specs.Leaves.{Leaf as TreeLeaf, answer, error, fail}
 use Rattle.specification.specs.Listing.{blockOf, blockText}
 use Rattle.specification.specs.Run.{addAnswer, addError, arrive, block}
 use Rattle.sheet.specs.Tables.{Words}
@@ -91,13 +91,12 @@ module _ {c : World} {o : Bytes} {w : Words} {r : Regs} (l : Leaf c o w r) where
   unfolding headDue passedTallies arrive walks.leaf
   block-result = go (l .v) (l .block) (l .result)
     where
-      go : (v : Event) → BlockOf (r .due) (l .α) v →
+      go : (v : TreeLeaf) → BlockOf (r .due) (l .α) v →
           walks.leaf (c .declared) (c .setting) (length (c .output)) v (no c (l .fr) (l .e)) (r .tallies) (l .b) ≡ c .result →
           walks.onto (no c (l .fr) (l .e))
           (block (c .declared) (c .setting) (length (c .output)) (r .tallies) (passedTallies r) (l .b) (blockText (blockOf (c .declared) (headOf (headDue r)) (l .α)))) ≡ c .result
       go (answer β) q h = rw (eq-eqb (r .due .job) 16 (q .0)) (rw (q .1) at h)
       go (error κ tok β) q h = rw (ne-eqb (r .due .job) 16 (λ z. omega (arith, q .0)), q .1, q .2) (rw (q .3) at h)
-      go node q h = absurd q
       go fail q h = absurd q
 
   -- ---- what it leads to

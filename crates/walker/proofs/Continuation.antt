@@ -9,6 +9,8 @@ use Rattle.specification.specs.declared.Tallies.{Tallies}
 use Rattle.specification.specs.Bytes.{Bytes, pick}
 use Rattle.specification.specs.Lines.{Declared}
 use Rattle.specification.specs.Tree.{Verdict, succeeds, fails, undecided, join}
+use Rattle.specification.specs.Leaves.{Leaf}
+use Rattle.specification.specs.Visits as visited
 use Rattle.specification.specs.Visits.{Event, node, Visit, at, _then_, inside}
 use Rattle.specification.specs.Run.{addNode, spent, path, Run, going, stopped, arrive, visit, scan}
 use Rattle.specification.proofs.Laws.Run.{scan-stopped, scan-append}
@@ -84,15 +86,21 @@ module _ (D : Declared) (S : Setting) (size : ℕ) where
   onto-pick k false false t w r = refl
 
   -- a visit, and then the others
-  pub through-leaf : (k : Next) (d : ℕ) (v : Event) (vs : List Visit) → through k (at d v ∷ vs) ≡ gated D S size d (leaf D S size v (through k vs))
-  unfolding through scan visit gated leaf
-  through-leaf k d v vs = fun-ext (λ t. fun-ext (λ w.
+  through-visit : (k : Next) (d : ℕ) (v : Event) (vs : List Visit) →
+      through k (at d v ∷ vs) ≡ gated D S size d (λ t w. onto (through k vs) (arrive D S size v t w))
+  unfolding through scan visit gated
+  through-visit k d v vs = fun-ext (λ t. fun-ext (λ w.
       scan-onto k vs (visit D S size (at d v) t w) ∙
       onto-pick (through k vs) (eqb (t .nodes) (S .budget)) (ltb (S .path) d) t w (arrive D S size v (addNode t) w)))
 
+  pub through-leaf : (k : Next) (d : ℕ) (l : Leaf) (vs : List Visit) →
+      through k (at d (visited.leaf l) ∷ vs) ≡ gated D S size d (leaf D S size l (through k vs))
+  unfolding leaf
+  through-leaf k d l vs = through-visit k d (visited.leaf l) vs
+
   pub through-node : (k : Next) (d : ℕ) (vs : List Visit) → through k (at d node ∷ vs) ≡ gated D S size d (through k vs)
-  unfolding leaf arrive
-  through-node k d vs = through-leaf k d node vs
+  unfolding arrive
+  through-node k d vs = through-visit k d node vs
 
   -- ---- one tree and then another
 

@@ -8,7 +8,7 @@ use mathlib.Core.List.{[], _∷_}
 use lib.Dec.{eqb}
 use borrow.Author.Tests.{eqb-true, eqb-false}
 use Rattle.specification.specs.Bytes.{Bytes}
-use Rattle.specification.specs.Visits.{answer, error as errs}
+use Rattle.specification.specs.Leaves.{answer, error as errs}
 use Rattle.specification.specs.declared.Tallies.{Tallies}
 use Rattle.specification.specs.Run.{addFail, arrive}
 use Rattle.specification.specs.Ast.{Formula}

@@ -12,7 +12,7 @@ use Rattle.specification.specs.Sheet.{Sheet}
 use Rattle.specification.specs.Tree.{Tree, successLeaf, failureLeaf, errorLeaf, step, fork, fan, ask, Verdict, succeeds, join, joined, verdict, treeOf}
 use Rattle.specification.specs.Visits.{node, Visit, at, _then_, each, inside, visits}
 use Rattle.specification.specs.Run.{tallies, Run, going, stopped}
-use Rattle.specification.specs.Outcome.{start, visitsOf, runOf}
+use Rattle.specification.specs.Outcome.{start, rootOf, visitsOf, runOf}
 use Rattle.walker.specs.Walk.{Next, onto, flagged, gated, sonsFrom, within, walk}
 use Rattle.walker.proofs.Answers.{answered-visits}
 use Rattle.walker.proofs.Continuation.{after, seen, seen-nil, seen-node, seen-inside, after-fails, by-flags, through, through-nil, through-then, through-leaf, through-node, through-both}
@@ -96,7 +96,7 @@ onto-going (stopped e t w) = refl
 pub walk-run : (s : Sheet) (S : Setting) (size : ℕ) → runOf s S size ≡
     walk (s .declared) S size false 1 (treeOf (s .declared) (s .formula ∷ []) (start (s .given))) (λ t w. going t w) (λ e t w. going t w) false
     (tallies 0 0 0 0) []
-unfolding runOf visitsOf through
+unfolding runOf rootOf visitsOf through
 walk-run s S size =
     let D = s .declared in
     let T = treeOf D (s .formula ∷ []) (start (s .given)) in

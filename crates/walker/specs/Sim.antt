@@ -10,7 +10,7 @@ use Rattle.specification.specs.declared.Tallies.{Tallies}
 use Rattle.specification.specs.Bytes.{Bytes, pick}
 use Rattle.specification.specs.Value.{Valuation}
 use Rattle.specification.specs.Tree.{Tree}
-use Rattle.specification.specs.Visits.{Event, answer, error}
+use Rattle.specification.specs.Leaves.{Leaf as TreeLeaf, answer, error, fail}
 use Rattle.specification.specs.Run.{Run, going, stopped, spent, path, output}
 use Rattle.sheet.specs.Tables.{Words}
 use Rattle.walker.specs.declared.Due.{Due}
@@ -90,16 +90,15 @@ pub record Yes (c : World) (o : Bytes) (w : Words) (r : Regs) : Type 0 where
   pub count : Count c (r .tallies)
   pub result : yes c fr (r .tallies) b ≡ c .result
 
--- the event of a leaf with a block
-abbrev pub BlockOf : Due → Valuation → Event → Type 0
+-- a leaf with a block
+abbrev pub BlockOf : Due → Valuation → TreeLeaf → Type 0
 BlockOf d α (answer β) = (d .job ≡ 16) × (β ≡ α)
 BlockOf d α (error κ tok β) = (d .job ≡ 18) × (d .rest ≡ κ) × (d .head ≡ tok) × (β ≡ α)
-BlockOf d α Event.node = ⊥
-BlockOf d α Event.fail = ⊥
+BlockOf d α fail = ⊥
 
 -- a leaf of the main tree is visited, and its block is due
 pub record Leaf (c : World) (o : Bytes) (w : Words) (r : Regs) : Type 0 where
-  pub v : Event
+  pub v : TreeLeaf
   pub fr : List Frame
   pub α : Valuation
   pub e : Bool

@@ -8,7 +8,8 @@ use Rattle.specification.specs.declared.Tallies.{Tallies}
 use Rattle.specification.specs.Bytes.{Bytes, pick}
 use Rattle.specification.specs.Lines.{Declared}
 use Rattle.specification.specs.Tree.{Tree, successLeaf, failureLeaf, errorLeaf, step, fork, fan, ask, Verdict, fails, undecided}
-use Rattle.specification.specs.Visits.{Event, fail, answer, error}
+use Rattle.specification.specs.Leaves.{Leaf, answer, error, fail}
+use Rattle.specification.specs.Visits as visited
 use Rattle.specification.specs.Run.{addNode, spent, path, Run, going, stopped, arrive}
 
 -- what comes next, from the tallies and the bytes written
@@ -32,8 +33,8 @@ module _ (D : Declared) (S : Setting) (size : ℕ) where
       pick (eqb (t .nodes) (S .budget)) (stopped spent t w) (pick (ltb (S .path) d) (stopped path t w) r)
 
   -- a leaf of the main tree, its visit counted, and then k
-  unfoldable pub leaf : Event → Next → Next
-  leaf v k t w = onto k (arrive D S size v t w)
+  unfoldable pub leaf : Leaf → Next → Next
+  leaf l k t w = onto k (arrive D S size (visited.leaf l) t w)
 
   -- n sons from the i-th on
   unfoldable pub sonsFrom : ℕ → ℕ → (ℕ → (Bool → Next) → Bool → Next) → (Bool → Next) → Bool → Next

@@ -11,13 +11,14 @@ use Rattle.specification.specs.declared.Setting.{Setting}
 use Rattle.specification.specs.declared.Tallies.{Tallies}
 use Rattle.specification.specs.Bytes.{Bytes}
 use Rattle.specification.specs.Lines.{Declared}
-use Rattle.specification.specs.Visits.{Event, node, fail, answer, error, Visit}
 use Rattle.specification.specs.Listing.{answerHead, errorHead, Block, blockOf, blockText, listingText}
+use Rattle.specification.specs.Leaves.{Leaf, answer, error, fail, blocks}
+use Rattle.specification.specs.Visits.{Event, node, leaf, Visit}
 use Rattle.specification.specs.Run.{tallies, Stop, spent, path, output, Run, going, stopped, scan}
 use Rattle.specification.specs.Lists.{Each}
 use Rattle.specification.proofs.Laws.Stops.{unless, dueText, added, counted, counted-nodes, atStop, Meets, Passes}
 use Rattle.specification.proofs.Laws.Run.{writtenBy, Prefix, then-is-++, scan-append, scan-stops, scan-passes, scan-going, scan-induction, scan-nodes, scan-grows}
-use Rattle.specification.proofs.Laws.Leaves.{listed, blocksOf}
+use Rattle.specification.proofs.Laws.Leaves.{leafOf, leavesIn}
 
 -- ---- a listing under limits is a beginning of the one without
 
@@ -44,32 +45,36 @@ unfolding listingText
 due-size true b bs = omega (arith, length-append (blockText b) (listingText bs))
 due-size false b bs = omega (arith, length-append (blockText b) (listingText bs))
 
-added-size : (D : Declared) (skip : ℕ) (t : Tallies) (ev : Event) (k : ℕ → ℕ → List Block) →
-    length (added D skip t ev) + length (listingText (k (counted ev t .answers) (counted ev t .errors))) ≤
-    length (listingText (listed D (t .answers) (t .errors) ev k))
-added-size D skip t node k = omega arith
-added-size D skip t fail k = omega arith
-added-size D skip t (answer β) k =
-    due-size (ltb (t .answers + t .errors) skip) (blockOf D (answerHead (suc (t .answers))) β) (k (suc (t .answers)) (t .errors))
-added-size D skip t (error κ i β) k =
-    due-size (ltb (t .answers + t .errors) skip) (blockOf D (errorHead (suc (t .errors)) κ i) β) (k (t .answers) (suc (t .errors)))
+added-size : (D : Declared) (skip : ℕ) (t : Tallies) (ev : Event) (ls : List Leaf) →
+    length (added D skip t ev) + length (listingText (blocks D (counted ev t .answers) (counted ev t .errors) ls)) ≤
+    length (listingText (blocks D (t .answers) (t .errors) (leafOf ev ++ ls)))
+unfolding blocks
+added-size D skip t node ls = omega arith
+added-size D skip t (leaf fail) ls = omega arith
+added-size D skip t (leaf (answer β)) ls =
+    due-size (ltb (t .answers + t .errors) skip) (blockOf D (answerHead (suc (t .answers))) β) (blocks D (suc (t .answers)) (t .errors) ls)
+added-size D skip t (leaf (error κ i β)) ls =
+    due-size (ltb (t .answers + t .errors) skip) (blockOf D (errorHead (suc (t .errors)) κ i) β) (blocks D (t .answers) (suc (t .errors)) ls)
+
+-- the bytes of all blocks of these visits
+abbrev pub roomOf : Declared → Tallies → List Visit → ℕ
+roomOf D t vs = length (listingText (blocks D (t .answers) (t .errors) (leavesIn vs)))
 
 module _ (D : Declared) (S : Setting) (size : ℕ) where
   -- budget, path limit and output are enough for these visits
   abbrev pub Ample : Tallies → Bytes → List Visit → Type 0
   Ample t w vs =
       (t .nodes + length vs ≤ S .budget) × Each (λ v. v .depth ≤ S .path) vs ×
-      (length w + length (listingText (blocksOf D (t .answers) (t .errors) vs)) ≤ size)
+      (length w + roomOf D t vs ≤ size)
 
   abbrev Goes : Tallies → Bytes → List Visit → Run → Type 0
   Goes t w vs r = Ample t w vs → (t′ : Tallies) × (w′ : Bytes) × (r ≡ going t′ w′)
 
   module _ (v : Visit) (vs : List Visit) (t : Tallies) (w : Bytes) (p : Ample t w (v ∷ vs)) where
     rest-fits :
-        length w + (length (added D (S .skip) t (v .event)) +
-        length (listingText (blocksOf D (counted (v .event) t .answers) (counted (v .event) t .errors) vs))) ≤ size
-    unfolding blocksOf
-    rest-fits = omega (arith, p .2, added-size D (S .skip) t (v .event) (λ a e. blocksOf D a e vs))
+        length w + (length (added D (S .skip) t (v .event)) + roomOf D (counted (v .event) t) vs) ≤ size
+    unfolding leavesIn
+    rest-fits = omega (arith, p .2, added-size D (S .skip) t (v .event) (leavesIn vs))
 
     none-met : (e : Stop) → ¬ Meets D S size e v t w
     unfolding Each
@@ -106,7 +111,7 @@ abbrev pub noLimits : ℕ → Tallies → List Visit → Setting
 noLimits skip t vs = record { path = deepest vs; budget = t .nodes + suc (length vs); skip = skip }
 
 abbrev pub roomFor : Declared → Tallies → Bytes → List Visit → ℕ
-roomFor D t w vs = length w + length (listingText (blocksOf D (t .answers) (t .errors) vs))
+roomFor D t w vs = length w + roomOf D t vs
 
 pub no-limits-goes : (D : Declared) (skip : ℕ) (vs : List Visit) (t : Tallies) (w : Bytes) →
     (t′ : Tallies) × (w′ : Bytes) × (scan D (noLimits skip t vs) (roomFor D t w vs) (going t w) vs ≡ going t′ w′)

@@ -1,156 +1,93 @@
--- The third demand (specs/Demand3.antt) holds of every sheet of whatever bytes and every setting: a call that ends done with skip 0 has
--- listed what the plain reading says. And truth of a filling is two-valued. Assumes nothing.
-use Prim.Native.Nat.{ℕ, _<_}
+-- What a call that ran has told (the second and the third demand, and that listed answers are right whatever ended the run), for every sheet of
+-- whatever bytes and every setting. And truth of a filling is two-valued. Assumes nothing.
+use Prim.Native.Nat.{ℕ}
 use mathlib.Core.Path.{_≡_, refl, sym, _∙_, ap, subst}
-use mathlib.Core.List.{List, [], _∷_}
-use lib.Dec.{T, T-not}
-use lib.IntN.{ℤ, pos}
+use mathlib.Core.List.{[], append-nil}
+use lib.ListN.{length, take, drop}
 use Rattle.specification.specs.declared.Setting.{Setting}
 use Rattle.specification.specs.declared.Tallies.{Tallies}
+use Rattle.specification.specs.declared.End.{End}
 use Rattle.specification.specs.declared.End.the-variants.{Done}
-use Rattle.specification.specs.Lists.{Each, Some}
+use Rattle.specification.specs.Lists.{Each}
 use Rattle.specification.specs.Bytes.{Bytes}
-use Rattle.specification.specs.Number.{in32}
-use Rattle.specification.specs.Lines.{Declared, cells, cellOf}
 use Rattle.specification.specs.Sheet.{Sheet}
-use Rattle.specification.specs.Place.{cell}
-use Rattle.specification.specs.Value.{Slot, empty, full, Valuation}
-use Rattle.specification.specs.WellFormed.{Valid, WellFormed}
-use Rattle.specification.specs.Tree.{treeOf}
-use Rattle.specification.specs.Listing.{Named, Block, listingText}
-use Rattle.specification.specs.Outcome.{ran, start, visitsOf, call}
-use Rattle.specification.specs.Plain.{Filling, env, Fills, Keeps, True}
-use Rattle.specification.specs.Demand3.{headsAnswer, IsAnswer, IsError, Names, Agrees, Such, Agreement, Demand3}
-use Rattle.specification.proofs.Laws.Lists.{each-map, each-both, each-some, some-map, some-and-each}
+use Rattle.specification.specs.WellFormed.{WellFormed}
+use Rattle.specification.specs.Listing.{Block}
+use Rattle.specification.specs.Leaves.{leaves, blocks}
+use Rattle.specification.specs.Outcome.{ran, rootOf, visitsOf, call}
+use Rattle.specification.specs.Listed.{Listed}
+use Rattle.specification.specs.Demand2.{leafCount, leavesBefore, listedBefore, Ends, ReadLeftToRight}
+use Rattle.specification.specs.Plain.{Filling, env, True}
+use Rattle.specification.specs.Demand3.{Right, Agreement, Demand3}
+use Rattle.specification.proofs.Laws.Lists.{each-drop}
 use Rattle.specification.proofs.Laws.Blocks.{listing-injective}
-use Rattle.specification.proofs.Laws.Cells.{agrees-matches, matches-agrees, names-valued}
-use Rattle.specification.proofs.Laws.Start.{start-has, start-only, start-valid, keeps-matches, matches-keeps}
 use Rattle.specification.proofs.Laws.ReadSheet.{read-well-formed}
-use Rattle.specification.proofs.Laws.SheetTree.{Matches, Answer, sound, complete}
+use Rattle.specification.proofs.Laws.SheetTree.{sound}
 use Rattle.specification.proofs.Laws.Decide.{decide}
-use Rattle.specification.proofs.Laws.Leaves.{blocksOf, CellsOf, every-blocks, some-blocks}
-use Rattle.specification.proofs.Laws.Done.{call-ran, done-lists}
+use Rattle.specification.proofs.Laws.Leaves.{leavesIn-visits, each-first-blocks}
+use Rattle.specification.proofs.Laws.CallRan.{call-ran}
+use Rattle.specification.proofs.Laws.Demand2.{leavesBefore-is, Holds, read-left-to-right}
+use Rattle.specification.proofs.Laws.Agreement.{allBlocks, right, agreement}
 
--- ---- a filling that agrees with a valuation: 0 where it has no value
+-- ---- the blocks up to a place
 
-abbrev slotValue : Slot → ℤ
-slotValue empty = pos 0
-slotValue (full z) = z
+-- the blocks of the first leaves, past the skipped ones, are among all
+right-before : (s : Sheet) → WellFormed s → (skip n : ℕ) → Right s (listedBefore s skip n)
+unfolding listedBefore leavesBefore
+right-before s wf skip n =
+    let among : (P : Block → Type 0) → Each P (allBlocks s wf) → Each P (drop skip (blocks (s .declared) 0 0 (take (leafCount (take n (visitsOf s))) (leaves (rootOf s))))) =
+    λ P h. each-drop P skip _ (each-first-blocks (s .declared) P (leafCount (take n (visitsOf s))) (leaves (rootOf s)) 0 0 h) in
+    record {
+      names-given = among _ (right s wf .names-given);
+      sound = λ φ such. among _ (right s wf .sound φ such);
+    }
 
-abbrev filling : Valuation → Filling
-filling β c = slotValue (β (cell c))
+-- with nothing skipped, and all visited, they are all
+all-before : (s : Sheet) (wf : WellFormed s) (skip n : ℕ) → skip ≡ 0 → n ≡ length (visitsOf s) → listedBefore s skip n ≡ allBlocks s wf
+unfolding listedBefore visitsOf
+all-before s wf skip n z e =
+    ap (λ k. drop k (blocks (s .declared) 0 0 (leavesBefore s n))) z ∙
+    ap (λ m. blocks (s .declared) 0 0 (leavesBefore s m)) e ∙
+    ap (blocks (s .declared) 0 0) (leavesBefore-is s (visitsOf s) [] (sym (append-nil (visitsOf s))) ∙ leavesIn-visits (rootOf s) 1)
 
-filling-at : (β : Valuation) (c : ℕ) (v : ℤ) → β (cell c) ≡ full v → filling β c ≡ v
-filling-at β c v e = ap slotValue e
+-- ---- of a call
 
-filling-fits : (β : Valuation) → Valid β → (c : ℕ) → T (in32 (filling β c))
-filling-fits β h c = go (β (cell c)) refl
-  where
-    go : (s : Slot) → β (cell c) ≡ s → T (in32 (slotValue s))
-    go empty e = tt
-    go (full v) e = h (cell c) v e
+-- what a call that ran has told: the sheet and the blocks that stand in the bytes written, of which the second demand holds, whose answers are
+-- right, and which agree with the plain reading where all was visited and nothing skipped
+pub record Told (sheet written : Bytes) (S : Setting) (size : ℕ) (end : End) (t : Tallies) : Type 0 where
+  pub listed : Listed sheet written
+  pub tree : ReadLeftToRight (listed .what) S size end t (listed .blocks)
+  pub right : Right (listed .what) (listed .blocks)
+  pub agrees : S .skip ≡ 0 → end ≡ Done → Agreement (listed .what) (listed .blocks)
 
--- ---- the demand, of the blocks of a well-formed sheet's tree
-
-module _ (s : Sheet) (wf : WellFormed s) where
-  abbrev D : Declared
-  D = s .declared
-
-  abbrev α : Valuation
-  α = start (s .given)
-
-  abbrev blocks : List Block
-  blocks = blocksOf D 0 0 (visitsOf s)
-
-  valid : Valid α
-  valid = start-valid (s .given) (wf .values)
-
-  answers : Each (λ b. IsAnswer b → CellsOf D (Answer D (s .formula) α) b) blocks
-  unfolding visitsOf
-  answers = every-blocks D (Answer D (s .formula) α) (treeOf D (s .formula ∷ []) α) 1 0 0 (sound D (s .formula) (wf .formula) α valid)
-
-  names-given : Each (λ b. IsAnswer b → Each (Names D b) (s .given)) blocks
-  names-given =
-      each-map (λ b f a.
-      let (β, e, answer) = f a in
-      each-both (s .given) (λ i declared has.
-      subst (Some (λ n. (cellOf D (n .name) ≡ i .cell) × (n .value ≡ i .value))) (sym e)
-      (names-valued D β (i .cell) declared (i .value) (answer .keeps (i .cell) declared (i .value) has)))
-      (wf .declared) (start-has 0 (s .given) (wf .rising)))
-      blocks answers
-
-  agreeing-true : (φ : Filling) → Each (λ b. IsAnswer b → Agrees D φ b → True s φ) blocks
-  unfolding True
-  agreeing-true φ =
-      each-map (λ b f a agrees.
-      let (β, e, answer) = f a in
-      answer .proves φ (agrees-matches D β φ (subst (Each (λ (n : Named). φ (cellOf D (n .name)) ≡ n .value)) e agrees)))
-      blocks answers
-
-  true-agrees : (φ : Filling) → Keeps (s .given) φ → True s φ → Some (Agrees D φ) blocks
-  unfolding True visitsOf
-  true-agrees φ keeps holds =
-      some-map (λ b h.
-      let (β, e, matches) = h in
-      subst (Each (λ (n : Named). φ (cellOf D (n .name)) ≡ n .value)) (sym e) (matches-agrees D β φ matches))
-      blocks
-      (some-blocks D (Matches D φ) (treeOf D (s .formula ∷ []) α) 1 0 0
-      (complete D (s .formula) (wf .formula) α valid φ (λ c h v e. keeps-matches (s .given) φ keeps c v e) holds))
-
-  -- the given cells are declared
-  given-declared : (c : ℕ) (v : ℤ) → α (cell c) ≡ full v → c < cells D
-  given-declared c v e =
-      each-some (s .given) (λ i declared gives. subst (_< cells D) (gives .0) declared) (wf .declared) (start-only (s .given) c v e)
-
-  -- every answer has a filling that agrees with it and keeps the given values
-  answer-such : (β : Valuation) → Answer D (s .formula) α β → Such s (filling β)
-  unfolding Fills
-  answer-such β answer = (
-    (λ c h. filling-fits β (answer .valid) c),
-    matches-keeps 0 (s .given) (filling β) (wf .rising) (λ c v e. filling-at β c v (answer .keeps c (given-declared c v e) v e)),
-  )
-
-  no-filling : ((φ : Filling) → Such s φ → ¬ True s φ) → (b : Block) → CellsOf D (Answer D (s .formula) α) b → ⊥
-  unfolding True
-  no-filling none b (β, e, answer) =
-      none (filling β) (answer-such β answer) (answer .proves (filling β) (λ c h v at. filling-at β c v at))
-
-  no-error : (b : Block) → IsAnswer b → IsError b → ⊥
-  no-error b a e = T-not (headsAnswer (b .head)) e a
-
-  agreement : Agreement s blocks
-  agreement = record {
-    names-given = names-given;
-    sound = λ φ such. agreeing-true φ;
-    complete = λ φ such. true-agrees φ (such .1);
-    exactly-when = λ only φ such. (
-      (λ holds. some-map (λ b h. (h .1, h .0)) blocks (some-and-each (Agrees D φ) IsAnswer blocks (true-agrees φ (such .1) holds) only)),
-      (λ some. each-some blocks (λ b f h. f (h .0) (h .1)) (agreeing-true φ) some),
-    );
-    none-exactly-when = λ only. (
-      (λ errors φ such holds.
-          each-some blocks (λ b e h. no-error b (h .1) e) errors (some-and-each (Agrees D φ) IsAnswer blocks (true-agrees φ (such .1) holds) only)),
-      (λ none. each-both blocks (λ b f a. absurd (no-filling none b (f a))) answers only),
-    );
-  }
-
--- ---- the demand
+pub told : (sheet : Bytes) (S : Setting) (words size : ℕ) (end : End) (t : Tallies) (w : Bytes) →
+    call sheet S words size ≡ ran end t w → Told sheet w S size end t
+told sheet S words size end t w h =
+    let (s, r, reads, result) = call-ran sheet S words size end t w h in
+    let wf = read-well-formed sheet s r reads in
+    let (bs, stands, tree) = subst (Holds s S size) result (read-left-to-right s S size) in
+    record {
+      listed = record {
+        what = s;
+        reader = r;
+        reads = reads;
+        blocks = bs;
+        stands = stands;
+        only = λ cs e. listing-injective cs bs (sym e ∙ stands);
+      };
+      tree = tree;
+      right = rw (tree .blocks) (right-before s wf (S .skip) (tree .place));
+      agrees = λ skip done.
+          let all : tree .place ≡ length (visitsOf s) = subst (λ e. Ends s S size e (tree .place)) done (tree .ends) in
+          rw (tree .blocks, all-before s wf (S .skip) (tree .place) skip all) (agreement s wf);
+    }
 
 pub demand3 :
     (sheet : Bytes) (S : Setting) (words size : ℕ) (t : Tallies) (w : Bytes) →
     S .skip ≡ 0 → call sheet S words size ≡ ran Done t w → Demand3 sheet w
 demand3 sheet S words size t w skip h =
-    let (s, r, reads, result) = call-ran sheet S words size Done t w h in
-    let stands : w ≡ listingText (blocksOf (s .declared) 0 0 (visitsOf s)) = done-lists s S size t w result skip in
-    record {
-      what = s;
-      reader = r;
-      reads = reads;
-      listed = blocksOf (s .declared) 0 0 (visitsOf s);
-      stands = stands;
-      only = λ bs e. listing-injective bs (blocksOf (s .declared) 0 0 (visitsOf s)) (sym e ∙ stands);
-      agreement = agreement s (read-well-formed sheet s r reads);
-    }
+    let x = told sheet S words size Done t w h in
+    record { listed = x .listed; agreement = x .agrees skip refl }
 
 -- a filling makes a sheet's formula true or it does not, so "exactly when" is two-valued
 pub true-or-not : (s : Sheet) (φ : Filling) → Dec (True s φ)

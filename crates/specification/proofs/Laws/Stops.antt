@@ -12,8 +12,9 @@ use Rattle.specification.specs.declared.Setting.{Setting}
 use Rattle.specification.specs.declared.Tallies.{Tallies}
 use Rattle.specification.specs.Bytes.{Bytes, pick}
 use Rattle.specification.specs.Lines.{Declared}
-use Rattle.specification.specs.Visits.{Event, node, fail, answer, error, Visit}
 use Rattle.specification.specs.Listing.{answerHead, errorHead, Block, blockOf, blockText}
+use Rattle.specification.specs.Leaves.{answer, error, fail}
+use Rattle.specification.specs.Visits.{Event, node, leaf, Visit}
 use Rattle.specification.specs.Run.{addNode, addAnswer, addError, addFail, Stop, spent, path, output, Run, going, stopped, block, arrive, visit}
 
 -- ---- the block of an event, and the tallies after it
@@ -26,9 +27,9 @@ unless false b = some b
 -- the block that is due at an event, by the tallies before it: none at a node or a failure, and none among the first skip blocks
 abbrev pub due : Declared → ℕ → Tallies → Event → Option Block
 due D skip t node = none
-due D skip t fail = none
-due D skip t (answer β) = unless (ltb (t .answers + t .errors) skip) (blockOf D (answerHead (suc (t .answers))) β)
-due D skip t (error κ k β) = unless (ltb (t .answers + t .errors) skip) (blockOf D (errorHead (suc (t .errors)) κ k) β)
+due D skip t (leaf fail) = none
+due D skip t (leaf (answer β)) = unless (ltb (t .answers + t .errors) skip) (blockOf D (answerHead (suc (t .answers))) β)
+due D skip t (leaf (error κ k β)) = unless (ltb (t .answers + t .errors) skip) (blockOf D (errorHead (suc (t .errors)) κ k) β)
 
 abbrev pub dueText : Option Block → Bytes
 dueText none = []
@@ -41,15 +42,15 @@ added D skip t ev = dueText (due D skip t ev)
 -- the tallies after a visit that is passed
 abbrev pub counted : Event → Tallies → Tallies
 counted node t = addNode t
-counted fail t = addFail (addNode t)
-counted (answer β) t = addAnswer (addNode t)
-counted (error κ k β) t = addError (addNode t)
+counted (leaf fail) t = addFail (addNode t)
+counted (leaf (answer β)) t = addAnswer (addNode t)
+counted (leaf (error κ k β)) t = addError (addNode t)
 
 pub counted-nodes : (ev : Event) (t : Tallies) → counted ev t .nodes ≡ suc (t .nodes)
 counted-nodes node t = refl
-counted-nodes fail t = refl
-counted-nodes (answer β) t = refl
-counted-nodes (error κ k β) t = refl
+counted-nodes (leaf fail) t = refl
+counted-nodes (leaf (answer β)) t = refl
+counted-nodes (leaf (error κ k β)) t = refl
 
 -- the tallies of a run that is stopped, by those before the visit: a leaf whose block finds no room is in the nodes only
 abbrev pub atStop : Stop → Tallies → Tallies
@@ -89,10 +90,10 @@ module _ (D : Declared) (S : Setting) (size : ℕ) where
       arrive D S size ev (addNode t) w ≡ settled (addNode t) (counted ev t) w (due D (S .skip) t ev)
   unfolding arrive block
   arrive-is node t w = refl
-  arrive-is fail t w = refl
-  arrive-is (answer β) t w =
+  arrive-is (leaf fail) t w = refl
+  arrive-is (leaf (answer β)) t w =
       settles (ltb (t .answers + t .errors) (S .skip)) (addNode t) (addAnswer (addNode t)) w (blockOf D (answerHead (suc (t .answers))) β)
-  arrive-is (error κ k β) t w =
+  arrive-is (leaf (error κ k β)) t w =
       settles (ltb (t .answers + t .errors) (S .skip)) (addNode t) (addError (addNode t)) w (blockOf D (errorHead (suc (t .errors)) κ k) β)
 
   visit-is : (v : Visit) (t : Tallies) (w : Bytes) →

@@ -16,7 +16,7 @@ use Rattle.specification.specs.Run.{going, scan}
 use Rattle.specification.specs.Outcome.{ran, written, visitsOf, runOf, call}
 use Rattle.specification.proofs.Laws.Stops.{due, dueText}
 use Rattle.specification.proofs.Laws.Run.{writtenBy, scan-induction}
-use Rattle.specification.proofs.Laws.Done.{call-ran}
+use Rattle.specification.proofs.Laws.CallRan.{call-ran}
 
 -- blocks after these bytes
 abbrev Blocks : Bytes → Bytes → Type 0
@@ -31,7 +31,7 @@ unfolding listingText
 more w b none (bs, e) = (bs, e ∙ ap (_++ listingText bs) (append-nil w))
 more w b (some x) (bs, e) = (x ∷ bs, e ∙ append-assoc w (blockText x) (listingText bs))
 
-room : (w : Bytes) (o : Option Block) (size : ℕ) → length w ≤ size → ((x : Block) → o ≡ some x → length w + length (blockText x) ≤ size) → length (w ++ dueText o) ≤ size
+pub room : (w : Bytes) (o : Option Block) (size : ℕ) → length w ≤ size → ((x : Block) → o ≡ some x → length w + length (blockText x) ≤ size) → length (w ++ dueText o) ≤ size
 room w none size h k = rw (append-nil w) h
 room w (some x) size h k = rw length-append (k x refl)
 

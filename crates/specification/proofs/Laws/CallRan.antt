@@ -1,28 +1,21 @@
--- A call that ran has read a sheet, and its result is that sheet's run; one that ends done with nothing skipped has written the blocks of all
--- answer and error leaves. Assumes nothing.
+-- A call that ran has read a sheet, and its result is that sheet's run. Assumes nothing.
 use Prim.Native.Nat.{ℕ}
 use native.Mathlib.Omega.{arith}
 use mathlib.Core.Path.{_≡_, refl, sym, _∙_, ap}
 use mathlib.Core.Bool.{Bool, true, false}
-use mathlib.Core.List.{[]}
 use lib.ListN.{length}
 use lib.Dec.{leb}
 use Rattle.specification.specs.declared.Setting.{Setting}
 use Rattle.specification.specs.declared.Tallies.{Tallies}
 use Rattle.specification.specs.declared.End.{End}
-use Rattle.specification.specs.declared.End.the-variants.{Done}
 use Rattle.specification.specs.Bytes.{Bytes, pick}
 use Rattle.specification.specs.Parser.{Reader, Read, refused, found}
 use Rattle.specification.specs.Sheet.{Sheet, read}
-use Rattle.specification.specs.Listing.{listingText}
-use Rattle.specification.specs.Run.{tallies, spent, path, output, Run, going, stopped}
-use Rattle.specification.specs.Outcome.{refusal, ran, resultOf, visitsOf, runOf, afterReading, enoughMemory, call}
-use Rattle.specification.proofs.Laws.Leaves.{blocksOf, scan-lists}
+use Rattle.specification.specs.Outcome.{refusal, ran, resultOf, runOf, afterReading, enoughMemory, call}
 
 refusal-not-ran : {A : Type 0} {n p : ℕ} {e : End} {t : Tallies} {w : Bytes} → refusal n p ≡ ran e t w → A
 refusal-not-ran h = let z : _≡_ {A = ℕ} 0 1 = cc in absurd (omega arith)
 
--- a call that ran has read a sheet, and its result is that sheet's run
 pub call-ran : (sheet : Bytes) (S : Setting) (words size : ℕ) (e : End) (t : Tallies) (w : Bytes) → call sheet S words size ≡ ran e t w →
     (s : Sheet) × (r : Reader) × (read sheet ≡ found s r) × (resultOf (runOf s S size) ≡ ran e t w)
 unfolding call
@@ -38,17 +31,3 @@ call-ran sheet S words size e t w h = byRead (read sheet) refl (byTests (enoughM
         (s : Sheet) × (r : Reader) × (read sheet ≡ found s r) × (resultOf (runOf s S size) ≡ ran e t w)
     byRead (refused n p) q k = refusal-not-ran (sym (ap (afterReading S size) q) ∙ k)
     byRead (found s r) q k = (s, r, q, sym (ap (afterReading S size) q) ∙ k)
-
--- a run that ends done is going after the last visit
-pub done-going : (r : Run) (t : Tallies) (w : Bytes) → resultOf r ≡ ran Done t w → r ≡ going t w
-done-going (going u x) t w h = cc
-done-going (stopped spent u x) t w h = let z : _≡_ {A = ℕ} 0 1 = cc in absurd (omega arith)
-done-going (stopped path u x) t w h = let z : _≡_ {A = ℕ} 0 1 = cc in absurd (omega arith)
-done-going (stopped output u x) t w h = let z : _≡_ {A = ℕ} 0 1 = cc in absurd (omega arith)
-
--- done, with nothing skipped: the bytes written are all blocks of the sheet's visits
-pub done-lists : (s : Sheet) (S : Setting) (size : ℕ) (t : Tallies) (w : Bytes) → resultOf (runOf s S size) ≡ ran Done t w → S .skip ≡ 0 →
-    w ≡ listingText (blocksOf (s .declared) 0 0 (visitsOf s))
-unfolding runOf
-done-lists s S size t w h z =
-    scan-lists (s .declared) S size z (visitsOf s) (tallies 0 0 0 0) t [] w (done-going (runOf s S size) t w h)

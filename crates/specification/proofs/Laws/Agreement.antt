@@ -1,0 +1,131 @@
+-- The third demand, of the blocks of a well-formed sheet's tree: its answers are right, and every pattern agrees with one of its blocks.
+-- Assumes nothing.
+use Prim.Native.Nat.{ℕ, _<_}
+use mathlib.Core.Path.{_≡_, refl, sym, ap, subst}
+use mathlib.Core.List.{List, [], _∷_}
+use lib.Dec.{T, T-not}
+use lib.IntN.{ℤ, pos}
+use Rattle.specification.specs.Lists.{Each, Some}
+use Rattle.specification.specs.Number.{in32}
+use Rattle.specification.specs.Lines.{Declared, cells, cellOf}
+use Rattle.specification.specs.Sheet.{Sheet}
+use Rattle.specification.specs.Place.{cell}
+use Rattle.specification.specs.Value.{Slot, empty, full, Valuation}
+use Rattle.specification.specs.WellFormed.{Valid, WellFormed}
+use Rattle.specification.specs.Tree.{treeOf}
+use Rattle.specification.specs.Listing.{Named, Block}
+use Rattle.specification.specs.Leaves.{leaves, blocks}
+use Rattle.specification.specs.Outcome.{start, rootOf}
+use Rattle.specification.specs.Plain.{Filling, Fills, Keeps, True}
+use Rattle.specification.specs.Demand3.{headsAnswer, IsAnswer, IsError, Names, Agrees, Such, Right, Agreement}
+use Rattle.specification.proofs.Laws.Lists.{each-map, each-both, each-some, some-map, some-and-each}
+use Rattle.specification.proofs.Laws.Cells.{agrees-matches, matches-agrees, names-valued}
+use Rattle.specification.proofs.Laws.Start.{start-has, start-only, start-valid, keeps-matches, matches-keeps}
+use Rattle.specification.proofs.Laws.SheetTree.{Matches, Answer, sound, complete}
+use Rattle.specification.proofs.Laws.Leaves.{CellsOf, every-blocks, any-blocks}
+
+-- ---- a filling that agrees with a valuation: 0 where it has no value
+
+abbrev slotValue : Slot → ℤ
+slotValue empty = pos 0
+slotValue (full z) = z
+
+abbrev filling : Valuation → Filling
+filling β c = slotValue (β (cell c))
+
+filling-at : (β : Valuation) (c : ℕ) (v : ℤ) → β (cell c) ≡ full v → filling β c ≡ v
+filling-at β c v e = ap slotValue e
+
+filling-fits : (β : Valuation) → Valid β → (c : ℕ) → T (in32 (filling β c))
+filling-fits β h c = go (β (cell c)) refl
+  where
+    go : (s : Slot) → β (cell c) ≡ s → T (in32 (slotValue s))
+    go empty e = tt
+    go (full v) e = h (cell c) v e
+
+-- ---- the demand, of the blocks of a well-formed sheet's tree
+
+module _ (s : Sheet) (wf : WellFormed s) where
+  abbrev D : Declared
+  D = s .declared
+
+  abbrev α : Valuation
+  α = start (s .given)
+
+  -- the blocks of all the tree's answers and errors
+  abbrev pub allBlocks : List Block
+  allBlocks = blocks D 0 0 (leaves (rootOf s))
+
+  valid : Valid α
+  valid = start-valid (s .given) (wf .values)
+
+  answers : Each (λ b. IsAnswer b → CellsOf D (Answer D (s .formula) α) b) allBlocks
+  unfolding rootOf
+  answers = every-blocks D (Answer D (s .formula) α) (treeOf D (s .formula ∷ []) α) (sound D (s .formula) (wf .formula) α valid)
+
+  names-given : Each (λ b. IsAnswer b → Each (Names D b) (s .given)) allBlocks
+  names-given =
+      each-map (λ b f a.
+      let (β, e, answer) = f a in
+      each-both (s .given) (λ i declared has.
+      subst (Some (λ n. (cellOf D (n .name) ≡ i .cell) × (n .value ≡ i .value))) (sym e)
+      (names-valued D β (i .cell) declared (i .value) (answer .keeps (i .cell) declared (i .value) has)))
+      (wf .declared) (start-has 0 (s .given) (wf .rising)))
+      allBlocks answers
+
+  agreeing-true : (φ : Filling) → Each (λ b. IsAnswer b → Agrees D φ b → True s φ) allBlocks
+  unfolding True
+  agreeing-true φ =
+      each-map (λ b f a agrees.
+      let (β, e, answer) = f a in
+      answer .proves φ (agrees-matches D β φ (subst (Each (λ (n : Named). φ (cellOf D (n .name)) ≡ n .value)) e agrees)))
+      allBlocks answers
+
+  true-agrees : (φ : Filling) → Keeps (s .given) φ → True s φ → Some (Agrees D φ) allBlocks
+  unfolding True rootOf
+  true-agrees φ keeps holds =
+      some-map (λ b h.
+      let (β, e, matches) = h in
+      subst (Each (λ (n : Named). φ (cellOf D (n .name)) ≡ n .value)) (sym e) (matches-agrees D β φ matches))
+      allBlocks
+      (any-blocks D (Matches D φ) (treeOf D (s .formula ∷ []) α)
+      (complete D (s .formula) (wf .formula) α valid φ (λ c h v e. keeps-matches (s .given) φ keeps c v e) holds))
+
+  -- the given cells are declared
+  given-declared : (c : ℕ) (v : ℤ) → α (cell c) ≡ full v → c < cells D
+  given-declared c v e =
+      each-some (s .given) (λ i declared gives. subst (_< cells D) (gives .0) declared) (wf .declared) (start-only (s .given) c v e)
+
+  -- every answer has a filling that agrees with it and keeps the given values
+  answer-such : (β : Valuation) → Answer D (s .formula) α β → Such s (filling β)
+  unfolding Fills
+  answer-such β answer = (
+    (λ c h. filling-fits β (answer .valid) c),
+    matches-keeps 0 (s .given) (filling β) (wf .rising) (λ c v e. filling-at β c v (answer .keeps c (given-declared c v e) v e)),
+  )
+
+  no-filling : ((φ : Filling) → Such s φ → ¬ True s φ) → (b : Block) → CellsOf D (Answer D (s .formula) α) b → ⊥
+  unfolding True
+  no-filling none b (β, e, answer) =
+      none (filling β) (answer-such β answer) (answer .proves (filling β) (λ c h v at. filling-at β c v at))
+
+  no-error : (b : Block) → IsAnswer b → IsError b → ⊥
+  no-error b a e = T-not (headsAnswer (b .head)) e a
+
+  pub right : Right s allBlocks
+  right = record { names-given = names-given; sound = λ φ such. agreeing-true φ }
+
+  pub agreement : Agreement s allBlocks
+  agreement = record {
+    right = right;
+    complete = λ φ such. true-agrees φ (such .1);
+    exactly-when = λ only φ such. (
+      (λ holds. some-map (λ b h. (h .1, h .0)) allBlocks (some-and-each (Agrees D φ) IsAnswer allBlocks (true-agrees φ (such .1) holds) only)),
+      (λ some. each-some allBlocks (λ b f h. f (h .0) (h .1)) (agreeing-true φ) some),
+    );
+    none-exactly-when = λ only. (
+      (λ errors φ such holds.
+          each-some allBlocks (λ b e h. no-error b (h .1) e) errors (some-and-each (Agrees D φ) IsAnswer allBlocks (true-agrees φ (such .1) holds) only)),
+      (λ none. each-both allBlocks (λ b f a. absurd (no-filling none b (f a))) answers only),
+    );
+  }
