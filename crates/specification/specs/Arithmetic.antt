@@ -1,5 +1,5 @@
 -- The arithmetic that both readings of a sheet share: mathematical integers, each operation exact and then held to 32 bits, division
--- toward zero (source document 000, 2.2). Assumes nothing.
+-- toward zero. Assumes nothing.
 use Prim.Native.Nat.{ℕ, zero, suc, _+_, _-_}
 use mathlib.Core.Bool.{Bool, false, not}
 use lib.Dec.{eqb}

@@ -41,7 +41,7 @@ boxed s r = under 512 1000000 s r
 abbrev pub single : String → Result → Case
 single formula r = boxed (sheetOf "1" "1" "" formula) r
 
--- formula (1.1) of source document 001
+-- formula (1.1) of the paper
 abbrev pub formula11 : Bytes
 formula11 = sheetOf "2" "0" "" "and and or eq v0 2 eq v0 3 or eq v1 add v0 1 eq 2 v1 eq mul 2 v0 mul 3 v1"
 

@@ -1,4 +1,4 @@
--- The computation tree (Apt and Bezem, "Formulas as Programs", Definition 4, with the bounded quantifiers of 1.4.4): one clause for each case of document 01,
+-- The computation tree (the paper, Definition 4, with the bounded quantifiers of 1.4.4): one clause for each case of document 01,
 -- "The tree". A node is a list of formulas still to hold and a valuation; the first formula decides. `grow F k α` is the tree of a list
 -- that begins with F, where k gives the tree of the rest, so the definition is structural in F. Assumes nothing.
 use Prim.Native.Nat.{ℕ, zero, suc}

@@ -1,4 +1,4 @@
--- Valuations, and what a term is under one (source document 001, Definition 1): a value, a bare cell or local without value, or an
+-- Valuations, and what a term is under one (the paper, Definition 1): a value, a bare cell or local without value, or an
 -- error kind. Operands go left to right, the operation last. Assumes nothing.
 use Prim.Native.Nat.{ℕ, _+_}
 use mathlib.Core.Bool.{Bool, true, false}

@@ -1,7 +1,7 @@
--- The first and the third demand (specs/Demands.antt) hold of every answered call. Assumes nothing.
+-- The demands (specs/Demands.antt) hold of every answered call. Assumes nothing.
 use Prim.Native.Nat.{ℕ, _≤_}
 use native.Mathlib.Omega.{arith}
-use mathlib.Core.Path.{_≡_, sym, _∙_, ap, subst}
+use mathlib.Core.Path.{_≡_, refl, sym, _∙_, ap, subst}
 use mathlib.Core.List.{List, _++_}
 use lib.ListN.{length, take, drop}
 use lib.Seq.{take-at, drop-at}
@@ -13,11 +13,10 @@ use Rattle.specification.specs.declared.Outcome.{Outcome}
 use Rattle.specification.specs.declared.Outcome.the-variants.{Refused, Ran}
 use Rattle.specification.specs.Bytes.{Bytes}
 use Rattle.specification.specs.Outcome.{Result, refusal, ran, call, written, outcome, outputAfter, wordsAfter}
-use Rattle.specification.specs.Demand3.{Demand3}
-use Rattle.specification.proofs.Laws.Demand3.{demand3}
+use Rattle.specification.proofs.Laws.Demand3.{Told, told}
 use Rattle.specification.proofs.Laws.Whole.{whole-blocks}
 use Rattle.vodlasim.specs.Answered.{Answered}
-use Rattle.vodlasim.specs.Demands.{Memory, Agrees}
+use Rattle.vodlasim.specs.Demands.{Memory, Lists, Agrees}
 
 -- a result by its outcome
 ran-of : (x : Result) (e : End) (t : Tallies) (n : ℕ) → outcome x ≡ Ran e t n → (w : Bytes) × (x ≡ ran e t w) × (length w ≡ n)
@@ -46,6 +45,9 @@ module _ (sheet : Bytes) (S : Setting) (work work' : List ℕ) (output output' :
       let (w, is, count) = ran-of result e t n (sym (a .result) ∙ h) in
       (w, is, count, a .output ∙ ap (λ x. written x ++ drop (length (written x)) output) is ∙ ap (λ k. w ++ drop k output) count)
 
+  refused-as : (k p : ℕ) → r ≡ Refused k p → result ≡ refusal k p
+  refused-as k p h = refused-of result k p (sym (a .result) ∙ h)
+
   pub memory : Memory sheet S work work' output output' r
   unfolding wordsAfter outputAfter
   memory = record {
@@ -57,15 +59,22 @@ module _ (sheet : Bytes) (S : Setting) (work work' : List ℕ) (output output' :
           (bs, ap (take n) bytes ∙ take-at w (drop n output) n count ∙ whole),
           ap (drop n) bytes ∙ drop-at w (drop n output) n count,
         );
-    refused = λ k p h.
-        let is : result ≡ refusal k p = refused-of result k p (sym (a .result) ∙ h) in
-        (a .output ∙ ap (λ x. written x ++ drop (length (written x)) output) is, is);
+    refused = λ k p. ((λ is. a .result ∙ ap outcome is), refused-as k p);
+    untouched = λ k p h. a .output ∙ ap (λ x. written x ++ drop (length (written x)) output) (refused-as k p h);
   }
+
+  -- what a call that ran has told, over the bytes that stand in the output
+  ran-told : (e : End) (t : Tallies) (n : ℕ) → r ≡ Ran e t n → Told sheet (take n output') S (length output) e t
+  ran-told e t n h =
+      let (w, is, count, bytes) = stands e t n h in
+      subst (λ x. Told sheet x S (length output) e t) (sym (ap (take n) bytes ∙ take-at w (drop n output) n count))
+      (told sheet S (length work) (length output) e t w is)
+
+  pub lists : Lists sheet S output output' r
+  lists = record { ran = λ e t n h. let x = ran-told e t n h in (x .listed, x .tree) }
 
   pub agrees : Agrees sheet S output' r
   agrees = record {
-    done = λ t n skip h.
-        let (w, is, count, bytes) = stands Done t n h in
-        subst (Demand3 sheet) (sym (ap (take n) bytes ∙ take-at w (drop n output) n count))
-        (demand3 sheet S (length work) (length output) t w skip is);
+    done = λ t n skip h. let x = ran-told Done t n h in record { listed = x .listed; agreement = x .agrees skip refl };
+    right = λ e t n h. let x = ran-told e t n h in (x .listed, x .right);
   }

@@ -1,8 +1,13 @@
--- The user's demands over the call, from its contract alone. The first and the third stand here, sentence by sentence; the second is the
--- contract itself (Answered), whose `call` is the scan of the tree's visits. The theorems are in proofs/Demands.antt. Assumes nothing.
+-- The user's three demands over the call `run`, sentence by sentence, from its contract (Answered) alone. The theorems are in
+-- proofs/Demands.antt.
+--
+-- Three sentences of the first demand stand in no record, since the toolchain proves them of every function. "Every run ends": a function
+-- is accepted only with a number that falls in each loop and at each recursive call. "Nothing outside the lent memory is read or written": a
+-- function reaches no memory but its own locals and the slices it is lent, each index is proved to lie in its slice, and the sheet is
+-- lent for reading only. "The call does its own checking": `run` has no `requires`. Assumes nothing.
 use Prim.Native.Nat.{ℕ, _≤_}
 use mathlib.Core.Path.{_≡_}
-use mathlib.Core.List.{List}
+use mathlib.Core.List.{List, [], _++_}
 use lib.ListN.{length, take, drop, replicate}
 use Rattle.specification.specs.declared.Setting.{Setting}
 use Rattle.specification.specs.declared.Tallies.{Tallies}
@@ -13,19 +18,36 @@ use Rattle.specification.specs.declared.Outcome.the-variants.{Refused, Ran}
 use Rattle.specification.specs.Bytes.{Bytes}
 use Rattle.specification.specs.Listing.{Block, listingText}
 use Rattle.specification.specs.Outcome.{call, refusal}
-use Rattle.specification.specs.Demand3.{Demand3}
+use Rattle.specification.specs.Listed.{Listed}
+use Rattle.specification.specs.Demand2.{ReadLeftToRight}
+use Rattle.specification.specs.Demand3.{Right, Demand3}
 
 -- demand 1: lent memory is accounted for
 pub record Memory (sheet : Bytes) (S : Setting) (work work' : List ℕ) (output output' : Bytes) (r : Outcome) : Type 0 where
-  -- the work words are zero
+  -- when the call returns, the work words are zero
   pub zero : work' ≡ replicate (length work) 0
   -- the output begins with whole blocks, and beyond them holds what it held before
   pub blocks :
       (end : End) (t : Tallies) (n : ℕ) → r ≡ Ran end t n →
       (n ≤ length output) × ((bs : List Block) × (take n output' ≡ listingText bs)) × (drop n output' ≡ drop n output)
-  -- a sheet that is refused leaves the output untouched, and number and place are document 01's
-  pub refused : (number place : ℕ) → r ≡ Refused number place → (output' ≡ output) × (call sheet S (length work) (length output) ≡ refusal number place)
+  -- a sheet is refused with a number and a byte place exactly where document 01 refuses it with these
+  pub refused :
+      (number place : ℕ) →
+      (call sheet S (length work) (length output) ≡ refusal number place → r ≡ Refused number place) ×
+      (r ≡ Refused number place → call sheet S (length work) (length output) ≡ refusal number place)
+  -- and the output is then untouched
+  pub untouched : (number place : ℕ) → r ≡ Refused number place → output' ≡ output
 
--- demand 3: a run that ends done with skip 0 agrees with the plain reading, over the bytes that stand in the output
+-- demand 2: the listing is the tree, read left to right; of every run, whatever was skipped and however it ended
+pub record Lists (sheet : Bytes) (S : Setting) (output output' : Bytes) (r : Outcome) : Type 0 where
+  pub ran :
+      (end : End) (t : Tallies) (n : ℕ) → r ≡ Ran end t n →
+      (l : Listed sheet (take n output')) × ReadLeftToRight (l .what) S (length output) end t (l .blocks)
+
+-- demand 3: a run that ends done with skip 0 agrees with the plain reading
 pub record Agrees (sheet : Bytes) (S : Setting) (output' : Bytes) (r : Outcome) : Type 0 where
   pub done : (t : Tallies) (n : ℕ) → S .skip ≡ 0 → r ≡ Ran Done t n → Demand3 sheet (take n output')
+  -- and the answers of any run are right, whatever was skipped and however it ended
+  pub right :
+      (end : End) (t : Tallies) (n : ℕ) → r ≡ Ran end t n →
+      (l : Listed sheet (take n output')) × Right (l .what) (l .blocks)

@@ -1,4 +1,4 @@
--- The tree of a list of formulas, clause by clause: source document 001, Definition 4 by its numbers, and Definition 8. A conjunction
+-- The tree of a list of formulas, clause by clause: the paper, Definition 4 by its numbers, and Definition 8. A conjunction
 -- φ ∧ ψ there is a list here that begins with φ; the ways to end in an error are document 01's. Assumes nothing.
 use Prim.Native.Nat.{ℕ, suc}
 use mathlib.Core.Path.{_≡_, refl}

@@ -1,4 +1,4 @@
--- In the inner tree of a closed formula no place in scope gets a value: source document 001, Lemma 1, its second half. Assumes nothing.
+-- In the inner tree of a closed formula no place in scope gets a value: the paper, Lemma 1, its second half. Assumes nothing.
 use Prim.Native.Nat.{ℕ, zero, suc}
 use mathlib.Core.Path.{_≡_, refl, _∙_, subst}
 use mathlib.Core.Bool.{true, _&&_}
