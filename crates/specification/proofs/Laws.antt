@@ -20,6 +20,9 @@ pub mod ReadSheet
 pub mod Bounds
 pub mod BoundsLines
 pub mod ReadBounds
+pub mod Steady
+pub mod SteadyLines
+pub mod SteadyFormula
 -- of the tree and the plain reading
 pub mod Place
 pub mod Range
@@ -42,6 +45,7 @@ pub mod Leaves
 pub mod Written
 pub mod Cut
 pub mod CallRan
+pub mod CutShort
 pub mod Whole
 pub mod Demand2
 pub mod Determined

@@ -1,0 +1,117 @@
+-- A sheet cut short is refused, never read as another sheet: no proper beginning of an accepted sheet is accepted. Up to its last line feed
+-- a sheet is read by steady readers (Steady), and there it must end. So an accepted sheet with bytes after it is refused with 5
+-- (longer-refused), and so a proper beginning of an accepted sheet is refused: over reading, shorter-refused; over the call,
+-- call-shorter-refused. Assumes nothing.
+use Prim.Native.Nat.{ℕ, _<_}
+use native.Mathlib.Omega.{arith}
+use native.Mathlib.Nat.{zero-add, add-zero}
+use mathlib.Core.Path.{_≡_, refl, _∙_, ap}
+use mathlib.Core.Bool.{Bool, true, false}
+use mathlib.Core.List.{[], _∷_, _++_}
+use lib.ListN.{length, length-append}
+use lib.Dec.{leb}
+use borrow.Author.Tests.{leb-true, le-leb}
+use Rattle.specification.specs.declared.Setting.{Setting}
+use Rattle.specification.specs.declared.Tallies.{Tallies}
+use Rattle.specification.specs.declared.End.{End}
+use Rattle.specification.specs.Bytes.{Bytes, bytes, pick, feed}
+use Rattle.specification.specs.Parser.{Reader, Read, refused, found, Parser, give, _>>_, andThen, mark, finish}
+use Rattle.specification.specs.Lines.{Declared}
+use Rattle.specification.specs.Sheet.{Sheet, sheet, opened, read}
+use Rattle.specification.specs.Outcome.{Result, refusal, ran, afterReading, enoughMemory, call}
+use Rattle.specification.proofs.Laws.Parser.{Post, refusal as refused-post, holds, of-found, bind-post}
+use Rattle.specification.proofs.Laws.ReadBounds.{RefusedWell, read-refused}
+use Rattle.specification.proofs.Laws.Steady.{Left, withRest, end, extended, Alike, post-map, mark-always, exactly-steady}
+use Rattle.specification.proofs.Laws.SteadyLines.{line-steady, arrays-steady, given-steady}
+use Rattle.specification.proofs.Laws.SteadyFormula.{formula-steady}
+use Rattle.specification.proofs.Laws.CallRan.{call-ran}
+
+-- ---- a sheet that goes on after its end
+
+-- a is read from r, where a byte was left, up to the sheet's end; y, the reading from r extended by q, is refused there
+record Over (q : Bytes) {A : Type 0} (r : Reader) (y : Read A) (a : A) (r′ : Reader) : Type 0 where
+  left : Left (r .rest)
+  over : y ≡ refused 5 (end r)
+
+module _ {q : Bytes} {A B : Type 0} {f : A → Parser B} {r : Reader} {x y : Read A} where
+  bind-over : Post (Alike q r y) x → ((a : A) (r₁ : Reader) → Post (Over q r₁ (f a (extended q r₁))) (f a r₁)) →
+      Post (Over q r (andThen f y)) (andThen f x)
+  bind-over h k =
+      bind-post h λ a r₁ p.
+      post-map (k a r₁) λ b r₂ g.
+      let s = p .alike (g .left) in
+      record { left = s .left; over = ap (andThen f) (s .same) ∙ g .over ∙ ap (refused 5) (s .sheet) }
+
+module _ (q : Bytes) (more : Left q) where
+  finish-over : {A : Type 0} (a : A) (r : Reader) →
+      Post (λ b r′. (finish >> give a) (extended q r) ≡ refused 5 (end r)) ((finish >> give a) r)
+  finish-over a r = go q more (r .rest)
+    where
+      go : (q : Bytes) → Left q → (bs : Bytes) →
+          Post (λ b r′. (finish >> give a) (withRest (bs ++ q) r) ≡ refused 5 (end (withRest bs r))) ((finish >> give a) (withRest bs r))
+      go [] h bs = absurd (omega arith)
+      go (c ∷ q) h [] = holds (rw add-zero)
+      go (c ∷ q) h (b ∷ bs) = refused-post tt
+
+  end-over : {A : Type 0} (a : A) (r : Reader) →
+      Post (Over q r ((mark feed >> (finish >> give a)) (extended q r))) ((mark feed >> (finish >> give a)) r)
+  end-over a r =
+      bind-post (mark-always feed r) λ u r₁ s.
+      post-map (finish-over a r₁) λ b r₂ g.
+      record { left = s .left; over = ap (andThen (λ u. finish >> give a)) (s .same) ∙ g ∙ ap (refused 5) (s .sheet) }
+
+  sheet-over : (r : Reader) → Post (Over q r (sheet (extended q r))) (sheet r)
+  unfolding sheet
+  sheet-over r =
+      bind-over (line-steady (bytes "edition=") 1 1 r) λ edition r₁.
+      bind-over (line-steady (bytes "scalars=") 0 64 r₁) λ scalars r₂.
+      bind-over (line-steady (bytes "locals=") 0 32 r₂) λ locals r₃.
+      bind-over (arrays-steady scalars r₃) λ arrays r₄.
+      let D : Declared = record { edition = edition; scalars = scalars; locals = locals; arrays = arrays } in
+      bind-over (given-steady D r₄) λ given r₅.
+      bind-over (exactly-steady 3 (bytes "formula=") r₅) λ u r₆.
+      bind-over (formula-steady D 64 [] r₆) λ F r₇.
+      end-over _ r₇
+
+-- ---- over reading
+
+-- an accepted sheet with bytes after it is refused with 5, at the first of them
+pub longer-refused : (p q : Bytes) (s : Sheet) (r : Reader) → 0 < length q → read p ≡ found s r → read (p ++ q) ≡ refused 5 (length p)
+unfolding read
+longer-refused p q s r h e = of-found (sheet-over q h (opened p)) e .over ∙ ap (refused 5) (zero-add (length p))
+
+-- a proper beginning of an accepted sheet is refused
+pub shorter-refused : (p q : Bytes) (s : Sheet) (r : Reader) → 0 < length q → read (p ++ q) ≡ found s r →
+    (n : ℕ) × (place : ℕ) × (read p ≡ refused n place)
+shorter-refused p q s r h e = go (read p) refl
+  where
+    go : (x : Read Sheet) → read p ≡ x → (n : ℕ) × (place : ℕ) × (read p ≡ refused n place)
+    go (refused n place) k = (n, place, k)
+    go (found s′ r′) k =
+        let l = longer-refused p q s′ r′ h k in
+        let z : _≡_ {A = ℕ} 0 1 = cc in
+        absurd (omega arith)
+
+-- ---- over the call
+
+-- where a call ran, the memory was enough and the sheet not too long
+ran-tests : {e : End} {t : Tallies} {w : Bytes} (a b : Bool) (x : Result) →
+    pick a (pick b x (refusal 2 4096)) (refusal 1 0) ≡ ran e t w → (a ≡ true) × (b ≡ true)
+ran-tests true true x h = (refl, refl)
+ran-tests true false x h = let z : _≡_ {A = ℕ} 0 1 = cc in absurd (omega arith)
+ran-tests false b x h = let z : _≡_ {A = ℕ} 0 1 = cc in absurd (omega arith)
+
+-- where a sheet runs, each proper beginning of it is refused under the same setting, with a number from 3 to 10, at one of its own bytes or
+-- at its end
+pub call-shorter-refused :
+    (p q : Bytes) (S : Setting) (words size : ℕ) (e : End) (t : Tallies) (w : Bytes) →
+    0 < length q → call (p ++ q) S words size ≡ ran e t w →
+    (n : ℕ) × (place : ℕ) × RefusedWell p n place × (call p S words size ≡ refusal n place)
+unfolding call
+call-shorter-refused p q S words size e t w more h =
+    let (s, r, reads, result) = call-ran (p ++ q) S words size e t w h in
+    let (n, place, k) = shorter-refused p q s r more reads in
+    let (memory, fits) = ran-tests (enoughMemory S words) (leb (length (p ++ q)) 4096) (afterReading S size (read (p ++ q))) h in
+    let short : leb (length p) 4096 ≡ true =
+    le-leb (length p) 4096 (omega (arith, length-append p q, leb-true (length (p ++ q)) 4096 fits)) in
+    (n, place, read-refused p n place k, rw (memory, short, k))
