@@ -54,3 +54,5 @@ pub mod Marked
 -- the third demand
 pub mod Agreement
 pub mod Demand3
+pub mod Listed
+pub mod WrongBoxes
