@@ -11,10 +11,9 @@ use Rattle.specification.specs.Demand3.{Agreement, Demand3}
 pub demand3-agreement : {sheet written : Bytes} {s : Sheet} {r : Reader} {bs : List Block} →
     read sheet ≡ found s r → written ≡ listingText bs → Demand3 sheet written → Agreement s bs
 demand3-agreement {s = s} {r = r} {bs = bs} reads stands d =
-    let what = d .what in
-    let reader = d .reader in
-    let listed = d .listed in
-    let told : found what reader ≡ found s r = sym (d .reads) ∙ reads in
+    let l = d .listed in
+    let what = l .what in
+    let told : found what (l .reader) ≡ found s r = sym (l .reads) ∙ reads in
     let e : what ≡ s = cc in
-    let f : bs ≡ listed = d .only bs stands in
+    let f : bs ≡ l .blocks = l .only bs stands in
     subst (λ x. Agreement x bs) e (subst (Agreement what) (sym f) (d .agreement))

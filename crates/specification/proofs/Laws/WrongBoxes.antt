@@ -113,7 +113,7 @@ pub invents-an-answer : ¬ Demand3 two (bytes "answer=1\nv0=1\nanswer=2\nv0=2\na
 unfolding run-defs True Truth valueOf Each cellOf
 invents-an-answer d =
     let a : Agreement (sheetWith twoFormula) (answer 1 1 ∷ answer 2 2 ∷ answer 3 3 ∷ []) = demand3-agreement reads-two refl d in
-    go (a .sound (filled 3) (filled-such twoFormula 3 tt) .1 .1 .0 tt (refl, tt))
+    go (a .right .sound (filled 3) (filled-such twoFormula 3 tt) .1 .1 .0 tt (refl, tt))
   where
     go : ¬ True (sheetWith twoFormula) (filled 3)
     go (inl (x, e, f)) = let z : _≡_ {A = ℕ} 3 1 = cc in absurd (omega arith)
