@@ -53,6 +53,7 @@ pub mod Determined
 pub mod Marked
 -- the third demand
 pub mod Agreement
+pub mod NoPattern
 pub mod Demand3
 pub mod Listed
 pub mod WrongBoxes

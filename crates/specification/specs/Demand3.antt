@@ -39,6 +39,10 @@ Agrees D φ b = Each (λ n. φ (cellOf D (n .name)) ≡ n .value) (b .cells)
 abbrev pub Such : Sheet → Filling → Type 0
 Such s φ = Fills (s .declared) φ × Keeps (s .given) φ
 
+-- no such filling makes the formula true
+abbrev pub NoPattern : Sheet → Type 0
+NoPattern s = (φ : Filling) → Such s φ → ¬ True s φ
+
 -- every listed answer is right
 pub record Right (s : Sheet) (listed : List Block) : Type 0 where
   -- every listed answer names each given cell with its given value
@@ -59,8 +63,7 @@ pub record Agreement (s : Sheet) (listed : List Block) : Type 0 where
   -- and no answer is listed exactly when no such filling makes the formula true
   pub none-exactly-when :
       Each IsAnswer listed →
-      (Each IsError listed → (φ : Filling) → Such s φ → ¬ True s φ) ×
-      (((φ : Filling) → Such s φ → ¬ True s φ) → Each IsError listed)
+      (Each IsError listed → NoPattern s) × (NoPattern s → Each IsError listed)
 
 -- of the sheet's bytes and the bytes written
 pub record Demand3 (sheet written : Bytes) : Type 0 where

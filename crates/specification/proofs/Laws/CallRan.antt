@@ -1,4 +1,4 @@
--- A call that ran has read a sheet, and its result is that sheet's run. Assumes nothing.
+-- A call that ran has read a sheet, and its result is that sheet's run; a call whose sheet is refused in reading is refused. Assumes nothing.
 use Prim.Native.Nat.{ℕ}
 use native.Mathlib.Omega.{arith}
 use mathlib.Core.Path.{_≡_, refl, sym, _∙_, ap}
@@ -31,3 +31,13 @@ call-ran sheet S words size e t w h = byRead (read sheet) refl (byTests (enoughM
         (s : Sheet) × (r : Reader) × (read sheet ≡ found s r) × (resultOf (runOf s S size) ≡ ran e t w)
     byRead (refused n p) q k = refusal-not-ran (sym (ap (afterReading S size) q) ∙ k)
     byRead (found s r) q k = (s, r, q, sym (ap (afterReading S size) q) ∙ k)
+
+pub call-refused : (sheet : Bytes) (S : Setting) (words size n p : ℕ) → read sheet ≡ refused n p →
+    (k : ℕ) × (q : ℕ) × (call sheet S words size ≡ refusal k q)
+unfolding call
+call-refused sheet S words size n p h = rw h (byTests (enoughMemory S words) (leb (length sheet) 4096))
+  where
+    byTests : (a b : Bool) → (k : ℕ) × (q : ℕ) × (pick a (pick b (refusal n p) (refusal 2 4096)) (refusal 1 0) ≡ refusal k q)
+    byTests true true = (n, p, refl)
+    byTests true false = (2, 4096, refl)
+    byTests false b = (1, 0, refl)

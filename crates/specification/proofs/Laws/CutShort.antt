@@ -1,30 +1,20 @@
 -- A sheet cut short is refused, never read as another sheet: no proper beginning of an accepted sheet is accepted. Up to its last line feed
 -- a sheet is read by steady readers (Steady), and there it must end. So an accepted sheet with bytes after it is refused with 5
--- (longer-refused), and so a proper beginning of an accepted sheet is refused: over reading, shorter-refused; over the call,
--- call-shorter-refused. Assumes nothing.
+-- (longer-refused), and so a proper beginning of an accepted sheet is refused (shorter-refused). Assumes nothing.
 use Prim.Native.Nat.{ℕ, _<_}
 use native.Mathlib.Omega.{arith}
 use native.Mathlib.Nat.{zero-add, add-zero}
 use mathlib.Core.Path.{_≡_, refl, _∙_, ap}
-use mathlib.Core.Bool.{Bool, true, false}
 use mathlib.Core.List.{[], _∷_, _++_}
-use lib.ListN.{length, length-append}
-use lib.Dec.{leb}
-use borrow.Author.Tests.{leb-true, le-leb}
-use Rattle.specification.specs.declared.Setting.{Setting}
-use Rattle.specification.specs.declared.Tallies.{Tallies}
-use Rattle.specification.specs.declared.End.{End}
-use Rattle.specification.specs.Bytes.{Bytes, bytes, pick, feed}
+use lib.ListN.{length}
+use Rattle.specification.specs.Bytes.{Bytes, bytes, feed}
 use Rattle.specification.specs.Parser.{Reader, Read, refused, found, Parser, give, _>>_, andThen, mark, finish}
 use Rattle.specification.specs.Lines.{Declared}
 use Rattle.specification.specs.Sheet.{Sheet, sheet, opened, read}
-use Rattle.specification.specs.Outcome.{Result, refusal, ran, afterReading, enoughMemory, call}
 use Rattle.specification.proofs.Laws.Parser.{Post, refusal as refused-post, holds, of-found, bind-post}
-use Rattle.specification.proofs.Laws.ReadBounds.{RefusedWell, read-refused}
 use Rattle.specification.proofs.Laws.Steady.{Left, withRest, end, extended, Alike, post-map, mark-always, exactly-steady}
 use Rattle.specification.proofs.Laws.SteadyLines.{line-steady, arrays-steady, given-steady}
 use Rattle.specification.proofs.Laws.SteadyFormula.{formula-steady}
-use Rattle.specification.proofs.Laws.CallRan.{call-ran}
 
 -- ---- a sheet that goes on after its end
 
@@ -73,7 +63,7 @@ module _ (q : Bytes) (more : Left q) where
       bind-over (formula-steady D 64 [] r₆) λ F r₇.
       end-over _ r₇
 
--- ---- over reading
+-- ---- the laws
 
 -- an accepted sheet with bytes after it is refused with 5, at the first of them
 pub longer-refused : (p q : Bytes) (s : Sheet) (r : Reader) → 0 < length q → read p ≡ found s r → read (p ++ q) ≡ refused 5 (length p)
@@ -91,27 +81,3 @@ shorter-refused p q s r h e = go (read p) refl
         let l = longer-refused p q s′ r′ h k in
         let z : _≡_ {A = ℕ} 0 1 = cc in
         absurd (omega arith)
-
--- ---- over the call
-
--- where a call ran, the memory was enough and the sheet not too long
-ran-tests : {e : End} {t : Tallies} {w : Bytes} (a b : Bool) (x : Result) →
-    pick a (pick b x (refusal 2 4096)) (refusal 1 0) ≡ ran e t w → (a ≡ true) × (b ≡ true)
-ran-tests true true x h = (refl, refl)
-ran-tests true false x h = let z : _≡_ {A = ℕ} 0 1 = cc in absurd (omega arith)
-ran-tests false b x h = let z : _≡_ {A = ℕ} 0 1 = cc in absurd (omega arith)
-
--- where a sheet runs, each proper beginning of it is refused under the same setting, with a number from 3 to 10, at one of its own bytes or
--- at its end
-pub call-shorter-refused :
-    (p q : Bytes) (S : Setting) (words size : ℕ) (e : End) (t : Tallies) (w : Bytes) →
-    0 < length q → call (p ++ q) S words size ≡ ran e t w →
-    (n : ℕ) × (place : ℕ) × RefusedWell p n place × (call p S words size ≡ refusal n place)
-unfolding call
-call-shorter-refused p q S words size e t w more h =
-    let (s, r, reads, result) = call-ran (p ++ q) S words size e t w h in
-    let (n, place, k) = shorter-refused p q s r more reads in
-    let (memory, fits) = ran-tests (enoughMemory S words) (leb (length (p ++ q)) 4096) (afterReading S size (read (p ++ q))) h in
-    let short : leb (length p) 4096 ≡ true =
-    le-leb (length p) 4096 (omega (arith, length-append p q, leb-true (length (p ++ q)) 4096 fits)) in
-    (n, place, read-refused p n place k, rw (memory, short, k))

@@ -18,16 +18,16 @@ use Rattle.specification.specs.Outcome.{ran, rootOf, visitsOf, call}
 use Rattle.specification.specs.Listed.{Listed}
 use Rattle.specification.specs.Demand2.{leafCount, leavesBefore, listedBefore, Ends, ReadLeftToRight}
 use Rattle.specification.specs.Plain.{Filling, env, True}
-use Rattle.specification.specs.Demand3.{Right, Agreement, Demand3}
+use Rattle.specification.specs.Demand3.{NoPattern, Right, Agreement, Demand3}
 use Rattle.specification.proofs.Laws.Lists.{each-drop}
 use Rattle.specification.proofs.Laws.Blocks.{listing-injective}
 use Rattle.specification.proofs.Laws.ReadSheet.{read-well-formed}
-use Rattle.specification.proofs.Laws.SheetTree.{sound}
 use Rattle.specification.proofs.Laws.Decide.{decide}
 use Rattle.specification.proofs.Laws.Leaves.{leavesIn-visits, each-first-blocks}
 use Rattle.specification.proofs.Laws.CallRan.{call-ran}
 use Rattle.specification.proofs.Laws.Demand2.{leavesBefore-is, Holds, read-left-to-right}
 use Rattle.specification.proofs.Laws.Agreement.{allBlocks, right, agreement}
+use Rattle.specification.proofs.Laws.NoPattern.{no-pattern}
 
 -- ---- the blocks up to a place
 
@@ -53,12 +53,13 @@ all-before s wf skip n z e =
 -- ---- of a call
 
 -- what a call that ran has told: the sheet and the blocks that stand in the bytes written, of which the second demand holds, whose answers are
--- right, and which agree with the plain reading where all was visited and nothing skipped
+-- right, and which agree with the plain reading where all was visited and nothing skipped; and what the tallies say of patterns
 pub record Told (sheet written : Bytes) (S : Setting) (size : ℕ) (end : End) (t : Tallies) : Type 0 where
   pub listed : Listed sheet written
   pub tree : ReadLeftToRight (listed .what) S size end t (listed .blocks)
   pub right : Right (listed .what) (listed .blocks)
   pub agrees : S .skip ≡ 0 → end ≡ Done → Agreement (listed .what) (listed .blocks)
+  pub none : end ≡ Done → t .errors ≡ 0 → (t .answers ≡ 0 → NoPattern (listed .what)) × (NoPattern (listed .what) → t .answers ≡ 0)
 
 pub told : (sheet : Bytes) (S : Setting) (words size : ℕ) (end : End) (t : Tallies) (w : Bytes) →
     call sheet S words size ≡ ran end t w → Told sheet w S size end t
@@ -80,6 +81,7 @@ told sheet S words size end t w h =
       agrees = λ skip done.
           let all : tree .place ≡ length (visitsOf s) = subst (λ e. Ends s S size e (tree .place)) done (tree .ends) in
           rw (tree .blocks, all-before s wf (S .skip) (tree .place) skip all) (agreement s wf);
+      none = λ done. no-pattern s wf S size t bs (subst (λ e. ReadLeftToRight s S size e t bs) done tree);
     }
 
 pub demand3 :

@@ -11,7 +11,7 @@ use mathlib.Core.Option.{Option, none, some}
 use lib.ListN.{length, drop, length-drop}
 use lib.Dec.{eqb, ltb}
 use Rattle.specification.specs.Bytes.{Bytes, Class, pick, run, begins}
-use Rattle.specification.specs.Parser.{Reader, Read, refused, found, Parser, give, require, present, andThen, past, next, sees, spells, mark, exactly, taken}
+use Rattle.specification.specs.Parser.{Reader, Read, found, Parser, give, require, present, andThen, past, next, sees, spells, mark, exactly, taken}
 use Rattle.specification.specs.Formula.{numbered, has, bind}
 use Rattle.specification.proofs.Laws.Parser.{and-true, Post, refusal, holds, bind-post, pick-post}
 
