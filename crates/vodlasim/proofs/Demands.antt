@@ -14,9 +14,11 @@ use Rattle.specification.specs.declared.Outcome.the-variants.{Refused, Ran}
 use Rattle.specification.specs.Bytes.{Bytes}
 use Rattle.specification.specs.Outcome.{Result, refusal, ran, call, written, outcome, outputAfter, wordsAfter}
 use Rattle.specification.proofs.Laws.Demand3.{Told, told}
+use Rattle.specification.proofs.Laws.CallRan.{call-refused}
+use Rattle.specification.proofs.Laws.CutShort.{shorter-refused}
 use Rattle.specification.proofs.Laws.Whole.{whole-blocks}
 use Rattle.vodlasim.specs.Answered.{Answered}
-use Rattle.vodlasim.specs.Demands.{Memory, Lists, Agrees}
+use Rattle.vodlasim.specs.Demands.{Memory, Lists, Agrees, CutShort}
 
 -- a result by its outcome
 ran-of : (x : Result) (e : End) (t : Tallies) (n : ℕ) → outcome x ≡ Ran e t n → (w : Bytes) × (x ≡ ran e t w) × (length w ≡ n)
@@ -76,5 +78,14 @@ module _ (sheet : Bytes) (S : Setting) (work work' : List ℕ) (output output' :
   pub agrees : Agrees sheet S output' r
   agrees = record {
     done = λ t n skip h. let x = ran-told Done t n h in record { listed = x .listed; agreement = x .agrees skip refl };
+    none = λ t n h z. let x = ran-told Done t n h in (x .listed, x .none refl z .0, x .none refl z .1);
     right = λ e t n h. let x = ran-told e t n h in (x .listed, x .right);
+  }
+
+  pub cut-short : CutShort sheet r
+  cut-short = record {
+    refused = λ missing s reader more reads.
+        let (m, at, bad) = shorter-refused sheet missing s reader more reads in
+        let (k, p, is) = call-refused sheet S (length work) (length output) m at bad in
+        (k, p, a .result ∙ ap outcome is);
   }

@@ -5,9 +5,9 @@
 -- is accepted only with a number that falls in each loop and at each recursive call. "Nothing outside the lent memory is read or written": a
 -- function reaches no memory but its own locals and the slices it is lent, each index is proved to lie in its slice, and the sheet is
 -- lent for reading only. "The call does its own checking": `run` has no `requires`. Assumes nothing.
-use Prim.Native.Nat.{ℕ, _≤_}
+use Prim.Native.Nat.{ℕ, _≤_, _<_}
 use mathlib.Core.Path.{_≡_}
-use mathlib.Core.List.{List, [], _++_}
+use mathlib.Core.List.{List, _++_}
 use lib.ListN.{length, take, drop, replicate}
 use Rattle.specification.specs.declared.Setting.{Setting}
 use Rattle.specification.specs.declared.Tallies.{Tallies}
@@ -16,11 +16,13 @@ use Rattle.specification.specs.declared.End.the-variants.{Done}
 use Rattle.specification.specs.declared.Outcome.{Outcome}
 use Rattle.specification.specs.declared.Outcome.the-variants.{Refused, Ran}
 use Rattle.specification.specs.Bytes.{Bytes}
+use Rattle.specification.specs.Parser.{Reader, found}
+use Rattle.specification.specs.Sheet.{Sheet, read}
 use Rattle.specification.specs.Listing.{Block, listingText}
 use Rattle.specification.specs.Outcome.{call, refusal}
 use Rattle.specification.specs.Listed.{Listed}
 use Rattle.specification.specs.Demand2.{ReadLeftToRight}
-use Rattle.specification.specs.Demand3.{Right, Demand3}
+use Rattle.specification.specs.Demand3.{NoPattern, Right, Demand3}
 
 -- demand 1: lent memory is accounted for
 pub record Memory (sheet : Bytes) (S : Setting) (work work' : List ℕ) (output output' : Bytes) (r : Outcome) : Type 0 where
@@ -47,7 +49,17 @@ pub record Lists (sheet : Bytes) (S : Setting) (output output' : Bytes) (r : Out
 -- demand 3: a run that ends done with skip 0 agrees with the plain reading
 pub record Agrees (sheet : Bytes) (S : Setting) (output' : Bytes) (r : Outcome) : Type 0 where
   pub done : (t : Tallies) (n : ℕ) → S .skip ≡ 0 → r ≡ Ran Done t n → Demand3 sheet (take n output')
+  -- its tallies say the same at any skip: where there is no error, there is no answer exactly when there is no pattern
+  pub none :
+      (t : Tallies) (n : ℕ) → r ≡ Ran Done t n → t .errors ≡ 0 →
+      (l : Listed sheet (take n output')) × (t .answers ≡ 0 → NoPattern (l .what)) × (NoPattern (l .what) → t .answers ≡ 0)
   -- and the answers of any run are right, whatever was skipped and however it ended
   pub right :
       (end : End) (t : Tallies) (n : ℕ) → r ≡ Ran end t n →
       (l : Listed sheet (take n output')) × Right (l .what) (l .blocks)
+
+-- a sheet that is cut short, as where a read fails, is refused and never runs as another pattern
+pub record CutShort (sheet : Bytes) (r : Outcome) : Type 0 where
+  pub refused :
+      (missing : Bytes) (s : Sheet) (reader : Reader) → 0 < length missing → read (sheet ++ missing) ≡ found s reader →
+      (number : ℕ) × (place : ℕ) × (r ≡ Refused number place)
