@@ -13,8 +13,9 @@ use Rattle.specification.specs.Ast.{ne, lt, le, gt, ge, Term, eq, compare}
 use Rattle.specification.specs.Arithmetic.{eqZ, test}
 use Rattle.specification.specs.Place.{Place, cell, local}
 use Rattle.specification.specs.Value.{Valuation, Side, val, bare, err, pairOf, side}
+use Rattle.specification.specs.WellFormed as scopes
 use Rattle.specification.specs.Tree.{errorLeaf, step, Rest, assign, equate, compared, grow}
-use Rattle.specification.proofs.Laws.Scope as scopes
+use Rattle.specification.proofs.Laws.Scope as places
 use Rattle.specification.proofs.Laws.Value.{sane-val, sane-bare}
 use Rattle.values.specs.Word.{biased, signed}
 use Rattle.values.proofs.Laws.Word.{signed-biased, signed-eq, signed-lt, signed-le}
@@ -83,7 +84,7 @@ module _ {n : ℕ} {w : Words} {r : Regs} (x : Entered w r n) (low : 7 ≤ n) (h
 -- ---- `eq`
 
 -- a bare place that a term names has a slot in the tables
-in-table : (D : Declared) (S : scopes.Scope) → cells D ≤ 512 → ((l : ℕ) → T (S l) → l < 32) → (p : Place) → scopes.In D S p → InTable p
+in-table : (D : Declared) (S : scopes.Scope) → cells D ≤ 512 → ((l : ℕ) → T (S l) → l < 32) → (p : Place) → places.In D S p → InTable p
 in-table D S few small (cell c) h = omega arith
 in-table D S few small (local l) h = small l h
 
