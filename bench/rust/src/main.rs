@@ -1,9 +1,9 @@
 //! bench ENGINE SHEET [OPTION NUMBER]..
 //! bench cases FILE
 //!
-//! The first runs the sheet in the file SHEET by ENGINE, `walker` or `library`, and prints what the box prints. Options: --path-limit,
-//! --budget, --skip, --output, and --runs, which runs it so many times and prints the last run. The second runs the cases in FILE by the
-//! walker (see cases.rs). The file `-` is standard input.
+//! The first runs the sheet in the file SHEET by ENGINE and prints what the box prints. ENGINE is `walker` or, if built with the feature
+//! `library`, `library`. Options: --path-limit, --budget, --skip, --output, and --runs, which runs it so many times and prints the last
+//! run. The second runs the cases in FILE by the walker (see cases.rs). The file `-` is standard input.
 
 mod cases;
 mod page;
