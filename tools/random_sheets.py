@@ -404,7 +404,7 @@ def word_changed(rng, sheet):
 
 
 def word_exchanged(rng, sheet):
-    """A token exchanged for one like it: another word with such operands, or another name with that letter."""
+    """A token exchanged for one like it: another word with such operands, or its first letter with another number."""
     def new(old):
         for group in (CONNECTIVES, QUANTIFIERS, COMPARISONS, OPERATIONS):
             if old.decode() in group:
