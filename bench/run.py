@@ -3,11 +3,12 @@
 
     python3 bench/run.py [RUNS]     RUNS (default 5): a time is the least of so many runs
 
-The library is measured if libvodlasim_c.a stands in the folder VODLASIM_LIB, by default target/staticlib.
+The library is measured if libvodlasim_c.a stands in the folder VODLASIM_LIB, by default target/staticlib; Prolog if gplc is found.
 """
 import os
 import re
 import resource
+import shutil
 import subprocess
 import sys
 from pathlib import Path
@@ -15,6 +16,7 @@ from pathlib import Path
 HERE = Path(__file__).resolve().parent
 LIBRARY = Path(os.environ.get("VODLASIM_LIB", HERE.parent / "target" / "staticlib"))
 ENGINES = ["walker"] + ["library"] * (LIBRARY / "libvodlasim_c.a").exists()
+PROLOG = shutil.which("gplc")
 BENCH = HERE / "rust" / "target" / "release" / "bench"
 SEARCHES = HERE / "build" / "searches"
 RUNS = int(sys.argv[1]) if len(sys.argv) > 1 else 5
@@ -39,8 +41,9 @@ def build():
     features = ["--features", "library"] if "library" in ENGINES else []
     environment = {**os.environ, "VODLASIM_LIB": str(LIBRARY)}
     output(["cargo", "build", "--quiet", "--release", "--offline", *features], cwd=HERE / "rust", env=environment)
-    SEARCHES.parent.mkdir(exist_ok=True)
-    output(["gplc", "--fast-math", "--no-top-level", "-o", SEARCHES, HERE / "prolog" / "searches.pl"])
+    if PROLOG:
+        SEARCHES.parent.mkdir(exist_ok=True)
+        output([PROLOG, "--fast-math", "--no-top-level", "-o", SEARCHES, HERE / "prolog" / "searches.pl"])
 
 
 def sheet(name, given):
@@ -61,7 +64,7 @@ def cost(command, **more):
 def measure(name, given, options, repeats, search=None, rounds=RUNS):
     """Nodes and answers, which all must share, and the nanoseconds for a node by engine; the engines take turns."""
     commands = {engine: [BENCH, engine, "-", "--budget", MOST, *options, "--runs", repeats] for engine in ENGINES}
-    if search:
+    if search and PROLOG:
         commands["Prolog"] = [SEARCHES, search[0], repeats, *search[1:]]
     found, best = {}, {}
     for _ in range(rounds):
@@ -85,9 +88,9 @@ def table(head, rows):
 
 
 def row(costs, *engines):
-    """The engines' costs, and the ratio of the library's to each of the others'."""
+    """The engines' costs, and the ratio of the library's to each of the others'; empty where an engine is not measured."""
     library = costs.get("library")
-    ratios = [f"{library / costs[engine]:.2f}" if library else "" for engine in engines if engine != "library"]
+    ratios = [f"{library / costs[engine]:.2f}" if library and engine in costs else "" for engine in engines if engine != "library"]
     return [costs.get(engine, "") for engine in engines] + ratios
 
 

@@ -1,10 +1,10 @@
 #!/usr/bin/env python3
-"""Compares the library with a reference reading of document 01, on random sheets under random settings.
+"""Compares the library with the reference reading (tools/walker.py), on random sheets (tools/random_sheets.py) under random settings.
 
-  hosts/check.py REFERENCE [--seconds 60] [--seed 1] [--library FILE] [--host FILE]
+  hosts/check.py [--seconds 60] [--seed 1] [--library FILE] [--host FILE] [--box FILE]
 
-REFERENCE is a folder with document01.py (the reading) and sheets.py (the random sheets). The library is target/staticlib/libvodlasim_c.a;
-a shared object is made of it with gcc and called in this process. With --host every twentieth sheet goes through the C host as well.
+The library is target/staticlib/libvodlasim_c.a; a shared object is made of it with gcc and called in this process. With --host every
+twentieth case goes through the C host as well; with --box its sheet goes through the box program, under the box's setting.
 
 Each slice is lent with guard bytes around it and rubbish in it. Looked at after each call: the report, the listing, that the output beyond
 it holds what it held, that the work words are all zero, and that the sheet and all guards are as they were.
@@ -17,13 +17,47 @@ import subprocess
 import sys
 import tempfile
 import time
-from collections import Counter, namedtuple
+from collections import Counter
 
+sys.path.insert(0, str(pathlib.Path(__file__).resolve().parent.parent / "tools"))
+import random_sheets
+import walker
+
+SHEETS, SETTINGS = 300, 3               # sheets for each run of the walker, and settings for each sheet
+SHARE = 20                              # one case in so many goes through the host and the box
 GUARD = 64                              # bytes before and after each slice
 ENDS = ("done", "spent", "path", "output")
-WORD, WORDS = ctypes.c_uint32, 399360   # the most work words that a path limit asks
-Setting = namedtuple("Setting", "path budget skip output words")
+WORD = ctypes.c_uint32
+BOX = dict(path=512, budget=1000000, skip=0, output=4096, words=12288)
+FREE = dict(path=3000, budget=3000, skip=0, output=100000, words=walker.words_for(3000))
 
+
+# ---------------------------------------------------------------- random cases
+
+def batch(rng):
+    """Random cases."""
+    sheets = [random_sheets.drawn(rng) for _ in range(SHEETS)]
+    free = walker.pages([walker.Case(sheet, **FREE) for sheet in sheets])
+    return [drawn(rng, sheet, walker.outcome(page)) for sheet, page in zip(sheets, free) for _ in range(SETTINGS)]
+
+
+def drawn(rng, sheet, free):
+    """The sheet under a random setting; some limits lie at what the run needs, one more and one less. `free` is the outcome of a run that
+    has as good as no limits."""
+    near = rng.choice((-1, 0, 0, 1))
+    path = rng.choice((rng.randint(1, min(3 + free.nodes, 60)), 512, 512, 3000))
+    if rng.random() < 0.03:
+        path = rng.choice((0, 32768, 32769, 2**32 - 1))
+    budget = rng.choice((0, 1, 5, 20, 100, 1000, 3000, 3000, max(0, free.nodes + near)))
+    skip = rng.choice((0, 0, 0, 0, 1, 2, 7, 2**32 - 1, max(0, free.answers + free.errors + near)))
+    output = rng.choice((0, 9, 30, 100, 1000, 4096, 4096, 20000, max(0, len(free.listing) + near)))
+    words = walker.words_for(path) + rng.choice((0, 0, 0, 1, 77))
+    if rng.random() < 0.04:
+        words = rng.choice((0, 6143, walker.words_for(path) - 1))
+    return walker.Case(sheet, path, budget, skip, output, words)
+
+
+# ---------------------------------------------------------------- the library
 
 class Lent:
     """A slice of so many bytes between two guards, all filled with rubbish."""
@@ -50,6 +84,7 @@ class Lent:
 
 
 def load(archive, folder):
+    """The library's call."""
     shared = str(pathlib.Path(folder) / "vodlasim.so")
     subprocess.run(["gcc", "-shared", "-o", shared, "-Wl,--whole-archive", archive, "-Wl,--no-whole-archive"], check=True)
     run = ctypes.CDLL(shared).vodlasim_run
@@ -59,79 +94,94 @@ def load(archive, folder):
     return run
 
 
-def faults(run, rng, sheet, s, due):
-    """What is wrong after one call; `due` is the reference's result."""
-    lent = Lent(rng, len(sheet), sheet), Lent(rng, 4 * s.words), Lent(rng, s.output), Lent(rng, 64)
-    sheet_at, work, output, report = lent
-    run(sheet_at.pointer(), len(sheet), s.path, s.budget, s.skip, work.pointer(), s.words, output.pointer(), s.output, report.pointer())
-    got = [int.from_bytes(report.after()[8 * k:8 * k + 8], "little") for k in range(8)]
-    if due.refused is not None:
-        want = [due.refused, due.place, 0, 0, 0, 0, 0, 0]
-    else:
-        want = [0, 0, ENDS.index(due.end), due.nodes, due.answers, due.errors, due.fails, len(due.written)]
-    if got != want:
-        yield "report %s, due %s" % (got, want)
-    if output.after() != due.written + output.before()[len(due.written):]:
-        yield "output %r.., due %r and then what it held" % (output.after()[:len(due.written) + 16], due.written)
-    if any(work.after()):
+def report(due):
+    """The eight numbers that are due for an outcome."""
+    end = ENDS.index(due.end) if due.end else 0
+    return [due.refused, due.place, end, due.nodes, due.answers, due.errors, due.fails, len(due.listing)]
+
+
+def faults(run, rng, case, due):
+    """What is wrong after one call."""
+    lent = Lent(rng, len(case.sheet), case.sheet), Lent(rng, 4 * case.words), Lent(rng, case.output), Lent(rng, 64)
+    sheet, work, output, reported = lent
+    run(sheet.pointer(), sheet.size, case.path, case.budget, case.skip, work.pointer(), case.words, output.pointer(), output.size,
+        reported.pointer())
+    got = [int.from_bytes(reported.after()[8 * k:8 * k + 8], "little") for k in range(8)]
+    if got != report(due):
+        yield "report %s, due %s" % (got, report(due))
+    if output.after() != due.listing + output.before()[len(due.listing):]:
+        yield "output %r.., due %r and then what it held" % (output.after()[:len(due.listing) + 16], due.listing)
+    if work.after() != bytes(work.size):
         yield "work words not all zero"
-    if sheet_at.after() != sheet:
+    if sheet.after() != case.sheet:
         yield "sheet changed"
     if not all(slice.guarded() for slice in lent):
         yield "guard bytes changed"
 
 
-def drawn(rng, reference, sheets):
-    """A random sheet and setting; some limits lie at what the run needs, one more and one less."""
-    x = rng.random()
-    sheet = sheets.edge(rng) if x < 0.08 else sheets.Gen(rng, x < 0.85).sheet()
-    if rng.random() < 0.4:
-        sheet = sheets.mutate(rng, sheet)
-    whole = reference.run(sheet, 3000, 3000, 0, WORDS, 100000)
-    near = rng.choice((-1, 0, 0, 1))
-    path = rng.choice((1, 2, 3, 5, 8, 13, 40, 512, 512, 512, 512, 3000))
-    if rng.random() < 0.03:
-        path = rng.choice((0, 32768, 32769, 2**32 - 1))
-    budget = rng.choice((0, 1, 5, 20, 100, 1000, 3000, 3000, max(0, whole.nodes + near)))
-    skip = rng.choice((0, 0, 0, 0, 1, 2, 7, 2**32 - 1, max(0, whole.answers + whole.errors + near)))
-    output = rng.choice((0, 9, 30, 100, 1000, 4096, 4096, 20000, max(0, len(whole.written) + near)))
-    words = min(6144 + 12 * path, WORDS) + rng.choice((0, 0, 0, 1, 77))
-    if rng.random() < 0.04:
-        words = rng.choice((0, 6143, words - 1))
-    return sheet, Setting(path, budget, skip, output, words)
+# ---------------------------------------------------------------- the programs
 
-
-def printed(host, folder, sheet, s):
+def host_prints(host, folder, case):
     file = pathlib.Path(folder) / "sheet"
-    file.write_bytes(sheet)
-    words = [host, str(file), *map(str, s)]
-    return subprocess.run(words, stdout=subprocess.PIPE, check=True).stdout
+    file.write_bytes(case.sheet)
+    return subprocess.run([host, str(file), *map(str, case[1:])], stdout=subprocess.PIPE, check=True).stdout
+
+
+def box_prints(box, case):
+    return subprocess.run([box], input=case.sheet, stdout=subprocess.PIPE, check=True).stdout
+
+
+# ---------------------------------------------------------------- the comparison
+
+def compare(case, wrong):
+    """Ends the comparison where something is wrong with a case."""
+    if wrong:
+        sys.exit("DIFFER\n%s\n%s" % (case, "\n".join(wrong)))
+
+
+def compare_library(run, rng, cases, ended):
+    for case, page in zip(cases, walker.pages(cases)):
+        due = walker.outcome(page)
+        compare(case, list(faults(run, rng, case, due)))
+        ended[due.end or "refused %d" % due.refused] += 1
+
+
+def compare_program(name, prints, cases, ended):
+    for case, page in zip(cases, walker.pages(cases)):
+        printed = prints(case)
+        compare(case, [] if printed == page else ["the %s prints %r, due %r" % (name, printed, page)])
+        ended[name] += 1
+
+
+def check(given, folder):
+    """How many runs were alike, by their end or refusal, and by program."""
+    rng, until, ended = random.Random(given.seed), time.monotonic() + given.seconds, Counter()
+    run = load(given.library, folder)
+    while not ended or time.monotonic() < until:
+        cases = batch(rng)
+        compare_library(run, rng, cases, ended)
+        some = cases[::SHARE]
+        if given.host:
+            compare_program("host", lambda case: host_prints(given.host, folder, case), some, ended)
+        if given.box:
+            compare_program("box", lambda case: box_prints(given.box, case), [walker.Case(case.sheet, **BOX) for case in some], ended)
+    return ended
 
 
 def main():
     parser = argparse.ArgumentParser()
-    parser.add_argument("reference")
     parser.add_argument("--seconds", type=float, default=60)
     parser.add_argument("--seed", type=int, default=1)
-    parser.add_argument("--library", default=str(pathlib.Path(__file__).resolve().parent.parent / "target/staticlib/libvodlasim_c.a"))
+    parser.add_argument("--library", default=str(walker.ROOT / "target/staticlib/libvodlasim_c.a"))
     parser.add_argument("--host")
-    given = parser.parse_args()
-    sys.path.insert(0, given.reference)
-    import document01 as reference
-    import sheets
-    rng, until, ended = random.Random(given.seed), time.time() + given.seconds, Counter()
+    parser.add_argument("--box")
     with tempfile.TemporaryDirectory() as folder:
-        run = load(given.library, folder)
-        while time.time() < until:
-            sheet, s = drawn(rng, reference, sheets)
-            due = reference.run(sheet, s.path, s.budget, s.skip, s.words, s.output)
-            wrong = list(faults(run, rng, sheet, s, due))
-            if given.host and sum(ended.values()) % 20 == 0 and printed(given.host, folder, sheet, s) != reference.show(due):
-                wrong.append("the host prints something else than %r" % reference.show(due))
-            if wrong:
-                sys.exit("DIFFER after %d runs alike\n%s\n%r\n%s" % (sum(ended.values()), s, sheet, "\n".join(wrong)))
-            ended[due.end or "refused %d" % due.refused] += 1
-    print("%d runs alike:" % sum(ended.values()), ", ".join("%s %d" % pair for pair in sorted(ended.items())))
+        ended = check(parser.parse_args(), folder)
+    ends = ENDS + tuple("refused %d" % number for number in range(1, 11))
+    print("%d runs alike:" % sum(ended[end] for end in ends), ", ".join("%s %d" % (end, ended[end]) for end in ends))
+    for program in ("host", "box"):
+        if ended[program]:
+            print("%d pages of the %s alike" % (ended[program], program))
 
 
 if __name__ == "__main__":

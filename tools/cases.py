@@ -1,32 +1,30 @@
 #!/usr/bin/env python3
 """The cases of the test program (crates/cases): their list, and the files that hold them.
 
-  tools/cases.py                     writes crates/cases/stdin
-  tools/cases.py --expect FOLDER     writes crates/cases/stdout too: what a reference reading of document 01 gives, FOLDER/document01.py
-  tools/cases.py --random FOLDER     draws the random cases anew, with FOLDER/sheets.py; else those that stand in stdin are kept
-  tools/cases.py --list              prints each case's number and name, and writes nothing
+  tools/cases.py               writes crates/cases/stdin, the cases, and stdout, what the reference reading (walker.py) prints for them
+  tools/cases.py --random      draws the random cases anew; else those that stand in stdin are kept
+  tools/cases.py --list        prints each case's number and name, and writes nothing
 
-crates/cases/src/main.rt says how a case stands in stdin. The work words default to what the path limit asks.
+crates/cases/src/main.rt says how a case stands in stdin.
 """
 import argparse
-import pathlib
 import random
-import re
-import sys
-from collections import namedtuple
 
-FILES = pathlib.Path(__file__).resolve().parent.parent / "crates" / "cases"
+import random_sheets
+import walker
+
+FILES = walker.ROOT / "crates" / "cases"
 RANDOM = 150                            # so many random cases, the last ones
-Case = namedtuple("Case", "name sheet path budget skip output words")
-cases = []
+cases = []                              # name and case
 
 
 # ---------------------------------------------------------------- how a case is written down
 
 def case(name, sheet, path=512, budget=1000000, skip=0, output=4096, words=None):
     if words is None:
-        words = 6144 + 12 * min(path, 32768)
-    cases.append(Case(name, sheet if isinstance(sheet, bytes) else sheet.encode(), path, budget, skip, output, words))
+        words = walker.words_for(path)
+    sheet = sheet if isinstance(sheet, bytes) else sheet.encode()
+    cases.append((name, walker.Case(sheet, path, budget, skip, output, words)))
 
 
 def lines(edition="1", scalars="1", locals="1", arrays="", given="", formula="true"):
@@ -52,7 +50,7 @@ def ones(n):
 
 
 def padded(size):
-    """An accepted sheet of so many bytes: conjunctions of `true`, and one long comparison to make up the size."""
+    """A sheet of so many bytes: conjunctions of `true`, in a long sheet nested too deep, and one comparison to make up the size."""
     head = lines(formula="")[:-1]
     whole, rest = divmod(size - len(head) - 1 - len("eq 1 1"), len("and true "))
     return head + "and true " * whole + "eq " + "1" * (1 + rest) + " 1\n"
@@ -559,72 +557,39 @@ def taught():
 # ---------------------------------------------------------------- random cases
 
 def drawn():
-    """Random and damaged sheets under random settings, from the reference's generator."""
-    import sheets
+    """Random and damaged sheets under random settings."""
     rng = random.Random(20011)
-    out = []
-    while len(out) < RANDOM:
-        x = rng.random()
-        sheet = sheets.edge(rng) if x < 0.08 else sheets.Gen(rng, x < 0.85).sheet()
-        if rng.random() < 0.35:
-            sheet = sheets.mutate(rng, sheet)
+    for _ in range(RANDOM):
         path = rng.choice((1, 2, 3, 5, 8, 13, 40, 512, 512, 512, 3000))
         budget = rng.choice((0, 1, 5, 20, 100, 1000, 5000, 5000))
         skip = rng.choice((0, 0, 0, 1, 2, 7, 100))
         output = rng.choice((0, 9, 30, 100, 1000, 4096, 4096))
-        words = 6144 + 12 * path - (rng.random() < 0.03) + rng.choice((0, 0, 1, 77))
-        out.append(Case("random %d" % (len(out) + 1), sheet, path, budget, skip, output, words))
-    return out
+        words = walker.words_for(path) - (rng.random() < 0.03) + rng.choice((0, 0, 1, 77))
+        yield walker.Case(random_sheets.drawn(rng), path, budget, skip, output, words)
+
+
+def stored():
+    return walker.unpacked((FILES / "stdin").read_bytes())[-RANDOM:]
 
 
 # ---------------------------------------------------------------- the files
 
-def packed(c):
-    return b"case %d %d %d %d %d %d\n%s\n" % (c.path, c.budget, c.skip, c.output, c.words, len(c.sheet), c.sheet)
-
-
-def unpacked(data):
-    """The cases that stand in a file, without their names."""
-    out, at = [], 0
-    while at < len(data):
-        head = re.compile(rb"case (\d+) (\d+) (\d+) (\d+) (\d+) (\d+)\n").match(data, at)
-        path, budget, skip, output, words, size = map(int, head.groups())
-        out.append(Case("", data[head.end():head.end() + size], path, budget, skip, output, words))
-        at = head.end() + size + 1
-    return out
-
-
-def stored():
-    old = unpacked((FILES / "stdin").read_bytes())[-RANDOM:]
-    return [c._replace(name="random %d" % (n + 1)) for n, c in enumerate(old)]
-
-
-def expected(reference):
-    out = b""
-    for n, c in enumerate(cases):
-        result = reference.run(c.sheet, c.path, c.budget, c.skip, c.words, c.output)
-        out += b"case %d\n%s" % (n + 1, reference.show(result))
-    return out
-
-
 def main():
     parser = argparse.ArgumentParser()
-    parser.add_argument("--expect", metavar="FOLDER")
-    parser.add_argument("--random", metavar="FOLDER")
+    parser.add_argument("--random", action="store_true")
     parser.add_argument("--list", action="store_true")
     given = parser.parse_args()
-    sys.path[:0] = [folder for folder in (given.expect, given.random) if folder]
     for group in (marked, readings, slips, declared_limits, text_limits, lent_limits, kinds, words, inner_trees, damaged, taught):
         group()
-    cases.extend(drawn() if given.random else stored())
+    for number, drawn_case in enumerate(drawn() if given.random else stored()):
+        cases.append(("random %d" % (number + 1), drawn_case))
     if given.list:
-        for n, c in enumerate(cases):
-            print(n + 1, repr(c.name)[1:-1], "| path %d budget %d skip %d output %d words %d" % c[2:])
+        for number, (name, listed) in enumerate(cases):
+            print(number + 1, repr(name)[1:-1], "| path %d budget %d skip %d output %d words %d" % listed[1:])
         return
-    (FILES / "stdin").write_bytes(b"".join(map(packed, cases)))
-    if given.expect:
-        import document01
-        (FILES / "stdout").write_bytes(expected(document01))
+    all_cases = [c for _, c in cases]
+    (FILES / "stdin").write_bytes(walker.packed(all_cases))
+    (FILES / "stdout").write_bytes(walker.printed(all_cases))
 
 
 if __name__ == "__main__":

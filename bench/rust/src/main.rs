@@ -1,8 +1,12 @@
 //! bench ENGINE SHEET [OPTION NUMBER]..
+//! bench cases FILE
 //!
-//! Runs the sheet in the file SHEET (`-`: standard input) by ENGINE, `walker` or `library`, and prints what the box prints. Options:
-//! --path-limit, --budget, --skip, --output, and --runs, which runs it so many times and prints the last run.
+//! The first runs the sheet in the file SHEET by ENGINE and prints what the box prints. ENGINE is `walker` or, if built with the feature
+//! `library`, `library`. Options: --path-limit, --budget, --skip, --output, and --runs, which runs it so many times and prints the last
+//! run. The second runs the cases in FILE by the walker (see cases.rs). The file `-` is standard input.
 
+mod cases;
+mod page;
 mod sheet;
 mod walk;
 
@@ -12,38 +16,30 @@ mod library;
 use sheet::Refused;
 use std::{
     env, fs,
-    io::{self, Read, Write},
+    io::{self, BufWriter, Read, Write},
     process,
 };
 use walk::{Outcome, Setting};
 
 fn main() {
     let arguments: Vec<String> = env::args().skip(1).collect();
-    let Some((engine, file, options)) = parse(&arguments) else {
-        eprintln!("usage: bench walker|library SHEET [--path-limit N] [--budget N] [--skip N] [--output N] [--runs N]");
+    let Some(command) = parse(&arguments) else {
+        eprintln!(
+            "usage: bench walker|library SHEET [--path-limit N] [--budget N] [--skip N] [--output N] [--runs N]\n       bench cases FILE"
+        );
         process::exit(2);
     };
-    let sheet = read(file).unwrap_or_else(|error| {
-        eprintln!("{file}: {error}");
+    let printed = match command {
+        Command::Sheet(engine, file, options) => print_sheet(engine, file, options),
+        Command::Cases(file) => print_cases(file),
+    };
+    if let Err(error) = printed {
+        eprintln!("bench: {error}");
         process::exit(1);
-    });
-    let mut work = vec![0; 6144 + 12 * options.setting.path_limit as usize];
-    let mut output = vec![0; options.output];
-    let mut result = engine(&sheet, options.setting, &mut work, &mut output);
-    for _ in 1..options.runs {
-        result = engine(&sheet, options.setting, &mut work, &mut output);
     }
-    print(result, &output).expect("standard output takes the listing");
 }
 
 type Engine = fn(&[u8], Setting, &mut [u32], &mut [u8]) -> Result<Outcome, Refused>;
-
-fn walker(bytes: &[u8], setting: Setting, _work: &mut [u32], output: &mut [u8]) -> Result<Outcome, Refused> {
-    if !(1..=32768).contains(&setting.path_limit) {
-        return Err(Refused { number: 1, place: 0 });
-    }
-    Ok(walk::walk(&sheet::read(bytes)?, setting, output))
-}
 
 struct Options {
     setting: Setting,
@@ -51,17 +47,27 @@ struct Options {
     runs: u32,
 }
 
-fn parse(arguments: &[String]) -> Option<(Engine, &str, Options)> {
+enum Command<'a> {
+    Sheet(Engine, &'a str, Options),
+    Cases(&'a str),
+}
+
+fn parse(arguments: &[String]) -> Option<Command<'_>> {
     let [engine, file, rest @ ..] = arguments else { return None };
     let engine: Engine = match engine.as_str() {
-        "walker" => walker,
+        "walker" => |sheet, setting, work, output| walk::run(sheet, setting, work.len(), output),
         #[cfg(feature = "library")]
         "library" => library::run,
+        "cases" if rest.is_empty() => return Some(Command::Cases(file)),
         _ => return None,
     };
+    Some(Command::Sheet(engine, file, parse_options(rest)?))
+}
+
+fn parse_options(words: &[String]) -> Option<Options> {
     let setting = Setting { path_limit: 512, budget: 1_000_000, skip: 0 };
     let mut options = Options { setting, output: 4096, runs: 1 };
-    for pair in rest.chunks(2) {
+    for pair in words.chunks(2) {
         let [name, number] = pair else { return None };
         let number: u32 = number.parse().ok()?;
         match name.as_str() {
@@ -73,36 +79,33 @@ fn parse(arguments: &[String]) -> Option<(Engine, &str, Options)> {
             _ => return None,
         }
     }
-    Some((engine, file, options))
+    Some(options)
 }
 
-/// At most 4,097 bytes, as the box reads.
-fn read(file: &str) -> io::Result<Vec<u8>> {
+fn print_sheet(engine: Engine, file: &str, options: Options) -> io::Result<()> {
+    let mut sheet = Vec::new();
+    open(file)?.take(4097).read_to_end(&mut sheet)?; // as many bytes as the box reads
+    let mut work = vec![0; walk::words_for(options.setting.path_limit)];
+    let mut output = vec![0; options.output];
+    let mut result = engine(&sheet, options.setting, &mut work, &mut output);
+    for _ in 1..options.runs {
+        result = engine(&sheet, options.setting, &mut work, &mut output);
+    }
+    page::print(&mut io::stdout().lock(), &result, &output)
+}
+
+fn print_cases(file: &str) -> io::Result<()> {
     let mut bytes = Vec::new();
-    match file {
-        "-" => io::stdin().take(4097).read_to_end(&mut bytes)?,
-        _ => fs::File::open(file)?.take(4097).read_to_end(&mut bytes)?,
-    };
-    Ok(bytes)
+    open(file)?.read_to_end(&mut bytes)?;
+    let mut out = BufWriter::new(io::stdout().lock());
+    cases::print(&mut out, &bytes)?;
+    out.flush()
 }
 
-fn name(end: walk::End) -> &'static str {
-    match end {
-        walk::End::Done => "done",
-        walk::End::Spent => "spent",
-        walk::End::Path => "path",
-        walk::End::Output => "output",
+fn open(file: &str) -> io::Result<Box<dyn Read>> {
+    if file == "-" {
+        return Ok(Box::new(io::stdin()));
     }
-}
-
-fn print(result: Result<Outcome, Refused>, output: &[u8]) -> io::Result<()> {
-    let mut out = io::stdout().lock();
-    match result {
-        Err(Refused { number, place }) => writeln!(out, "refused={number}\nat={place}"),
-        Ok(Outcome { end, tallies, written }) => {
-            out.write_all(&output[..written])?;
-            writeln!(out, "end={}\nnodes={}\nanswers={}", name(end), tallies.nodes, tallies.answers)?;
-            writeln!(out, "errors={}\nfails={}", tallies.errors, tallies.fails)
-        }
-    }
+    let opened = fs::File::open(file).map_err(|error| io::Error::new(error.kind(), format!("{file}: {error}")))?;
+    Ok(Box::new(opened))
 }

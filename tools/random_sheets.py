@@ -1,0 +1,421 @@
+#!/usr/bin/env python3
+"""Random sheets: well formed ones, ones at a limit or one past it, and damaged ones.
+
+  tools/random_sheets.py [SEED]      prints the sheet that a seed gives
+
+Every function is given a random.Random and draws from nothing else. `drawn` gives a sheet of any of the three sorts.
+"""
+import random
+import re
+import sys
+
+LOW, HIGH = -2**31, 2**31 - 1
+COMPARISONS = ("eq", "ne", "lt", "le", "gt", "ge")
+OPERATIONS = ("add", "sub", "mul", "div", "mod")
+CONNECTIVES, QUANTIFIERS = ("and", "or", "imp"), ("some", "all")
+WORDS = ("true", "not", "ex") + CONNECTIVES + QUANTIFIERS + COMPARISONS + OPERATIONS
+ENDS = (LOW, LOW + 1, HIGH - 1, HIGH)
+
+
+def drawn(rng):
+    """A sheet: mostly well formed, one in eight at a limit, one in three damaged."""
+    sheet = edge(rng) if rng.random() < 0.12 else well_formed(rng)
+    if rng.random() < 0.35:
+        for _ in range(rng.choice((1, 1, 1, 2, 4))):
+            sheet = damaged(rng, sheet)
+    return sheet
+
+
+def lines(scalars=1, locals=1, arrays=(), given="", formula="true"):
+    """A sheet by what its lines hold."""
+    values = 1, scalars, locals, ",".join(map(str, arrays)), given, formula
+    return ("edition=%s\nscalars=%s\nlocals=%s\narrays=%s\ngiven=%s\nformula=%s\n" % values).encode()
+
+
+# ---------------------------------------------------------------- well-formed sheets
+
+def well_formed(rng):
+    """A sheet that no refusal fits: what it declares and gives, and a formula that mostly uses what has a value."""
+    while True:
+        sheet = Draft(rng).sheet()
+        if len(sheet) <= 4096:
+            return sheet
+
+
+def constant(rng):
+    x = rng.random()
+    if x < 0.9:
+        return rng.randint(-3, 9)
+    return rng.choice(ENDS) if x < 0.96 else rng.choice((1, -1)) * rng.choice((46340, 46341, 65536, rng.randint(10, HIGH)))
+
+
+def given_line(rng, scalars, arrays, share):
+    """The given line for that share of the cells, with the names given, as the formula writes them."""
+    cells = [("v%d" % n, "v%d" % n) for n in range(scalars)]
+    cells += [("a%d.%d" % (n, e), "a%d %d" % (n, e)) for n, length in enumerate(arrays) for e in range(length)]
+    chosen = [cell for cell in cells if rng.random() < share]
+    return ",".join("%s:%d" % (name, constant(rng)) for name, _ in chosen), [name for _, name in chosen]
+
+
+class Draft:
+    """One sheet while it is drawn. `valued` holds the cells and locals that will have a value, as far as can be seen, when the walk gets
+    to the place that is drawn next: names as the formula writes them, elements by a constant index."""
+
+    def __init__(self, rng):
+        self.rng = rng
+        self.scalars = rng.choice((0, 1, 2, 2, 3, 3, 5, 9))
+        self.locals = rng.choice((0, 1, 2, 3, 4, 6, 32))
+        self.arrays = [rng.choice((1, 2, 3, 3, 4, 8)) for _ in range(rng.choice((0, 0, 1, 1, 1, 2, 4)))]
+        self.given, given = given_line(rng, self.scalars, self.arrays, rng.choice((0, 0, 0.1, 0.5)))
+        self.valued = set(given)
+        self.unbound = rng.sample(range(self.locals), self.locals)
+        self.scope = []
+        self.outside = set()        # names that an inner tree should not assign
+
+    def sheet(self):
+        formula = self.formula(self.rng.choice((1, 8, 15, 30, 30, 60, 120, 400)))
+        return lines(self.scalars, self.locals, self.arrays, self.given, formula)
+
+    # -- names
+
+    def names(self):
+        """Every cell and local that may stand here."""
+        elements = ["a%d %d" % (n, e) for n, length in enumerate(self.arrays) for e in range(length)]
+        return ["v%d" % n for n in range(self.scalars)] + elements + self.scope
+
+    def unvalued(self):
+        return [name for name in self.names() if name not in self.valued and name not in self.outside]
+
+    # -- terms: `size` is about how many tokens there may be
+
+    def term(self, size):
+        rng, x = self.rng, self.rng.random()
+        if size >= 3 and x < 0.7:
+            left = rng.randint(1, size - 2)
+            return "%s %s %s" % (rng.choice(OPERATIONS), self.term(left), self.term(size - 1 - left))
+        if size >= 2 and self.arrays and x < 0.8:
+            return "a%d %s" % (rng.randrange(len(self.arrays)), self.term(size - 1))
+        names = sorted(self.valued) if rng.random() < 0.98 else self.names()
+        return rng.choice(names) if names and rng.random() < 0.7 else str(constant(rng))
+
+    def bounds(self):
+        """A range, mostly a short one."""
+        rng, x = self.rng, self.rng.random()
+        if x < 0.15:
+            return "%s %s" % (self.term(rng.choice((1, 1, 3))), self.term(rng.choice((1, 1, 3))))
+        first = rng.choice((LOW, HIGH - 2, HIGH - 1, HIGH)) if x < 0.2 else rng.randint(-2, 2)
+        return "%d %d" % (first, max(LOW, min(HIGH, first + rng.choice((-1, 0, 1, 1, 2, 2, 3, 5)))))
+
+    # -- formulas
+
+    def formula(self, size):
+        if size < 5:
+            return self.atom(size)
+        ways = [self.both, self.both, self.both, self.either, self.either, self.negated, self.implied, self.atom]
+        if self.unbound:
+            ways += [self.ranged, self.ranged, self.found]
+        if self.unbound and self.arrays:
+            ways.append(self.filled)
+        return self.rng.choice(ways)(size)
+
+    def atom(self, size):
+        rng, unvalued = self.rng, self.unvalued()
+        if rng.random() < 0.1:
+            return "true"
+        if unvalued and rng.random() < 0.6:
+            return self.assignment(rng.choice(unvalued), self.term(min(size, rng.choice((1, 1, 3, 5)))))
+        sides = [self.term(rng.choice((1, 1, 1, 1, 1, 2, 3, 3, max(1, size // 2)))) for _ in range(2)]
+        mostly_true = rng.choice(("ne %s 7", "lt %s 12", "le %s 9", "gt 12 %s", "ge %s -3"))
+        return mostly_true % sides[0] if rng.random() < 0.6 else "%s %s %s" % (rng.choice(COMPARISONS), *sides)
+
+    def assignment(self, name, term):
+        self.valued.add(name)
+        return "eq %s %s" % ((name, term) if self.rng.random() < 0.8 else (term, name))
+
+    def parts(self, size):
+        left = self.rng.randint(1, size - 2)
+        return left, size - 1 - left
+
+    def apart(self, size):
+        """A formula whose assignments the formulas after it do not see."""
+        before = set(self.valued)
+        formula = self.formula(size)
+        self.valued = before
+        return formula
+
+    def inner(self, size):
+        """A formula for an inner tree: mostly one that assigns nothing but its own locals."""
+        before = set(self.outside)
+        if self.rng.random() < 0.9:
+            self.outside.update(self.names())
+        formula = self.apart(size)
+        self.outside = before
+        return formula
+
+    def both(self, size):
+        left, right = self.parts(size)
+        return "and %s %s" % (self.formula(left), self.formula(right))
+
+    def either(self, size):
+        left, right = self.parts(size)
+        return "or %s %s" % (self.apart(left), self.formula(right))
+
+    def negated(self, size):
+        return "not " + self.inner(size - 1)
+
+    def implied(self, size):
+        left, right = self.parts(size)
+        return "imp %s %s" % (self.inner(left), self.formula(right))
+
+    def within(self, local, size):
+        """The formula of a binder."""
+        self.scope.append(local)
+        formula = self.formula(size)
+        self.scope.remove(local)
+        self.valued.discard(local)
+        return formula
+
+    def found(self, size):
+        local = "l%d" % self.unbound.pop()
+        if self.rng.random() < 0.6:
+            self.scope.append(local)
+            first = self.assignment(local, self.term(1))
+            self.scope.remove(local)
+            return "ex %s and %s %s" % (local, first, self.within(local, size - 5))
+        return "ex %s %s" % (local, self.within(local, size - 2))
+
+    def ranged(self, size):
+        """A `some` or `all`; a `some` often chooses a cell's value."""
+        word, local, bounds = self.rng.choice(("some", "all")), "l%d" % self.unbound.pop(), self.bounds()
+        self.valued.add(local)
+        unvalued, first = self.unvalued(), ""
+        if word == "some" and unvalued and self.rng.random() < 0.7:
+            first = "and %s " % self.assignment(self.rng.choice(unvalued), local)
+        return "%s %s %s %s%s" % (word, local, bounds, first, self.within(local, size - 4))
+
+    def filled(self, size):
+        """A value for each element of an array."""
+        array = self.rng.randrange(len(self.arrays))
+        local, last = "l%d" % self.unbound.pop(), self.arrays[array] - 1
+        self.scope.append(local)
+        self.valued.add(local)
+        body = "eq a%d %s %s" % (array, local, self.term(self.rng.choice((1, 1, 3))))
+        self.scope.remove(local)
+        self.valued.discard(local)
+        self.valued.update("a%d %d" % (array, e) for e in range(last + 1))
+        return "all %s 0 %d %s" % (local, last + self.rng.choice((0, 0, 0, 0, -1, 1)), body)
+
+
+# ---------------------------------------------------------------- sheets at a limit, or one past it
+
+def edge(rng):
+    past = rng.random() < 0.4
+    return rng.choice(EDGES)(rng, past)
+
+
+def deep(rng, past):
+    """Nesting 64: the formula is 1, each operand one deeper."""
+    more = 63 + past
+    cut = rng.randint(0, more - 1)
+    outer = "".join(rng.choice(("not ", "and true ", "or true ", "imp true ", "or eq 1 2 ")) for _ in range(cut))
+    term = rng.choice(("add 1 ", "mul 1 ", "sub 0 ", "a0 ", "mod 9 "))
+    inner = rng.choice(("eq v0 " + term * (more - cut - 1) + "0", "not " * (more - cut) + "true"))
+    return lines(arrays=(1,), given="a0.0:0", formula=outer + inner)
+
+
+def tree(rng, word, leaves):
+    """The leaves under a word of two operands, in a tree that is not deep."""
+    if len(leaves) == 1:
+        return leaves[0]
+    cut = rng.randint((len(leaves) + 2) // 3, (2 * len(leaves)) // 3)
+    return "%s %s %s" % (word, tree(rng, word, leaves[:cut]), tree(rng, word, leaves[cut:]))
+
+
+def many_tokens(rng, past):
+    """1,024 tokens: `not eq` and two sums of ones, 512 ones in all; or, with one more of them, 1,025."""
+    ones = 512 + past
+    cut = rng.randint(100, 400)
+    sums = [tree(rng, "add", ["1"] * n) for n in (cut, ones - cut)]
+    return lines(formula="%s%s %s %s" % ("" if past else "not ", rng.choice(COMPARISONS), *sums))
+
+
+def many_bytes(rng, past):
+    """4,096 bytes: a conjunction of comparisons whose constants make up the length."""
+    atoms = rng.randint(160, 250)
+    left = 4096 + past - len(lines(formula="")) - atoms * len("and eq 1 1 ") + len("and ") + 1
+    more, rest = divmod(left, 2 * atoms)
+    sizes = rng.sample([1 + more] * (2 * atoms - rest) + [2 + more] * rest, 2 * atoms)
+    constants = [str(rng.randint(10**(size - 1), 10**size - 1)) for size in sizes]
+    return lines(formula=tree(rng, "and", ["eq %s %s" % pair for pair in zip(constants[::2], constants[1::2])]))
+
+
+def lengths(rng, cells, count):
+    """So many lengths that together make up so many cells."""
+    cuts = sorted(rng.sample(range(1, cells), count - 1))
+    return [b - a for a, b in zip([0] + cuts, cuts + [cells])]
+
+
+def many_cells(rng, past):
+    """512 cells, the last of them named."""
+    scalars = rng.choice((0, 1, 40, 64))
+    arrays = lengths(rng, 512 + past - scalars, rng.randint(1, 16))
+    last = len(arrays) - 1
+    formula = rng.choice(("eq a%d %d 5" % (last, arrays[last] - 1), "all l0 0 %d eq a%d l0 l0" % (arrays[last] - 1, last)))
+    return lines(scalars, 1, arrays, formula=formula)
+
+
+def many_given(rng, past):
+    """As many given items as there is room for, mostly; past: one of them again, or out of order."""
+    scalars, arrays = rng.choice((0, 64)), lengths(rng, 300, rng.randint(1, 16))
+    given, _ = given_line(rng, scalars, arrays, rng.choice((0.5, 0.9)))
+    items = given.split(",")
+    if past:
+        items.insert(rng.randint(0, len(items)), rng.choice(items))
+    return lines(scalars, 1, arrays, ",".join(items))
+
+
+def many_arrays(rng, past):
+    arrays = [rng.randint(1, 4) for _ in range(16 + past)]
+    name = rng.randint(14, 16)
+    return lines(1, 1, arrays, formula="eq a%d 0 %d" % (name, constant(rng)))
+
+
+def many_scalars(rng, past):
+    return lines(64 + past, formula="and eq v%d 1 eq v%d 2" % (rng.randint(0, 62), rng.randint(62, 65)))
+
+
+def many_locals(rng, past):
+    binders = "".join(rng.choice(("ex l%d ", "some l%d 0 0 ", "all l%d 1 1 ")) % n for n in rng.sample(range(32), 32))
+    return lines(1, 32 + past, formula=binders + "eq v0 %d" % rng.randint(0, 3))
+
+
+def one_index(rng, past):
+    """A name, index or element at its limit, or far past it."""
+    far = rng.choice((3, 4, 2**31, 2**32, 2**32 + 1, 2**64, 10**30)) if past else 2
+    formula = rng.choice(("eq v%d 1", "eq a%d 0 1", "ex l%d true", "ex l0 eq l%d 1", "eq a0 %d 1", "eq a0 -%d 1")) % far
+    given = rng.choice(("", "v%d:1", "a%d.0:1", "a0.%d:1"))
+    return lines(3, 3, (3, 3, 3), given % far if given else "", formula)
+
+
+def end_values(rng, past):
+    """Constants, given values and results at the ends of 32 bits."""
+    a, b = rng.choice(ENDS), rng.choice(ENDS + (-1, 0, 1, 2))
+    if past:
+        a = rng.choice((LOW - 1, HIGH + 1, 10**20, -10**20))
+    formula = rng.choice(("eq v1 %s %d %d" % (rng.choice(OPERATIONS), a, b), "%s %d %d" % (rng.choice(COMPARISONS), a, b)))
+    return lines(2, 1, given="v0:%d" % rng.choice((a, b)), formula=rng.choice((formula, "and eq v0 %d %s" % (b, formula))))
+
+
+def end_ranges(rng, past):
+    """Ranges that begin or end at the ends of 32 bits; past: all values there are."""
+    word, first = rng.choice(("some", "all")), rng.choice((LOW, HIGH - rng.randint(0, 3)))
+    last = HIGH if past or first > 0 else LOW + rng.randint(0, 3)
+    body = rng.choice(("eq v0 l0", "ne l0 %d" % rng.choice(ENDS), "eq v0 add l0 1", "not eq l0 sub l0 1", "true"))
+    return lines(formula="%s l0 %d %d %s" % (word, LOW if past else first, last, body))
+
+
+def long_path(rng, past):
+    """A path of some hundred nodes; past: of some thousands."""
+    last = rng.randint(900, 17000) if past else rng.randint(200, 300)
+    return lines(formula="all l0 1 %d %s" % (last, rng.choice(("true", "ne l0 0", "and true true", "not eq l0 0"))))
+
+
+EDGES = (deep, deep, many_tokens, many_bytes, many_cells, many_given, many_arrays, many_scalars, many_locals, one_index, end_values,
+         end_ranges, long_path)
+
+
+# ---------------------------------------------------------------- damage
+
+def damaged(rng, sheet):
+    return rng.choice(DAMAGES)(rng, sheet) if sheet else b"\n"
+
+
+def telling(rng):
+    """A byte: mostly one that means something in a sheet."""
+    return rng.choice(b"0123456789-=,:. \nval\r\tXx") if rng.random() < 0.8 else rng.randrange(256)
+
+
+def changed(rng, sheet):
+    at = rng.randrange(len(sheet))
+    return sheet[:at] + bytes([telling(rng)]) + sheet[at + 1:]
+
+
+def dropped(rng, sheet):
+    at = rng.randrange(len(sheet))
+    return sheet[:at] + sheet[at + rng.choice((1, 1, 1, 2, 5)):]
+
+
+def inserted(rng, sheet):
+    at = rng.randint(0, len(sheet))
+    return sheet[:at] + bytes(telling(rng) for _ in range(rng.choice((1, 1, 1, 2)))) + sheet[at:]
+
+
+def doubled(rng, sheet):
+    at, size = rng.randrange(len(sheet)), rng.choice((1, 1, 2, 5, 30))
+    return sheet[:at + size] + sheet[at:]
+
+
+def cut_short(rng, sheet):
+    return sheet[:rng.randrange(len(sheet))]
+
+
+def goes_on(rng, sheet):
+    return sheet + rng.choice((b"\n", b" ", b"\0", b"true\n", b"given=\n", sheet))
+
+
+def lines_moved(rng, sheet):
+    """Two lines swapped, or one dropped or written twice."""
+    rows = sheet.splitlines(keepends=True)
+    a, b = rng.randrange(len(rows)), rng.randrange(len(rows))
+    way = rng.randrange(3)
+    if way == 0:
+        rows[a], rows[b] = rows[b], rows[a]
+    else:
+        rows[a:a + 1] = [] if way == 1 else [rows[a]] * 2
+    return b"".join(rows)
+
+
+def replaced(rng, sheet, pattern, new):
+    """One of the places that match the pattern, rewritten by `new`."""
+    found = list(re.finditer(pattern, sheet))
+    if not found:
+        return sheet
+    match = rng.choice(found)
+    return sheet[:match.start()] + new(match[0]) + sheet[match.end():]
+
+
+def number_changed(rng, sheet):
+    """A number made longer, given a zero or a minus before it, or changed a little."""
+    def new(old):
+        near = b"%d" % (int(old[:30]) + rng.choice((-1, 1, 2, 60)))
+        return rng.choice((b"0" + old, b"-" + old, b"--" + old, old + b"0" * rng.choice((1, 9, 40)), old + b"-", near, b""))
+    return replaced(rng, sheet, rb"[0-9]+", new)
+
+
+TOKEN = rb"(?<=[ =])[a-z][a-z0-9]*(?=[ \n])"
+
+
+def word_changed(rng, sheet):
+    """A token exchanged for any other word, name or constant, or its case changed."""
+    def new(old):
+        name = "%s%d" % (rng.choice("vla"), rng.choice((0, 0, 1, 2, 3, 70)))
+        return rng.choice((rng.choice(WORDS).encode(), name.encode(), b"%d" % constant(rng), old.upper(), old[:-1], b""))
+    return replaced(rng, sheet, TOKEN, new)
+
+
+def word_exchanged(rng, sheet):
+    """A token exchanged for one like it: another word with such operands, or its first letter with another number."""
+    def new(old):
+        for group in (CONNECTIVES, QUANTIFIERS, COMPARISONS, OPERATIONS):
+            if old.decode() in group:
+                return rng.choice(group).encode()
+        return b"%s%d" % (old[:1], rng.choice((0, 1, 2, 3, 9)))
+    return replaced(rng, sheet, TOKEN, new)
+
+
+DAMAGES = (changed, dropped, inserted, doubled, cut_short, goes_on, lines_moved, number_changed, number_changed, word_changed, word_changed,
+           word_exchanged, word_exchanged)
+
+
+if __name__ == "__main__":
+    sys.stdout.buffer.write(drawn(random.Random(int(sys.argv[1]) if len(sys.argv) > 1 else None)))
