@@ -175,8 +175,11 @@ def main():
     parser.add_argument("--library", default=str(walker.ROOT / "target/staticlib/libvodlasim_c.a"))
     parser.add_argument("--host")
     parser.add_argument("--box")
+    given = parser.parse_args()
+    if not pathlib.Path(given.library).exists():
+        parser.error("no library at %s: `rt staticlib vodlasim_c` makes it" % given.library)
     with tempfile.TemporaryDirectory() as folder:
-        ended = check(parser.parse_args(), folder)
+        ended = check(given, folder)
     ends = ENDS + tuple("refused %d" % number for number in range(1, 11))
     print("%d runs alike:" % sum(ended[end] for end in ends), ", ".join("%s %d" % (end, ended[end]) for end in ends))
     for program in ("host", "box"):
