@@ -1,5 +1,5 @@
--- What is proved of the tree of a list that begins with a formula, whatever the rest of the list is: it is sound and complete (source
--- document 001, Theorems 1 and 2, for this tree). Here the two statements, and the cases `true`, `and` and `or`. Assumes nothing.
+-- What is proved of the tree of a list that begins with a formula, whatever the rest of the list is: it is sound and complete (the paper,
+-- Theorems 1 and 2, for this tree). Here the two statements, and the cases `true`, `and` and `or`. Assumes nothing.
 use mathlib.Core.Bool.{Bool}
 use mathlib.Core.Logic.{inl, inr}
 use Rattle.specification.specs.Lines.{Declared}
