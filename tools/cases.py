@@ -49,11 +49,17 @@ def ones(n):
     return "1" if n == 0 else "add %s %s" % (ones(n - 1), ones(n - 1))
 
 
+def conjunction(atoms):
+    """As flat as it can be, so that it does not nest deep."""
+    half = len(atoms) // 2
+    return atoms[0] if half == 0 else "and %s %s" % (conjunction(atoms[:half]), conjunction(atoms[half:]))
+
+
 def padded(size):
-    """A sheet of so many bytes: conjunctions of `true`, in a long sheet nested too deep, and one comparison to make up the size."""
-    head = lines(formula="")[:-1]
-    whole, rest = divmod(size - len(head) - 1 - len("eq 1 1"), len("and true "))
-    return head + "and true " * whole + "eq " + "1" * (1 + rest) + " 1\n"
+    """An accepted sheet of so many bytes, 250 comparisons whose constants make up the size; it has one answer."""
+    short = lines(formula=conjunction(["le 1 1"] * 250))
+    more, rest = divmod(size - len(short), 250)
+    return lines(formula=conjunction(["le 1 " + "1" * (1 + more + (k < rest)) for k in range(250)]))
 
 
 FORMULA_11 = lines(scalars="2", locals="0", formula="and and or eq v0 2 eq v0 3 or eq v1 add v0 1 eq 2 v1 eq mul 2 v0 mul 3 v1")
