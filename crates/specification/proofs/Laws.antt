@@ -42,7 +42,8 @@ pub mod Leaves
 pub mod Cut
 pub mod Done
 pub mod Whole
--- the tables of cases
-pub mod Marked
+-- of what is printed and reported
+pub mod Printed
+pub mod Report
 -- the third demand
 pub mod Demand3

@@ -18,8 +18,7 @@ pub mod Visits
 pub mod Listing
 pub mod Run
 pub mod Outcome
+pub mod Printed
+pub mod Report
 pub mod Plain
 pub mod Demand3
-pub mod Marked
-pub mod Decided
-pub mod Bundles
