@@ -2,13 +2,16 @@
  *
  *   host SHEET PATH BUDGET SKIP OUTPUT [WORDS]
  *
- * SHEET is a file. WORDS defaults to what the path limit asks, 6,144 + 12 * PATH. */
+ * SHEET is a file. WORDS defaults to what the path limit asks, 6,144 + 12 * PATH. The exit status is 1 where a byte was lost in printing,
+ * and nothing is printed after it; 2 where nothing was run. */
 #include <stdio.h>
 #include <stdlib.h>
 #include <string.h>
 #include "vodlasim.h"
 
-static const char *const ends[] = {"done", "spent", "path", "output"};
+static const char *const ends[] = {
+    [VODLASIM_DONE] = "done", [VODLASIM_SPENT] = "spent", [VODLASIM_PATH] = "path", [VODLASIM_OUTPUT] = "output"
+};
 
 static void *room(size_t bytes)
 {
@@ -35,16 +38,25 @@ static uint8_t *read_sheet(const char *name, size_t *len)
     return sheet;
 }
 
-static void print_report(const uint64_t report[8], const uint8_t *output)
+/* whether all that was printed so far went out */
+static int went_out(void)
+{
+    return fflush(stdout) == 0 && !ferror(stdout);
+}
+
+static int print_report(const uint64_t report[8], const uint8_t *output)
 {
     if (report[VODLASIM_REFUSED]) {
         printf("refused=%llu\nat=%llu\n", (unsigned long long)report[VODLASIM_REFUSED], (unsigned long long)report[VODLASIM_PLACE]);
-        return;
+        return went_out();
     }
     fwrite(output, 1, report[VODLASIM_WRITTEN], stdout);
+    if (!went_out())
+        return 0;
     printf("end=%s\nnodes=%llu\nanswers=%llu\nerrors=%llu\nfails=%llu\n", ends[report[VODLASIM_END]],
            (unsigned long long)report[VODLASIM_NODES], (unsigned long long)report[VODLASIM_ANSWERS],
            (unsigned long long)report[VODLASIM_ERRORS], (unsigned long long)report[VODLASIM_FAILS]);
+    return went_out();
 }
 
 int main(int argc, char **argv)
@@ -64,9 +76,11 @@ int main(int argc, char **argv)
     uint8_t *output = room(output_len);
     uint64_t report[8];
     vodlasim_run(sheet, sheet_len, path, budget, skip, work, words, output, output_len, report);
-    print_report(report, output);
+    int status = print_report(report, output) ? 0 : 1;
+    if (status)
+        perror("host");
     free(output);
     free(work);
     free(sheet);
-    return 0;
+    return status;
 }

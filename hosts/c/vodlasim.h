@@ -9,12 +9,20 @@
 enum {
     VODLASIM_REFUSED,   /* the refusal's number, or 0 */
     VODLASIM_PLACE,     /* and its byte place */
-    VODLASIM_END,       /* 0 done, 1 spent, 2 path, 3 output */
+    VODLASIM_END,       /* how the run ended, one of the four below */
     VODLASIM_NODES,
     VODLASIM_ANSWERS,
     VODLASIM_ERRORS,
     VODLASIM_FAILS,
     VODLASIM_WRITTEN    /* bytes of output that hold the listing */
+};
+
+/* the ends of a run */
+enum {
+    VODLASIM_DONE,
+    VODLASIM_SPENT,
+    VODLASIM_PATH,
+    VODLASIM_OUTPUT
 };
 
 void vodlasim_run(const uint8_t *sheet, size_t sheet_len, uint32_t path_limit, uint32_t budget, uint32_t skip,

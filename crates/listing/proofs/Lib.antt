@@ -1,2 +1,2 @@
 -- The laws of the listing. Nothing here has to be believed: the checker does.
-mod Laws
+pub mod Laws

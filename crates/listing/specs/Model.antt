@@ -74,10 +74,10 @@ headOf (Error n kind token) = errorHead n kind token
 abbrev pub headText : Head → Bytes
 headText h = linesText (headLines (headOf h))
 
--- the head's lines at the start of the memory; they are short
+-- the head's lines at the start of the memory: at most three keys and three numbers of ten digits
 pub record Headed (o o′ : Bytes) (h : Head) (r : ℕ) : Type 0 where
   pub text : Put o o′ 0 (headText h) r
-  pub short : r ≤ 17179869184
+  pub short : r ≤ 47
 
 -- head, scalars, arrays
 abbrev pub modelText : Words → ℕ → ℕ → Head → Bytes

@@ -21,7 +21,3 @@ pub record Put (o o′ : Bytes) (at : ℕ) (t : Bytes) (after : ℕ) : Type 0 wh
 -- what stands after a cell's name
 abbrev pub endText : ℕ → Bytes
 endText w = bytes "=" ++ (printℤ (signed w) ++ bytes "\n")
-
--- a line whose key has its equals sign
-abbrev pub fieldText : Bytes → ℕ → Bytes
-fieldText key n = key ++ (printℕ n ++ bytes "\n")

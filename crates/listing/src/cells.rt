@@ -54,7 +54,7 @@ fn scalar_name(out: &mut [u8], at: usize, n: u32) -> usize
     ensures { λ r. ⌜ Put (now (out .entry)) (now (out .exit)) at (labelText (cellLabel (scalar n))) r ⌝ }
 {
     let p = put::byte(out, at, b'v');
-    put::number(out, p, n)
+    put::number(out, p, n as u64)
 }
 
 // `a0.2`
@@ -63,9 +63,9 @@ fn element_name(out: &mut [u8], at: usize, a: u32, e: u32) -> usize
     ensures { λ r. ⌜ Put (now (out .entry)) (now (out .exit)) at (labelText (cellLabel (element a e))) r ⌝ }
 {
     let p = put::byte(out, at, b'a');
-    let q = put::number(out, p, a);
+    let q = put::number(out, p, a as u64);
     let s = put::byte(out, q, b'.');
-    put::number(out, s, e)
+    put::number(out, s, e as u64)
 }
 
 // `v0=7`, if the cell has a value.

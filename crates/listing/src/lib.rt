@@ -8,7 +8,7 @@ ghost use Rattle.listing.specs.Model.{Laid, Headed, modelText};
 ghost use Rattle.listing.specs.Block.{Ready, Listed};
 
 mod cells;
-mod put;
+pub mod put;
 
 // What a block begins with: its number; of an error the kind and the token too.
 pub enum Head {
@@ -27,15 +27,15 @@ pub enum Written {
 fn answer(out: &mut [u8], number: u32) -> usize
     ensures { λ r. ⌜ Headed (now (out .entry)) (now (out .exit)) (Head.Answer number) r ⌝ }
 {
-    put::field(out, 0, b"answer=", number)
+    put::field(out, 0, b"answer=", number as u64)
 }
 
 fn error(out: &mut [u8], number: u32, kind: u32, token: u32) -> usize
     ensures { λ r. ⌜ Headed (now (out .entry)) (now (out .exit)) (Head.Error number kind token) r ⌝ }
 {
-    let p = put::field(out, 0, b"error=", number);
-    let q = put::field(out, p, b"kind=", kind);
-    put::field(out, q, b"at=", token)
+    let p = put::field(out, 0, b"error=", number as u64);
+    let q = put::field(out, p, b"kind=", kind as u64);
+    put::field(out, q, b"at=", token as u64)
 }
 
 fn top(out: &mut [u8], head: Head) -> usize

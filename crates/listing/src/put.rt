@@ -6,7 +6,8 @@ ghost use lib.ListN.{length};
 ghost use lib.Seq.{sets};
 ghost use Rattle.specification.specs.Number.{printℕ, printℤ};
 ghost use Rattle.values.specs.Word.{signed};
-ghost use Rattle.listing.specs.Put.{Room, Put, endText, fieldText};
+ghost use Rattle.specification.specs.Printed.{fieldText};
+ghost use Rattle.listing.specs.Put.{Room, Put, endText};
 
 // The word of 0.
 const ZERO: u32 = 2147483648;
@@ -24,7 +25,7 @@ pub(crate) fn byte(out: &mut [u8], at: usize, b: u8) -> usize
 }
 
 // Bytes as they stand.
-pub(crate) fn text(out: &mut [u8], at: usize, bytes: &[u8]) -> usize
+pub fn text(out: &mut [u8], at: usize, bytes: &[u8]) -> usize
     requires { ⌜ Room at (now bytes) ⌝ }
     ensures { λ r. ⌜ Put (now (out .entry)) (now (out .exit)) at (now (bytes .entry)) r ⌝ }
 {
@@ -38,7 +39,7 @@ pub(crate) fn text(out: &mut [u8], at: usize, bytes: &[u8]) -> usize
 }
 
 // How many digits n has.
-fn digits(n: u32) -> usize
+fn digits(n: u64) -> usize
     ensures { λ r. ⌜ r ≡ length (printℕ n) ⌝ }
 {
     let mut left = n;
@@ -51,7 +52,7 @@ fn digits(n: u32) -> usize
 }
 
 // The digits of n, of which there are so many, from the last to the first. The byte of 0 is 48.
-fn fill(out: &mut [u8], at: usize, count: usize, n: u32)
+fn fill(out: &mut [u8], at: usize, count: usize, n: u64)
     requires { ⌜ (Room at (printℕ n)) × (count ≡ length (printℕ n)) ⌝ }
     ensures { λ _. ⌜ now (out .exit) ≡ sets (now (out .entry)) at (printℕ n) ⌝ }
 {
@@ -66,7 +67,7 @@ fn fill(out: &mut [u8], at: usize, count: usize, n: u32)
 }
 
 // A decimal number.
-pub(crate) fn number(out: &mut [u8], at: usize, n: u32) -> usize
+pub fn number(out: &mut [u8], at: usize, n: u64) -> usize
     requires { ⌜ Room at (printℕ n) ⌝ }
     ensures { λ r. ⌜ Put (now (out .entry)) (now (out .exit)) at (printℕ n) r ⌝ }
 {
@@ -84,10 +85,10 @@ pub(crate) fn value(out: &mut [u8], at: usize, word: u32) -> usize
     ensures { λ r. ⌜ Put (now (out .entry)) (now (out .exit)) at (printℤ (signed word)) r ⌝ }
 {
     if ZERO <= word {
-        return number(out, at, word - ZERO);
+        return number(out, at, (word - ZERO) as u64);
     }
     let p = byte(out, at, b'-');
-    number(out, p, ZERO - word)
+    number(out, p, (ZERO - word) as u64)
 }
 
 // What stands after a cell's name: an equals sign, the value of a word and a line feed.
@@ -101,7 +102,7 @@ pub(crate) fn ending(out: &mut [u8], at: usize, word: u32) -> usize
 }
 
 // A key with its equals sign, a number and a line feed.
-pub(crate) fn field(out: &mut [u8], at: usize, key: &[u8], n: u32) -> usize
+pub fn field(out: &mut [u8], at: usize, key: &[u8], n: u64) -> usize
     requires { ⌜ Room at (fieldText (now key) n) ⌝ }
     ensures { λ r. ⌜ Put (now (out .entry)) (now (out .exit)) at (fieldText (now (key .entry)) n) r ⌝ }
 {

@@ -1,23 +1,27 @@
-// The box: it reads a sheet on standard input, runs it and prints the listing and how the run ended, or the refusal (document 01, "The
-// walk and the listing").
-use specification::Setting;
+// The box: it reads a sheet on standard input, runs it and prints its page (document 01, "The walk and the listing").
+use page::CLOSING;
+use page::INPUT;
+use page::OUTPUT;
+use page::WORDS;
 
-// All the memory that a run has: 6,144 work words for tables and 12 for each of 512 path nodes, a sheet one byte longer than any that
-// is accepted, and the output.
+// All the memory that a run has.
 fn main() {
-    let mut work = [0u32; 12288];
-    let mut sheet = [0u8; 4097];
-    let mut output = [0u8; 4096];
-    run_input(&mut sheet, &mut work, &mut output);
+    let mut work = [0u32; WORDS];
+    let mut sheet = [0u8; INPUT];
+    let mut output = [0u8; OUTPUT];
+    let mut lines = [0u8; CLOSING];
+    run_input(&mut sheet, &mut work, &mut output, &mut lines);
 }
 
-fn run_input(sheet: &mut [u8], work: &mut [u32], output: &mut [u8]) {
+fn run_input(
+    sheet: &mut [u8],
+    work: &mut [u32; WORDS],
+    output: &mut [u8; OUTPUT],
+    lines: &mut [u8; CLOSING],
+) {
     let n = console::read(sheet);
-    let setting = Setting {
-        path: 512,
-        budget: 1_000_000,
-        skip: 0,
-    };
-    let outcome = vodlasim::run(&sheet[..n], setting, work, output);
-    console::write_outcome(outcome, output);
+    let page = page::run_box(&sheet[..n], work, output, lines);
+    let listing = page.listing;
+    let closing = page.closing;
+    console::write_page(&output[..listing], &lines[..closing]);
 }

@@ -49,11 +49,11 @@ pub mod CutShort
 pub mod Whole
 pub mod Demand2
 pub mod Determined
--- the tables of cases
-pub mod Marked
+-- of what is printed and reported
+pub mod Printed
+pub mod Report
 -- the third demand
 pub mod Agreement
 pub mod NoPattern
 pub mod Demand3
 pub mod Listed
-pub mod WrongBoxes

@@ -1,2 +1,3 @@
 -- The laws of the specification. Nothing here has to be believed: the checker does.
 pub mod Laws
+pub mod Cases

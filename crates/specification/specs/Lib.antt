@@ -20,10 +20,9 @@ pub mod Leaves
 pub mod Visits
 pub mod Run
 pub mod Outcome
+pub mod Printed
+pub mod Report
 pub mod Listed
 pub mod Demand2
 pub mod Plain
 pub mod Demand3
-pub mod Marked
-pub mod Decided
-pub mod Bundles

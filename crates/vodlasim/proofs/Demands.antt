@@ -13,6 +13,7 @@ use Rattle.specification.specs.declared.Outcome.{Outcome}
 use Rattle.specification.specs.declared.Outcome.the-variants.{Refused, Ran}
 use Rattle.specification.specs.Bytes.{Bytes}
 use Rattle.specification.specs.Outcome.{Result, refusal, ran, call, written, outcome, outputAfter, wordsAfter}
+use Rattle.specification.specs.Report.{reportOf}
 use Rattle.specification.proofs.Laws.Demand3.{Told, told}
 use Rattle.specification.proofs.Laws.CallRan.{call-refused}
 use Rattle.specification.proofs.Laws.CutShort.{shorter-refused}
@@ -62,7 +63,7 @@ module _ (sheet : Bytes) (S : Setting) (work work' : List ℕ) (output output' :
           ap (drop n) bytes ∙ drop-at w (drop n output) n count,
         );
     refused = λ k p. ((λ is. a .result ∙ ap outcome is), refused-as k p);
-    untouched = λ k p h. a .output ∙ ap (λ x. written x ++ drop (length (written x)) output) (refused-as k p h);
+    untouched = λ k p h. (a .output ∙ ap (λ x. written x ++ drop (length (written x)) output) (refused-as k p h), ap reportOf h);
   }
 
   -- what a call that ran has told, over the bytes that stand in the output

@@ -7,7 +7,7 @@
 -- lent for reading only. "The call does its own checking": `run` has no `requires`. Assumes nothing.
 use Prim.Native.Nat.{ℕ, _≤_, _<_}
 use mathlib.Core.Path.{_≡_}
-use mathlib.Core.List.{List, _++_}
+use mathlib.Core.List.{List, [], _∷_, _++_}
 use lib.ListN.{length, take, drop, replicate}
 use Rattle.specification.specs.declared.Setting.{Setting}
 use Rattle.specification.specs.declared.Tallies.{Tallies}
@@ -20,6 +20,7 @@ use Rattle.specification.specs.Parser.{Reader, found}
 use Rattle.specification.specs.Sheet.{Sheet, read}
 use Rattle.specification.specs.Listing.{Block, listingText}
 use Rattle.specification.specs.Outcome.{call, refusal}
+use Rattle.specification.specs.Report.{reportOf}
 use Rattle.specification.specs.Listed.{Listed}
 use Rattle.specification.specs.Demand2.{ReadLeftToRight}
 use Rattle.specification.specs.Demand3.{NoPattern, Right, Demand3}
@@ -37,8 +38,10 @@ pub record Memory (sheet : Bytes) (S : Setting) (work work' : List ℕ) (output 
       (number place : ℕ) →
       (call sheet S (length work) (length output) ≡ refusal number place → r ≡ Refused number place) ×
       (r ≡ Refused number place → call sheet S (length work) (length output) ≡ refusal number place)
-  -- and the output is then untouched
-  pub untouched : (number place : ℕ) → r ≡ Refused number place → output' ≡ output
+  -- and the output is then untouched, all tallies and the bytes written are zero
+  pub untouched :
+      (number place : ℕ) → r ≡ Refused number place →
+      (output' ≡ output) × (reportOf r ≡ number ∷ place ∷ 0 ∷ 0 ∷ 0 ∷ 0 ∷ 0 ∷ 0 ∷ [])
 
 -- demand 2: the listing is the tree, read left to right; of every run, whatever was skipped and however it ended
 pub record Lists (sheet : Bytes) (S : Setting) (output output' : Bytes) (r : Outcome) : Type 0 where

@@ -3,10 +3,11 @@ use specification::End;
 use specification::Outcome;
 use specification::Setting;
 ghost use mathlib.Core.Path.{_≡_};
-ghost use Rattle.vodlasim_c.specs.Report.{endNumber, numbersOf, Reported};
+ghost use Rattle.specification.specs.Report.{endNumber, reportOf};
+ghost use Rattle.vodlasim_c.specs.Report.{Reported};
 
-// `vodlasim::run`, with its outcome in `report`: refused number or 0, place, end (0 done, 1 spent, 2 path, 3 output), nodes, answers,
-// errors, fails, bytes written. Every length of the slices is allowed.
+// `vodlasim::run`, with its outcome in `report`, as the specification's `reportOf` gives it: refused number or 0, place, the end's number,
+// nodes, answers, errors, fails, bytes written. Every length of the slices is allowed.
 #[no_mangle]
 pub extern "C" fn vodlasim_run(
     sheet: &[u8],
@@ -29,7 +30,7 @@ pub extern "C" fn vodlasim_run(
 }
 
 fn numbers(outcome: Outcome) -> [u64; 8]
-    ensures { λ r. ⌜ r ≡ numbersOf outcome ⌝ }
+    ensures { λ r. ⌜ r ≡ reportOf outcome ⌝ }
 {
     match outcome {
         Outcome::Refused { number, place } => [number as u64, place as u64, 0, 0, 0, 0, 0, 0],

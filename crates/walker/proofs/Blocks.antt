@@ -15,6 +15,7 @@ use Rattle.specification.specs.Bytes.{Bytes, pick}
 use Rattle.specification.specs.Leaves.{Leaf as TreeLeaf, answer, error, fail}
 use Rattle.specification.specs.Listing.{blockOf, blockText}
 use Rattle.specification.specs.Run.{addAnswer, addError, arrive, block}
+use Rattle.specification.specs.Outcome.{resultOf}
 use Rattle.sheet.specs.Tables.{Words}
 use Rattle.listing.specs.declared.Head.{Head}
 use Rattle.listing.specs.declared.Written.{Written}
@@ -24,7 +25,7 @@ use Rattle.listing.specs.Block as blocks
 use Rattle.walker.specs.declared.Regs.{Regs}
 use Rattle.walker.specs.Walk as walks
 use Rattle.walker.specs.Path.{World, Output, Count as Counted}
-use Rattle.walker.specs.Sim.{no, Up, BlockOf, Leaf, ended, Over, over, up}
+use Rattle.walker.specs.Sim.{no, Up, BlockOf, Leaf, Over, over, up}
 use Rattle.walker.specs.Registers.{leafRegs, stopRegs, counted}
 use Rattle.walker.specs.Loop.{Fixed, BlockDue, Blocked}
 use Rattle.walker.specs.Blocks.{HeadDue, headDue, passedTallies, passedRegs}
@@ -150,18 +151,18 @@ module _ {c : World} {o : Bytes} {w : Words} {r : Regs} (l : Leaf c o w r) where
     lacks : {ys : Bytes} →
         blocks.Wrote (blockText (blockOf (c .declared) (headOf (headDue r)) (l .α))) (midOf (r .written) (length o - r .written) o) ys Full →
         Over c (putMid (r .written) (length o - r .written) o ys) (stopRegs r 3)
-    unfolding block ended
+    unfolding block
     lacks q =
         let x = blockText (blockOf (c .declared) (headOf (headDue r)) (l .α)) in
         record {
           b = l .b;
           out = rw (q .1, put-same) (l .out);
           result =
-              rw (
+              ap resultOf (rw (
                 le-ltb (r .tallies .answers + r .tallies .errors) (c .setting .skip) s,
                 lt-leb (length (l .b) + length x) (length (c .output)) (omega (arith, q .0, mid-size (l .out), l .out .count, l .out .inside)),
               )
-              at block-result;
+              at block-result);
         }
 
 -- ---- the steps

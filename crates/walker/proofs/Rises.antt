@@ -11,6 +11,7 @@ use Rattle.specification.specs.Ast.{Formula}
 use Rattle.specification.specs.Place.{Place, local, put}
 use Rattle.specification.specs.Value.{Slot, full, Valuation}
 use Rattle.specification.specs.Run.{going}
+use Rattle.specification.specs.Outcome.{resultOf}
 use Rattle.sheet.specs.Tables.{Words}
 use Rattle.sheet.specs.Held.{Holds}
 use Rattle.walker.specs.declared.Regs.{Regs}
@@ -18,7 +19,7 @@ use Rattle.walker.specs.Walk.{sonsFrom}
 use Rattle.walker.specs.Node.{todoAt, slotAt, hadAt, oldAt, currentAt, lastAt}
 use Rattle.walker.specs.Frame.{Item, Frame, pass, other, undo, range, asks, here, below, len}
 use Rattle.walker.specs.Path.{World, bit, Saved, Changed, Path}
-use Rattle.walker.specs.Sim.{yes, no, Up, Yes, ended, Sim, over, up, won}
+use Rattle.walker.specs.Sim.{yes, no, Up, Yes, Sim, over, up, won}
 use Rattle.walker.specs.Registers.{popRegs, stopRegs}
 use Rattle.walker.specs.Loop.{Topped, Rising, Rose, Exhausted, Leaves, Restores}
 use Rattle.walker.proofs.Slots.{in-table, Altered, alter-two, holds-back}
@@ -201,16 +202,14 @@ module _ {w : Words} {r : Regs} (x : Restores w r) where
 
 module _ {c : World} {o : Bytes} {w : Words} {r : Regs} (none : r .depth ≡ 0) where
   over-up : Up c o w r → Sim c o w (stopRegs r 0)
-  unfolding ended
-  over-up u = over refl (record { b = u .b; out = u .out; result = go (u .fr) (u .path .deep) (u .result) })
+  over-up u = over refl (record { b = u .b; out = u .out; result = ap resultOf (go (u .fr) (u .path .deep) (u .result)) })
     where
       go : (fr : List Frame) → r .depth ≡ len fr → no c fr (u .e) (r .tallies) (u .b) ≡ c .result → going (r .tallies) (u .b) ≡ c .result
       go [] e q = q
       go (f ∷ fr) e q = absurd (omega arith)
 
   over-yes : Yes c o w r → Sim c o w (stopRegs r 0)
-  unfolding ended
-  over-yes u = over refl (record { b = u .b; out = u .out; result = go (u .fr) (u .path .deep) (u .result) })
+  over-yes u = over refl (record { b = u .b; out = u .out; result = ap resultOf (go (u .fr) (u .path .deep) (u .result)) })
     where
       go : (fr : List Frame) → r .depth ≡ len fr → yes c fr (r .tallies) (u .b) ≡ c .result → going (r .tallies) (u .b) ≡ c .result
       go [] e q = q

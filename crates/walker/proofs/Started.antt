@@ -5,24 +5,23 @@ use mathlib.Core.Path.{_≡_, refl, sym, ap, _∙_}
 use mathlib.Core.Bool.{false}
 use mathlib.Core.List.{[], _∷_, _++_}
 use lib.ListN.{length, drop, replicate}
-use borrow.Author.Tests.{ne-eqb}
 use Rattle.specification.specs.declared.Setting.{Setting}
 use Rattle.specification.specs.declared.Tallies.{Tallies}
 use Rattle.specification.specs.declared.End.{End}
-use Rattle.specification.specs.declared.End.the-variants.{Done, Spent, Path, Output}
 use Rattle.specification.specs.declared.Outcome.the-variants.{Ran}
 use Rattle.specification.specs.Bytes.{Bytes}
 use Rattle.specification.specs.Sheet.{Sheet}
 use Rattle.specification.specs.Tree.{treeOf}
-use Rattle.specification.specs.Outcome.{resultOf, start, runOf, ran, outputAfter}
+use Rattle.specification.specs.Outcome.{start, runOf, outputAfter}
+use Rattle.specification.specs.Report.{endFrom}
 use Rattle.specification.proofs.Laws.Start.{start-valid}
 use Rattle.sheet.specs.Tables.{Words}
 use Rattle.walker.specs.declared.Regs.{Regs}
 use Rattle.walker.specs.Frame.{form, the, treeItems}
 use Rattle.walker.specs.Path.{World}
-use Rattle.walker.specs.Sim.{Down, ended, Sim, over}
+use Rattle.walker.specs.Sim.{Down, Sim, over}
 use Rattle.walker.specs.Loop.{Fixed}
-use Rattle.walker.specs.Walked.{Ready, startRegs, Finished, EndOf, Walked}
+use Rattle.walker.specs.Walked.{Ready, startRegs, Finished, Walked}
 use Rattle.walker.proofs.Walk.{walk-run}
 use Rattle.walker.proofs.Moves.{sim-over}
 
@@ -77,19 +76,11 @@ finished {o = o} m words size f = record {
   size = size;
 }
 
--- the end that the number stands for
-ended-result : (n : ℕ) (e : End) (t : Tallies) (b : Bytes) → EndOf n e → resultOf (ended n t b) ≡ ran e t b
-unfolding ended
-ended-result n Done t b h = rw h refl
-ended-result n Spent t b h = rw h refl
-ended-result n Path t b h = rw h refl
-ended-result n Output t b h = rw (ne-eqb n 0 (h .0), ne-eqb n 1 (h .1), ne-eqb n 2 (h .2)) refl
-
 pub walked : {w w' w'' : Words} {o o' : Bytes} {S : Setting} {scalars arrays : ℕ} {r : Regs} {e : End} → Finished w w' o o' S scalars arrays r →
-    w'' ≡ replicate (length w') 0 → EndOf (r .end) e → Walked w w'' o o' S scalars arrays (Ran e (r .tallies) (r .written))
+    w'' ≡ replicate (length w') 0 → e ≡ endFrom (r .end) → Walked w w'' o o' S scalars arrays (Ran e (r .tallies) (r .written))
 unfolding outputAfter
 walked {r = r} {e = e} f z n = record {
-  result = λ s a. let v = f .run s a in rw (← v .1, ended-result (r .end) e (r .tallies) (v .0) n, v .2) refl;
-  output = λ s a. let v = f .run s a in rw (← v .1, ended-result (r .end) e (r .tallies) (v .0) n) (v .3);
+  result = λ s a. let v = f .run s a in rw (← v .1, n, v .2) refl;
+  output = λ s a. let v = f .run s a in rw (← v .1) (v .3);
   words = z ∙ rw (f .words) refl;
 }

@@ -1,16 +1,17 @@
 -- The visit that is due: stopped by the budget or the path limit, or counted. Assumes nothing.
 use Prim.Native.Nat.{ℕ, suc, _≤_, _<_}
 use native.Mathlib.Omega.{arith}
-use mathlib.Core.Path.{_≡_, refl, sym, _∙_}
+use mathlib.Core.Path.{_≡_, refl, sym, _∙_, ap}
 use borrow.Author.Tests.{eq-eqb, ne-eqb, lt-ltb, le-ltb}
 use Rattle.specification.specs.declared.Tallies.{Tallies}
 use Rattle.specification.specs.Bytes.{Bytes}
 use Rattle.specification.specs.Run.{addNode}
+use Rattle.specification.specs.Outcome.{resultOf}
 use Rattle.sheet.specs.Tables.{Words}
 use Rattle.walker.specs.declared.Regs.{Regs}
 use Rattle.walker.specs.Walk.{gated}
 use Rattle.walker.specs.Path.{World}
-use Rattle.walker.specs.Sim.{Down, In, ended, Over, over}
+use Rattle.walker.specs.Sim.{Down, In, Over, over}
 use Rattle.walker.specs.Steps.{Visited, Stepped}
 use Rattle.walker.specs.Registers.{stopRegs, leafRegs, counted}
 use Rattle.walker.specs.Loop.{VisitDue, Arrived}
@@ -21,20 +22,20 @@ countedRegs r = leafRegs r 1 (r .bad) (addNode (r .tallies)) (r .written)
 
 module _ {c : World} {o : Bytes} {w : Words} {r : Regs} (d : Down c o w r) where
   no-budget : r .tallies .nodes ≡ c .setting .budget → Over c o (stopRegs r 1)
-  unfolding gated ended
+  unfolding gated
   no-budget h = record {
     b = d .b;
     out = d .out;
-    result = rw (eq-eqb (r .tallies .nodes) (c .setting .budget) h) at (d .result);
+    result = ap resultOf (rw (eq-eqb (r .tallies .nodes) (c .setting .budget) h) at (d .result));
   }
 
   module _ (n : r .tallies .nodes ≡ c .setting .budget → ⊥) where
     no-path : c .setting .path ≤ r .depth → Over c o (stopRegs r 2)
-    unfolding gated ended
+    unfolding gated
     no-path h = record {
       b = d .b;
       out = d .out;
-      result = rw (ne-eqb (r .tallies .nodes) (c .setting .budget) n, lt-ltb (c .setting .path) (suc (r .depth)) (omega arith)) at (d .result);
+      result = ap resultOf (rw (ne-eqb (r .tallies .nodes) (c .setting .budget) n, lt-ltb (c .setting .path) (suc (r .depth)) (omega arith)) at (d .result));
     }
 
     goes-in : r .depth < c .setting .path → In c o w (countedRegs r)

@@ -5,13 +5,12 @@ use mathlib.Core.Path.{_≡_}
 use mathlib.Core.Bool.{Bool, false}
 use mathlib.Core.List.{List}
 use lib.ListN.{length}
-use lib.Dec.{eqb}
-use Rattle.specification.specs.declared.Tallies.{Tallies}
-use Rattle.specification.specs.Bytes.{Bytes, pick}
+use Rattle.specification.specs.Bytes.{Bytes}
 use Rattle.specification.specs.Value.{Valuation}
 use Rattle.specification.specs.Tree.{Tree}
 use Rattle.specification.specs.Leaves.{Leaf as TreeLeaf, answer, error, fail}
-use Rattle.specification.specs.Run.{Run, going, stopped, spent, path, output}
+use Rattle.specification.specs.Outcome.{ran, resultOf}
+use Rattle.specification.specs.Report.{endFrom}
 use Rattle.sheet.specs.Tables.{Words}
 use Rattle.walker.specs.declared.Due.{Due}
 use Rattle.walker.specs.declared.Regs.{Regs}
@@ -113,15 +112,11 @@ pub record Leaf (c : World) (o : Bytes) (w : Words) (r : Regs) : Type 0 where
   pub leaves : r .tallies .answers + r .tallies .errors + r .tallies .fails < r .tallies .nodes
   pub result : walks.leaf (c .declared) (c .setting) (length (c .output)) v (no c fr e) (r .tallies) b ≡ c .result
 
--- how the walk ended: 0 done, 1 spent, 2 path, 3 output
-unfoldable pub ended : ℕ → Tallies → Bytes → Run
-ended n t b =
-    pick (eqb n 0) (going t b) (pick (eqb n 1) (stopped spent t b) (pick (eqb n 2) (stopped path t b) (stopped output t b)))
-
+-- the walk is over; the number of its end stands in a word
 pub record Over (c : World) (o : Bytes) (r : Regs) : Type 0 where
   pub b : Bytes
   pub out : Output c o (r .written) b
-  pub result : ended (r .end) (r .tallies) b ≡ c .result
+  pub result : ran (endFrom (r .end)) (r .tallies) b ≡ resultOf (c .result)
 
 pub data Sim (c : World) (o : Bytes) (w : Words) (r : Regs) : Type 0 where
   over : r .mode ≡ 0 → Over c o r → Sim c o w r

@@ -5,19 +5,17 @@ use mathlib.Core.List.{_++_}
 use lib.ListN.{length, drop, replicate}
 use Rattle.specification.specs.declared.Setting.{Setting}
 use Rattle.specification.specs.declared.Outcome.{Outcome}
-use Rattle.specification.specs.declared.End.{End}
-use Rattle.specification.specs.declared.End.the-variants.{Done, Spent, Path, Output}
 use Rattle.specification.specs.Bytes.{Bytes}
 use Rattle.specification.specs.Sheet.{Sheet}
 use Rattle.specification.specs.WellFormed.{WellFormed}
 use Rattle.specification.specs.Run.{tallies}
-use Rattle.specification.specs.Outcome.{resultOf, start, runOf, outcome, outputAfter}
+use Rattle.specification.specs.Outcome.{ran, resultOf, start, runOf, outcome, outputAfter}
+use Rattle.specification.specs.Report.{endFrom}
 use Rattle.sheet.specs.Tables.{Words}
 use Rattle.sheet.specs.Held.{Holds, ArraysAt}
 use Rattle.walker.specs.declared.Regs.{Regs}
 use Rattle.walker.specs.Stands.{Stands}
 use Rattle.walker.specs.Registers.{formulaDue}
-use Rattle.walker.specs.Sim.{ended}
 
 -- the work words hold the sheet's tables, with room for the path
 pub record Ready (w : Words) (S : Setting) (scalars arrays : ℕ) (s : Sheet) : Type 0 where
@@ -49,16 +47,9 @@ startRegs w = record {
 
 -- the walk is over: its registers and the output are those of the sheet's run
 pub record Finished (w w' : Words) (o o' : Bytes) (S : Setting) (scalars arrays : ℕ) (r : Regs) : Type 0 where
-  pub run : (s : Sheet) → Ready w S scalars arrays s → (b : Bytes) × (ended (r .end) (r .tallies) b ≡ runOf s S (length o)) × (r .written ≡ length b) × (o' ≡ b ++ drop (length b) o)
+  pub run : (s : Sheet) → Ready w S scalars arrays s → (b : Bytes) × (ran (endFrom (r .end)) (r .tallies) b ≡ resultOf (runOf s S (length o))) × (r .written ≡ length b) × (o' ≡ b ++ drop (length b) o)
   pub words : length w' ≡ length w
   pub size : length o' ≡ length o
-
--- the end that a number stands for
-abbrev pub EndOf : ℕ → End → Type 0
-EndOf n Done = n ≡ 0
-EndOf n Spent = n ≡ 1
-EndOf n Path = n ≡ 2
-EndOf n Output = (n ≡ 0 → ⊥) × (n ≡ 1 → ⊥) × (n ≡ 2 → ⊥)
 
 -- the sheet's run, and the work words all zero
 pub record Walked (w w' : Words) (o o' : Bytes) (S : Setting) (scalars arrays : ℕ) (r : Outcome) : Type 0 where

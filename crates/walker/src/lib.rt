@@ -19,8 +19,8 @@ pub(crate) struct Due {
     pub rest: u32,
 }
 // The registers. Mode 0: over, 1: a visit is due, 2: a son is finished, 3: an inner tree has succeeded, 4: a block is due. `depth`: how many
-// nodes the path has; `inner`: whether the present tree is an inner one; `bad`: whether it has had an error leaf; `end`: how the walk ended
-// (0 done, 1 spent, 2 path, 3 output); `written`: the bytes written.
+// nodes the path has; `inner`: whether the present tree is an inner one; `bad`: whether it has had an error leaf; `end`: how the walk ended,
+// by its number (the specification's `endNumber`); `written`: the bytes written.
 pub(crate) struct Regs {
     pub mode: u32,
     pub depth: u32,

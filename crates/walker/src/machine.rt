@@ -4,7 +4,8 @@ ghost use Prim.Native.Nat.{_<_};
 ghost use lib.ListN.{length};
 ghost use Rattle.walker.specs.Steps.{Visited, Stepped};
 ghost use Rattle.walker.specs.Loop.{AtLeaf, LeafDone, VisitDue, Arrived, BlockDue, Blocked, Goes, Went, IsUp, Climbs, Climbed, Runs, Settled, Live, Moved};
-ghost use Rattle.walker.specs.Walked.{Readied, startRegs, Finished, EndOf, Walked};
+ghost use Rattle.specification.specs.Report.{endFrom};
+ghost use Rattle.walker.specs.Walked.{Readied, startRegs, Finished, Walked};
 ghost use Rattle.walker.specs.Blocks.{HeadDue, headDue, passedRegs};
 use crate::Regs;
 use crate::atoms;
@@ -73,10 +74,10 @@ fn visit(w: &mut [u32], r: Regs, path: u32, budget: u32) -> Regs
 {
     let t = r.tallies;
     if t.nodes == budget {
-        return registers::stop(r, 1);
+        return registers::stop(r, registers::SPENT);
     }
     if path <= r.depth {
-        return registers::stop(r, 2);
+        return registers::stop(r, registers::PATH);
     }
     let u = registers::counted(t, 0);
     let q = registers::leaf(r, 1, r.bad, u, r.written);
@@ -128,7 +129,7 @@ fn block(w: &[u32], out: &mut [u8], r: Regs, setting: Setting, scalars: u32, arr
     let h = head(r);
     let rest = &mut out[written..];
     match listing::write(rest, w, scalars, arrays, h) {
-        Written::Full => registers::stop(r, 3),
+        Written::Full => registers::stop(r, registers::OUTPUT),
         Written::Bytes(n) => passed(r, written + n),
     }
 }
@@ -206,7 +207,7 @@ fn start(w: &[u32]) -> Regs
         due: d,
         inner: 0,
         bad: 0,
-        end: 0,
+        end: registers::DONE,
         tallies: t,
         written: 0,
     }
@@ -225,12 +226,12 @@ fn walk(w: &mut [u32], out: &mut [u8], setting: Setting, scalars: u32, arrays: u
 
 // How the walk ended.
 fn end_of(code: u32) -> End
-    ensures { λ e. ⌜ EndOf code e ⌝ }
+    ensures { λ e. ⌜ e ≡ endFrom code ⌝ }
 {
     match code {
-        0 => End::Done,
-        1 => End::Spent,
-        2 => End::Path,
+        registers::DONE => End::Done,
+        registers::SPENT => End::Spent,
+        registers::PATH => End::Path,
         _ => End::Output,
     }
 }

@@ -1,7 +1,10 @@
--- `console::write` ends: the loop has written n bytes, and each turn leaves fewer.
+-- `console::write` meets its contract: the loop has written n bytes, and each turn leaves fewer.
 use Prim.Native.Nat.{_≤_, _-_}
+use native.Mathlib.Omega.{arith}
+use mathlib.Core.Path.{sym}
 use lib.ListN.{length}
 use borrow.Author.Needs.{needs}
+use borrow.Author.Tests.{eq-eqb, ne-eqb}
 use Rattle.console.proofs.write.Statement.{statement}
 use Rattle.console.proofs.write.Tie as tie
 
@@ -18,7 +21,7 @@ write-rest-requires : tie.Need-write-rest-requires Inv-loop μ-loop
 write-rest-requires c κs = search needs
 
 returns : tie.Need-returns Inv-loop μ-loop
-returns c = search needs
+returns c = record { some = search needs; whole = sym (ne-eqb (c .before .before .before .loop .n) (length (c .before .before .before .before .before .args .bytes .now)) (λ e. omega (arith, (c .before .before .loop-test .taken)))) }
 
 add-n : tie.Need-add-n Inv-loop μ-loop
 add-n c = search needs
@@ -30,7 +33,7 @@ loop-again : tie.Need-loop-again Inv-loop μ-loop
 loop-again c = search needs
 
 returns-2 : tie.Need-returns-2 Inv-loop μ-loop
-returns-2 c = search needs
+returns-2 c = record { some = search needs; whole = sym (eq-eqb (c .before .loop .n) (length (c .before .before .before .args .bytes .now)) (omega arith)) }
 
 pub write-spec : {M : Type 1} → statement M
 write-spec =

@@ -1,6 +1,5 @@
--- A block's length is a number of the machine. The bounds are far above the lengths that occur: n + 1 digits for a number n.
--- Assumes nothing.
-use Prim.Native.Nat.{ℕ, zero, suc, _+_, _-_, _*_, _≤_, _<_}
+-- A block is short, so that its length is a number of the machine: a number of 32 bits has at most ten digits. Assumes nothing.
+use Prim.Native.Nat.{ℕ, zero, suc, _+_, _-_, _*_, _^_, _≤_, _<_}
 use native.Mathlib.Omega.{arith}
 use native.Mathlib.Nat.{suc-mul}
 use mathlib.Core.Path.{_≡_, ap}
@@ -16,9 +15,10 @@ use Rattle.specification.proofs.Laws.Blocks.{linesText-++}
 use Rattle.values.specs.Word.{signed}
 use Rattle.sheet.specs.Tables.{Words}
 use Rattle.listing.specs.declared.Head.the-variants.{Answer, Error}
-use Rattle.listing.specs.Put.{Room, Put, fieldText}
+use Rattle.specification.specs.Printed.{fieldText}
+use Rattle.listing.specs.Put.{Room, Put}
 use Rattle.listing.specs.Model.{flagAt, valueAt, firstAt, Laid, eachLine, lineAt, scalarLine, elementLine, arrayLines, headText, Headed}
-use Rattle.listing.proofs.Laws.Digits.{length-bound, value-bound}
+use Rattle.listing.proofs.Laws.Digits.{length-within, value-bound}
 use Rattle.listing.proofs.Laws.Pieces.{answer-pieces, error-pieces}
 
 -- ---- lines in a row
@@ -40,13 +40,14 @@ each-bound f m b h i (suc n) l =
 
 -- ---- the head
 
-field-bound : (key : Bytes) (n : ℕ) → n < 4294967296 → length (fieldText key n) ≤ length key + 4294967297
-field-bound key n h =
-    omega (arith, length-append key (printℕ n ++ bytes "\n"), length-append (printℕ n) (bytes "\n"), length-bound n)
+-- a line whose number has at most k + 1 digits
+pub field-bound : (key : Bytes) (k n : ℕ) → n < 10 ^ suc k → length (fieldText key n) ≤ length key + suc (suc k)
+field-bound key k n h =
+    omega (arith, length-append key (printℕ n ++ bytes "\n"), length-append (printℕ n) (bytes "\n"), length-within k n h)
 
 module _ (n : ℕ) (h : n < 4294967296) where
-  answer-bound : length (headText (Answer n)) ≤ 17179869184
-  answer-bound = omega (arith, ap length (answer-pieces n), field-bound (bytes "answer=") n h)
+  answer-bound : length (headText (Answer n)) ≤ 47
+  answer-bound = omega (arith, ap length (answer-pieces n), field-bound (bytes "answer=") 9 n (omega arith))
 
   pub answer-room : Room 0 (headText (Answer n))
   answer-room = omega (arith, answer-bound)
@@ -55,7 +56,7 @@ module _ (n : ℕ) (h : n < 4294967296) where
   answer-headed p = record { text = p; short = omega (arith, p .end, answer-bound) }
 
   module _ (kind token : ℕ) (k : kind < 4294967296) (t : token < 4294967296) where
-    error-bound : length (headText (Error n kind token)) ≤ 17179869184
+    error-bound : length (headText (Error n kind token)) ≤ 47
     error-bound =
         let f = fieldText (bytes "error=") n in
         let g = fieldText (bytes "kind=") kind in
@@ -65,9 +66,9 @@ module _ (n : ℕ) (h : n < 4294967296) where
           ap length (error-pieces n kind token),
           length-append f (g ++ e),
           length-append g e,
-          field-bound (bytes "error=") n h,
-          field-bound (bytes "kind=") kind k,
-          field-bound (bytes "at=") token t,
+          field-bound (bytes "error=") 9 n (omega arith),
+          field-bound (bytes "kind=") 9 kind (omega arith),
+          field-bound (bytes "at=") 9 token (omega arith),
         )
 
     pub error-room : Room 0 (headText (Error n kind token))
@@ -79,11 +80,11 @@ module _ (n : ℕ) (h : n < 4294967296) where
 -- ---- the cells
 
 module _ (w : Words) (word : (j : ℕ) → getD w j 0 < 4294967296) where
-  line-bound : (n : CellName) (c : ℕ) → length (labelText (cellLabel n)) ≤ 600 → length (linesText (lineAt w n c)) ≤ 4294968000
+  line-bound : (n : CellName) (c : ℕ) → length (labelText (cellLabel n)) ≤ 22 → length (linesText (lineAt w n c)) ≤ 35
   unfolding lineAt linesText
   line-bound n c h = go (eqb (flagAt w c) 0)
     where
-      go : (b : Bool) → length (linesText (pick b [] (cellLabel n is signed (valueAt w c) ∷ []))) ≤ 4294968000
+      go : (b : Bool) → length (linesText (pick b [] (cellLabel n is signed (valueAt w c) ∷ []))) ≤ 35
       go true = omega arith
       go false =
           let v = printℤ (signed (valueAt w c)) in
@@ -94,35 +95,35 @@ module _ (w : Words) (word : (j : ℕ) → getD w j 0 < 4294967296) where
             value-bound (valueAt w c) (word (4096 + 2 * c + 1)),
           )
 
-  scalar-bound : (i : ℕ) → i < 512 → length (linesText (scalarLine w i)) ≤ 4294968000
+  scalar-bound : (i : ℕ) → i < 512 → length (linesText (scalarLine w i)) ≤ 35
   unfolding labelText
-  scalar-bound i h = line-bound (scalar i) i (omega (arith, length-bound i))
+  scalar-bound i h = line-bound (scalar i) i (omega (arith, length-within 9 i (omega arith)))
 
-  element-bound : (a c i : ℕ) → a < 16 → i < 512 → length (linesText (elementLine w a c i)) ≤ 4294968000
+  element-bound : (a c i : ℕ) → a < 16 → i < 512 → length (linesText (elementLine w a c i)) ≤ 35
   unfolding labelText
   element-bound a c i h l =
       line-bound (element a i) (c + i)
-      (omega (arith, length-append (printℕ a) (bytes "." ++ printℕ i), length-bound a, length-bound i))
+      (omega (arith, length-append (printℕ a) (bytes "." ++ printℕ i), length-within 9 a (omega arith), length-within 9 i (omega arith)))
 
-  scalars-bound : (n : ℕ) → n ≤ 512 → length (linesText (eachLine (scalarLine w) 0 n)) ≤ 2199023616000
-  scalars-bound n h = omega (arith, each-bound (scalarLine w) 512 4294968000 scalar-bound 0 n (omega arith))
+  scalars-bound : (n : ℕ) → n ≤ 512 → length (linesText (eachLine (scalarLine w) 0 n)) ≤ 17920
+  scalars-bound n h = omega (arith, each-bound (scalarLine w) 512 35 scalar-bound 0 n (omega arith))
 
   module _ (arrays : ℕ) (l : Laid w arrays) where
-    array-bound : (a : ℕ) → a < arrays → length (linesText (arrayLines w a)) ≤ 2199023616000
+    array-bound : (a : ℕ) → a < arrays → length (linesText (arrayLines w a)) ≤ 17920
     array-bound a h =
         let n = firstAt w (a + 1) - firstAt w a in
         omega (
           arith,
-          each-bound (elementLine w a (firstAt w a)) 512 4294968000 (λ i k. element-bound a (firstAt w a) i (omega (arith, l .few)) k) 0 n
+          each-bound (elementLine w a (firstAt w a)) 512 35 (λ i k. element-bound a (firstAt w a) i (omega (arith, l .few)) k) 0 n
               (omega (arith, l .spans a h .limit)),
           l .spans a h .limit,
         )
 
-    arrays-bound : length (linesText (eachLine (arrayLines w) 0 arrays)) ≤ 35184377856000
-    arrays-bound = omega (arith, each-bound (arrayLines w) arrays 2199023616000 array-bound 0 arrays (omega arith), l .few)
+    arrays-bound : length (linesText (eachLine (arrayLines w) 0 arrays)) ≤ 286720
+    arrays-bound = omega (arith, each-bound (arrayLines w) arrays 17920 array-bound 0 arrays (omega arith), l .few)
 
     -- after a short head there is room for the scalars, and then for the arrays
-    module _ (scalars p : ℕ) (few : scalars ≤ 512) (short : p ≤ 17179869184) where
+    module _ (scalars p : ℕ) (few : scalars ≤ 512) (short : p ≤ 47) where
       pub scalars-room : Room p (linesText (eachLine (scalarLine w) 0 scalars))
       scalars-room = omega (arith, scalars-bound scalars few)
 

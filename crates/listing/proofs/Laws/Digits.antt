@@ -1,7 +1,8 @@
 -- The digits of a number: one digit, one digit more, how many there are; the digits put from the last to the first; and a value's sign.
 -- Assumes nothing.
-use Prim.Native.Nat.{ℕ, zero, suc, _+_, _-_, _/_, _%_, _≤_, _<_}
+use Prim.Native.Nat.{ℕ, zero, suc, _+_, _-_, _/_, _%_, _^_, _≤_, _<_}
 use native.Mathlib.Omega.{arith}
+use native.Mathlib.Nat.{pow-suc}
 use mathlib.Core.Path.{_≡_, refl, sym, _∙_, ap}
 use mathlib.Core.Bool.{Bool, true, false}
 use mathlib.Core.List.{List, [], _∷_, _++_}
@@ -55,15 +56,14 @@ print-more (suc k) h =
 pub length-more : (n : ℕ) → 10 ≤ n → length (printℕ n) ≡ length (printℕ (n / 10)) + 1
 length-more n h = ap length (print-more n h) ∙ length-append (printℕ (n / 10)) ((48 + n % 10) ∷ [])
 
-length-digits : (k n : ℕ) → length (digits k n) ≤ suc k
-unfolding digits
-length-digits zero n = omega arith
-length-digits (suc k) n = go (ltb n 10) (length-digits k (n / 10))
+-- n below 10^(k+1) has at most k + 1
+pub length-within : (k n : ℕ) → n < 10 ^ suc k → length (printℕ n) ≤ suc k
+length-within zero n h = omega (arith, ap length (print-one n h))
+length-within (suc k) n h = go (λ m. length-within k (n / 10) (omega (arith, pow-suc 10 (suc k)))) (ltb n 10) refl
   where
-    go : (b : Bool) → length (digits k (n / 10)) ≤ suc k →
-        length (pick b ((48 + n) ∷ []) (digits k (n / 10) ++ (48 + n % 10) ∷ [])) ≤ suc (suc k)
-    go true h = omega arith
-    go false h = omega (arith, length-append (digits k (n / 10)) ((48 + n % 10) ∷ []))
+    go : (10 ≤ n → length (printℕ (n / 10)) ≤ suc k) → (b : Bool) → ltb n 10 ≡ b → length (printℕ n) ≤ suc (suc k)
+    go f true e = omega (arith, ap length (print-one n (ltb-true n 10 e)))
+    go f false e = let m : 10 ≤ n = ltb-false n 10 e in omega (arith, length-more n m, f m)
 
 -- at least one
 length-some-digits : (k n : ℕ) → 0 < length (digits k n)
@@ -78,11 +78,6 @@ length-some-digits (suc k) n = go (ltb n 10)
 pub length-some : (n : ℕ) → 0 < length (printℕ n)
 unfolding printℕ
 length-some n = length-some-digits n n
-
--- far too many, but enough for the machine's numbers
-pub length-bound : (n : ℕ) → length (printℕ n) ≤ suc n
-unfolding printℕ
-length-bound n = length-digits n n
 
 -- ---- digits put from the last to the first: p is the place of the last
 
@@ -114,9 +109,10 @@ pub value-high : (w : ℕ) → 2147483648 ≤ w → printℤ (signed w) ≡ join
 unfolding printℤ
 value-high w l = by-sign (λ z. printℤ z ≡ joined (highPieces w)) w (λ h. absurd (omega arith)) (λ h. refl)
 
--- a word's value is shorter than the machine's numbers by far
-pub value-bound : (w : ℕ) → w < 4294967296 → length (printℤ (signed w)) ≤ 4294967296
+-- a sign and ten digits
+pub value-bound : (w : ℕ) → w < 4294967296 → length (printℤ (signed w)) ≤ 11
 unfolding printℤ
 value-bound w h =
-    by-sign (λ z. length (printℤ z) ≤ 4294967296) w
-    (λ l. omega (arith, length-bound (suc (2147483648 - suc w)))) (λ l. omega (arith, length-bound (w - 2147483648)))
+    by-sign (λ z. length (printℤ z) ≤ 11) w
+    (λ l. omega (arith, length-within 9 (suc (2147483648 - suc w)) (omega arith)))
+    (λ l. omega (arith, length-within 9 (w - 2147483648) (omega arith)))

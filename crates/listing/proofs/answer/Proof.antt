@@ -2,7 +2,7 @@
 use mathlib.Core.List.{[], _∷_}
 use borrow.Author.Needs.{needs}
 use Rattle.specification.specs.Bytes.{bytes}
-use Rattle.listing.specs.Put.{fieldText}
+use Rattle.specification.specs.Printed.{fieldText}
 use Rattle.listing.specs.Model.{headText}
 use Rattle.listing.specs.declared.Head.the-variants.{Answer}
 use Rattle.listing.proofs.Laws.Put.{Left, pieces-left, last-left, room-left}

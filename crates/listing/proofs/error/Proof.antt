@@ -2,7 +2,8 @@
 use mathlib.Core.List.{[], _∷_}
 use borrow.Author.Needs.{needs}
 use Rattle.specification.specs.Bytes.{bytes}
-use Rattle.listing.specs.Put.{Room, fieldText}
+use Rattle.specification.specs.Printed.{fieldText}
+use Rattle.listing.specs.Put.{Room}
 use Rattle.listing.specs.Model.{headText}
 use Rattle.listing.specs.declared.Head.the-variants.{Error}
 use Rattle.listing.proofs.Laws.Put.{Left, pieces-left, less-left, last-left, room-left}

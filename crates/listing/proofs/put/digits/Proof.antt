@@ -5,7 +5,7 @@ use native.Mathlib.Omega.{arith}
 use mathlib.Core.Path.{_≡_, ap}
 use lib.ListN.{length}
 use Rattle.specification.specs.Number.{printℕ}
-use Rattle.listing.proofs.Laws.Digits.{print-one, length-more, length-bound}
+use Rattle.listing.proofs.Laws.Digits.{print-one, length-more, length-within}
 use Rattle.listing.proofs.put.digits.Statement.{statement}
 use Rattle.listing.proofs.put.digits.Tie as tie
 
@@ -19,7 +19,7 @@ loop-holds : tie.Need-loop-holds Inv-loop μ-loop
 loop-holds c = omega arith
 
 add-count : tie.Need-add-count Inv-loop μ-loop
-add-count c = omega (arith, length-bound (c .before .before .args .n))
+add-count c = omega (arith, length-within 19 (c .before .before .args .n) (omega arith))
 
 loop-less : tie.Need-loop-less Inv-loop μ-loop
 loop-less c = omega arith

@@ -3,7 +3,7 @@ use mathlib.Core.Path.{refl}
 use mathlib.Core.List.{[], _∷_}
 use borrow.Author.Needs.{needs}
 use Rattle.specification.specs.Number.{printℕ}
-use Rattle.listing.specs.Put.{fieldText}
+use Rattle.specification.specs.Printed.{fieldText}
 use Rattle.listing.proofs.Laws.Put.{Left, pieces-left, less-left, last-left, room-left}
 use Rattle.listing.proofs.put.field.Statement.{statement}
 use Rattle.listing.proofs.put.field.Tie as tie

@@ -18,6 +18,9 @@ low : (c : tie.Else1) →
     Left (a .out .now) (a .at) (printℤ (signed (a .word))) (a .out .now) (a .at) (lowPieces (a .word))
 low c = pieces-left _ _ _ (value-low (c .before .before .args .word) (c .if1 .left))
 
+cast-number : tie.Need-cast-number
+cast-number c = search needs
+
 number-requires : tie.Need-number-requires
 number-requires c κs = room-left (high (c .before)) (c .before .before .before .pre)
 
@@ -35,6 +38,9 @@ byte-requires c κs = room-left (low (c .before)) (c .before .before .before .pr
 
 sub-number : tie.Need-sub-number
 sub-number c = search needs
+
+cast-number-2 : tie.Need-cast-number-2
+cast-number-2 c = search needs
 
 number-requires-2 : tie.Need-number-requires-2
 number-requires-2 c κs =
@@ -56,4 +62,14 @@ returns-2 c =
 pub value-spec : {M : Type 1} → statement M
 value-spec =
     tie.close
-    (tie.spec number-requires same-length returns byte-requires sub-number number-requires-2 same-length-2 returns-2)
+    (tie.spec
+    cast-number
+    number-requires
+    same-length
+    returns
+    byte-requires
+    sub-number
+    cast-number-2
+    number-requires-2
+    same-length-2
+    returns-2)

@@ -23,9 +23,9 @@ use Rattle.specification.specs.Listing.{Block, answerHead, listingText}
 use Rattle.specification.specs.Plain.{Filling, valueOf, Truth, Fills, Keeps, True}
 use Rattle.specification.specs.Run.{tallies}
 use Rattle.specification.specs.Outcome.{ran, call}
-use Rattle.specification.specs.Marked.{sheetOf}
+use Rattle.specification.proofs.Cases.Case.{sheetOf}
 use Rattle.specification.specs.Demand3.{Agrees, Such, Agreement, Demand3}
-use Rattle.specification.specs.Bundles.{read-defs, tree-defs, run-defs}
+use Rattle.specification.proofs.Cases.Bundles.{read-defs, tree-defs, run-defs}
 use Rattle.specification.proofs.Laws.Demand3.{demand3}
 use Rattle.specification.proofs.Laws.Listed.{demand3-agreement}
 

@@ -16,6 +16,7 @@ use Rattle.specification.specs.Visits.{_then_, each, inside, visits}
 use Rattle.specification.specs.Listing.{scalarNames, elementNames, arrayNames, cellNames, valued, blockOf, headLines, cellLines, blockLines, labelText, linesText, blockText, listingText}
 use Rattle.specification.specs.Run.{block, arrive, visit, scan}
 use Rattle.specification.specs.Outcome.{start, rootOf, visitsOf, runOf, call}
+use Rattle.specification.specs.Printed.{closing, printed, box}
 
 unfoldable pub read-defs : Type 0
 unfolding classOf classNumber isIn inNumber inToken run same begins allDigits decimal wellFormed natural integer mark exactly taken index count value line lengths arraysLine sum cells firstOf lengthOf isDeclared cellOf scalarName elementName name item items givenLine words nameOf find wordOf token has binder term formula sheet read
@@ -26,5 +27,5 @@ unfolding put fit compute test pairOf elementSide side joined verdict closedTerm
 tree-defs = Unit {0}
 
 unfoldable pub run-defs : Type 0
-unfolding _then_ each inside visits digits printℕ printℤ scalarNames elementNames arrayNames cellNames valued blockOf headLines cellLines blockLines labelText linesText blockText listingText block arrive visit scan start rootOf visitsOf runOf call
+unfolding _then_ each inside visits digits printℕ printℤ scalarNames elementNames arrayNames cellNames valued blockOf headLines cellLines blockLines labelText linesText blockText listingText block arrive visit scan start rootOf visitsOf runOf call closing printed box
 run-defs = Unit {0}

@@ -1,0 +1,2 @@
+-- What the contracts of the console cite.
+pub mod Went

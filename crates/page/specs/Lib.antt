@@ -1,0 +1,2 @@
+-- What the contracts of the page cite.
+pub mod Page
