@@ -33,17 +33,18 @@ fn run_cases(cases: &[u8], work: &mut [u32], output: &mut [u8], lines: &mut [u8;
     let mut n: usize = 0;
     while at < cases.len() {
         n += 1;
-        if !print_number(n, lines) {
+        if !print_number(n) {
             return;
         }
         at = run_case(cases, at, work, output, lines);
     }
 }
 
-// The line before a case's page.
-fn print_number(n: usize, lines: &mut [u8; CLOSING]) -> bool {
-    let count = put::field(lines, 0, b"case ", n as u64);
-    let sent = console::write(&lines[..count]);
+// The line before a case's page: five bytes, twenty digits at most, a line feed.
+fn print_number(n: usize) -> bool {
+    let mut line = [0u8; 26];
+    let count = put::field(&mut line, 0, b"case ", n as u64);
+    let sent = console::write(&line[..count]);
     sent.whole
 }
 
@@ -109,7 +110,7 @@ fn run_sheet(
     let outcome = vodlasim::run(sheet, setting, work, output);
     let listing = page::written(outcome);
     let closing = page::closing(outcome, lines);
-    let sent = console::write_page(&output[..listing], &lines[..closing]);
+    let sent = console::write_page(output, listing, lines, closing);
     if !sent.whole {
         return false;
     }

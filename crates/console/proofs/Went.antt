@@ -3,10 +3,17 @@ use Prim.Native.Nat.{ℕ, _+_, _≤_}
 use native.Mathlib.Omega.{arith}
 use mathlib.Core.Path.{_≡_, refl, sym, _∙_}
 use mathlib.Core.Bool.{Bool, true, false}
+use mathlib.Core.List.{List}
+use lib.ListN.{length, take}
+use lib.Seq.{length-take-le}
 use lib.Dec.{eqb}
 use borrow.Author.Tests.{eqb-true, eqb-false, eq-eqb, ne-eqb}
 use Rattle.console.specs.declared.Sent.{Sent}
 use Rattle.console.specs.Went.{Went}
+
+-- a slice's first part
+pub part-went : {r : Sent} (n : ℕ) (s : List ℕ) → n ≤ length s → Went (length (take n s)) r → Went n r
+part-went n s h w = rw (length-take-le n s h) at w
 
 -- the first part is cut short
 pub cut-first : {m : ℕ} {r : Sent} (n : ℕ) → Went m r → r .whole ≡ false → Went (m + n) r

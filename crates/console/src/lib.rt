@@ -71,15 +71,16 @@ fn write_rest(bytes: &[u8], n: usize) -> usize
     io::count(put, rest)
 }
 
-// Writes a page: the listing and then, if all of it went out, the lines after it.
-pub fn write_page(listing: &[u8], closing: &[u8]) -> Sent
-    ensures { λ r. ⌜ Went (length (now (listing .entry)) + length (now (closing .entry))) r ⌝ }
+// Writes a page: the listing, so many bytes of the output, and then, if all of it went out, so many of the lines after it.
+pub fn write_page(output: &[u8], listing: usize, lines: &[u8], closing: usize) -> Sent
+    requires { ⌜ (listing ≤ length (now output)) × (closing ≤ length (now lines)) ⌝ }
+    ensures { λ r. ⌜ Went (listing + closing) r ⌝ }
 {
-    let first = write(listing);
+    let first = write(&output[..listing]);
     if !first.whole {
         return first;
     }
-    let second = write(closing);
+    let second = write(&lines[..closing]);
     Sent {
         count: first.count + second.count,
         whole: second.whole,

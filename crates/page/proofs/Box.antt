@@ -5,12 +5,14 @@ use mathlib.Core.Path.{_≡_, refl, sym, _∙_, ap, subst}
 use mathlib.Core.List.{List, _++_}
 use lib.ListN.{length, take, drop, replicate, length-append}
 use lib.Seq.{take-at}
+use Rattle.specification.specs.declared.Setting.{Setting}
 use Rattle.specification.specs.declared.Outcome.{Outcome}
 use Rattle.specification.specs.Bytes.{Bytes}
 use Rattle.specification.specs.Outcome.{Result, refusal, ran, call, written, outcome, outputAfter, wordsAfter}
 use Rattle.specification.specs.Printed.{closing, printed, boxSetting, boxWords, boxOutput, box}
 use Rattle.specification.proofs.Laws.Printed.{box-whole}
 use Rattle.vodlasim.specs.Answered.{Answered}
+use Rattle.page.specs.declared.Page.{Page}
 use Rattle.page.specs.Page.{writtenOf, Closed, boxRun, Paged}
 
 -- the bytes written are those of the listing
@@ -19,9 +21,18 @@ written-of (refusal n p) = refl
 written-of (ran e t w) = refl
 
 -- and stand in the output
-pub written-inside : (x : Result) (o : Bytes) {o' : Bytes} → o' ≡ outputAfter x o → length (written x) ≤ length o'
+written-inside : (x : Result) (o : Bytes) {o' : Bytes} → o' ≡ outputAfter x o → length (written x) ≤ length o'
 unfolding outputAfter
 written-inside x o e = omega (arith, ap length e, length-append (written x) (drop (length (written x)) o))
+
+pub answered-inside : {sheet : Bytes} {S : Setting} {w w' : List ℕ} {o o' : Bytes} {r : Outcome} → Answered sheet S w w' o o' r → writtenOf r ≤ length o'
+answered-inside {sheet} {S} {w} {o = o} a =
+    let x = call sheet S (length w) (length o) in
+    omega (arith, ap writtenOf (a .result), written-of x, written-inside x o (a .output))
+
+-- so do the lines after the listing in their memory
+pub closed-inside : {o : Outcome} {b b' : Bytes} {r : ℕ} → Closed o b b' r → r ≤ length b'
+closed-inside {o} {b} {r = r} c = omega (arith, c .count, ap length (c .lines), length-append (closing o) (drop r b))
 
 module _ {sheet : Bytes} {work work' : List ℕ} {output output' : Bytes} {o : Outcome}
     (words : length work ≡ boxWords) (size : length output ≡ boxOutput) (a : Answered sheet boxSetting work work' output output' o) where
@@ -51,3 +62,7 @@ module _ {sheet : Bytes} {work work' : List ℕ} {output output' : Bytes} {o : O
       output = held;
       closed = subst (λ x. Closed x lines lines' m) result c;
     }
+
+pub paged-inside : {sheet : Bytes} {w' : List ℕ} {o o' l l' : Bytes} {r : Page} → Paged sheet w' o o' l l' r →
+    (r .listing ≤ length o') × (r .closing ≤ length l')
+paged-inside {sheet} {o = o} p = (omega (arith, p .listing, written-inside (boxRun sheet) o (p .output)), closed-inside (p .closed))

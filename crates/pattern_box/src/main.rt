@@ -21,7 +21,5 @@ fn run_input(
 ) {
     let n = console::read(sheet);
     let page = page::run_box(&sheet[..n], work, output, lines);
-    let listing = page.listing;
-    let closing = page.closing;
-    console::write_page(&output[..listing], &lines[..closing]);
+    console::write_page(output, page.listing, lines, page.closing);
 }
