@@ -6,7 +6,7 @@ use mathlib.Core.List.{_++_}
 use lib.ListN.{length}
 use lib.Seq.{sets}
 use Rattle.specification.specs.Bytes.{Bytes, bytes}
-use Rattle.specification.specs.Number.{printℕ, printℤ}
+use Rattle.specification.specs.Number.{printℤ}
 use Rattle.values.specs.Word.{signed}
 
 -- the place after them is a number of the machine

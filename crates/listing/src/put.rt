@@ -5,8 +5,8 @@ ghost use mathlib.Core.List.{[], _∷_};
 ghost use lib.ListN.{length};
 ghost use lib.Seq.{sets};
 ghost use Rattle.specification.specs.Number.{printℕ, printℤ};
-ghost use Rattle.values.specs.Word.{signed};
 ghost use Rattle.specification.specs.Printed.{fieldText};
+ghost use Rattle.values.specs.Word.{signed};
 ghost use Rattle.listing.specs.Put.{Room, Put, endText};
 
 // The word of 0.

@@ -16,15 +16,15 @@ use Rattle.specification.specs.Printed.{fieldText, endLine, tallyLines, refusal
 use Rattle.listing.specs.Put.{Put}
 use Rattle.listing.proofs.Laws.Put.{pieces-left, less-left, last-left}
 use Rattle.listing.proofs.Laws.Bound.{field-bound}
-use Rattle.page.specs.Page.{Lined, Closed}
+use Rattle.page.specs.Page.{endMost, closingMost, Lined, Closed}
 
-end-bound : (e : End) → length (endLine e) ≤ 11
+end-bound : (e : End) → length (endLine e) ≤ endMost
 end-bound Done = omega arith
 end-bound Spent = omega arith
 end-bound Path = omega arith
 end-bound Output = omega arith
 
-pub end-lined : (e : End) {b b' : Bytes} {r : ℕ} → Put b b' 0 (endLine e) r → Lined 11 b b' 0 (endLine e) r
+pub end-lined : (e : End) {b b' : Bytes} {r : ℕ} → Put b b' 0 (endLine e) r → Lined endMost b b' 0 (endLine e) r
 end-lined e p = record { text = p; short = omega (arith, p .end, end-bound e) }
 
 -- the four lines of tallies
@@ -62,19 +62,19 @@ refusal-bound number place n p =
 
 -- ---- all of them
 
-put-closed : (o : Outcome) {b b' : Bytes} {r : ℕ} → length b ≡ 82 → r ≤ 82 → Put b b' 0 (closing o) r → Closed o b b' r
+put-closed : (o : Outcome) {b b' : Bytes} {r : ℕ} → length b ≡ closingMost → r ≤ closingMost → Put b b' 0 (closing o) r → Closed o b b' r
 put-closed o {b} {b'} {r} size short p =
     let t = closing o in
     let count : r ≡ length t = omega (arith, p .end) in
-    record { lines = p .bytes ∙ sets-eq t b 0 (omega arith) ∙ ap (λ k. t ++ drop k b) {x = 0 + length t} {y = r} (omega arith); count = count; inside = omega arith }
+    record { lines = p .bytes ∙ sets-eq t b 0 (omega arith) ∙ ap (λ k. t ++ drop k b) {x = 0 + length t} {y = r} (omega arith); count = count }
 
-pub closed-refused : {o : Outcome} {number place : ℕ} {b b' : Bytes} {r : ℕ} → o ≡ Refused number place → length b ≡ 82 →
-    Lined 82 b b' 0 (refusalLines number place) r → Closed o b b' r
+pub closed-refused : {o : Outcome} {number place : ℕ} {b b' : Bytes} {r : ℕ} → o ≡ Refused number place → length b ≡ closingMost →
+    Lined closingMost b b' 0 (refusalLines number place) r → Closed o b b' r
 unfolding closing
 closed-refused {number = number} {place = place} e size l = rw e (put-closed (Refused number place) size (l .short) (l .text))
 
-pub closed-ran : {o : Outcome} {e : End} {t : Tallies} {n : ℕ} {b b₁ b' : Bytes} {p r : ℕ} → o ≡ Ran e t n → length b ≡ 82 →
-    Lined 11 b b₁ 0 (endLine e) p → Lined 82 b₁ b' p (tallyLines t) r → Closed o b b' r
+pub closed-ran : {o : Outcome} {e : End} {t : Tallies} {n : ℕ} {b b₁ b' : Bytes} {p r : ℕ} → o ≡ Ran e t n → length b ≡ closingMost →
+    Lined endMost b b₁ 0 (endLine e) p → Lined closingMost b₁ b' p (tallyLines t) r → Closed o b b' r
 unfolding closing
 closed-ran {e = e} {t = t} {n = n} {b = b} told size first l =
     rw told (put-closed (Ran e t n) size (l .short) (last-left (less-left (pieces-left b 0 (endLine e ∷ tallyLines t ∷ []) refl) (first .text)) (l .text)))

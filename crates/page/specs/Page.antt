@@ -16,7 +16,14 @@ abbrev pub writtenOf : Outcome → ℕ
 writtenOf (Refused number place) = 0
 writtenOf (Ran end t n) = n
 
--- some of the lines, put from a place on; they end among the first so many bytes
+-- the longest line of an end, `end=output`; and the longest lines after a listing, that and four tallies of ten digits
+abbrev pub endMost : ℕ
+endMost = 11
+
+abbrev pub closingMost : ℕ
+closingMost = 82
+
+-- some of these lines, put from a place on; they end among the first so many bytes
 pub record Lined (most : ℕ) (b b' : Bytes) (at : ℕ) (t : Bytes) (r : ℕ) : Type 0 where
   pub text : Put b b' at t r
   pub short : r ≤ most
@@ -25,7 +32,6 @@ pub record Lined (most : ℕ) (b b' : Bytes) (at : ℕ) (t : Bytes) (r : ℕ) : 
 pub record Closed (o : Outcome) (b b' : Bytes) (r : ℕ) : Type 0 where
   pub lines : b' ≡ closing o ++ drop r b
   pub count : r ≡ length (closing o)
-  pub inside : r ≤ length b
 
 -- the box's run of a sheet
 abbrev pub boxRun : Bytes → Result

@@ -2,7 +2,7 @@
 ghost use mathlib.Core.Path.{_≡_};
 ghost use Prim.Native.Nat.{_≤_};
 ghost use Rattle.specification.specs.Printed.{endLine, tallyLines, refusalLines};
-ghost use Rattle.page.specs.Page.{writtenOf, Lined, Closed, Paged};
+ghost use Rattle.page.specs.Page.{writtenOf, endMost, closingMost, Lined, Closed, Paged};
 use listing::put;
 use specification::End;
 use specification::Outcome;
@@ -10,7 +10,7 @@ use specification::Setting;
 use specification::Tallies;
 
 // The memory of the box: work words, 6,144 for tables and 12 for each of 512 path nodes; a sheet one byte longer than any that is
-// accepted; the output; and the lines after the listing, the longest of which are `end=output` and four tallies of ten digits.
+// accepted; the output; and the lines after the listing.
 pub const WORDS: usize = 12288;
 
 pub const INPUT: usize = 4097;
@@ -35,7 +35,7 @@ pub struct Page {
 // ---- the lines after the listing
 
 fn end_line(lines: &mut [u8], end: End) -> usize
-    ensures { λ r. ⌜ Lined 11 (now (lines .entry)) (now (lines .exit)) 0 (endLine end) r ⌝ }
+    ensures { λ r. ⌜ Lined endMost (now (lines .entry)) (now (lines .exit)) 0 (endLine end) r ⌝ }
 {
     match end {
         End::Done => put::text(lines, 0, b"end=done\n"),
@@ -46,8 +46,8 @@ fn end_line(lines: &mut [u8], end: End) -> usize
 }
 
 fn tally_lines(lines: &mut [u8], at: usize, t: Tallies) -> usize
-    requires { ⌜ at ≤ 11 ⌝ }
-    ensures { λ r. ⌜ Lined 82 (now (lines .entry)) (now (lines .exit)) at (tallyLines t) r ⌝ }
+    requires { ⌜ at ≤ endMost ⌝ }
+    ensures { λ r. ⌜ Lined closingMost (now (lines .entry)) (now (lines .exit)) at (tallyLines t) r ⌝ }
 {
     let p = put::field(lines, at, b"nodes=", t.nodes as u64);
     let q = put::field(lines, p, b"answers=", t.answers as u64);
@@ -56,7 +56,7 @@ fn tally_lines(lines: &mut [u8], at: usize, t: Tallies) -> usize
 }
 
 fn refusal_lines(lines: &mut [u8], number: u32, place: usize) -> usize
-    ensures { λ r. ⌜ Lined 82 (now (lines .entry)) (now (lines .exit)) 0 (refusalLines number place) r ⌝ }
+    ensures { λ r. ⌜ Lined closingMost (now (lines .entry)) (now (lines .exit)) 0 (refusalLines number place) r ⌝ }
 {
     let p = put::field(lines, 0, b"refused=", number as u64);
     put::field(lines, p, b"at=", place as u64)
@@ -98,7 +98,7 @@ pub fn written(outcome: Outcome) -> usize
     }
 }
 
-// All that the box does between reading its input and printing.
+// All that the box does between reading its input and printing: the sheet's page, by the length of its parts.
 pub fn run_box(
     sheet: &[u8],
     work: &mut [u32; WORDS],

@@ -6,7 +6,6 @@ use mathlib.Core.Bool.{false}
 use mathlib.Core.List.{[], _∷_, _++_}
 use lib.ListN.{length, drop, replicate}
 use Rattle.specification.specs.declared.Setting.{Setting}
-use Rattle.specification.specs.declared.Tallies.{Tallies}
 use Rattle.specification.specs.declared.End.{End}
 use Rattle.specification.specs.declared.Outcome.the-variants.{Ran}
 use Rattle.specification.specs.Bytes.{Bytes}

@@ -2,11 +2,11 @@
 use Prim.Native.Nat.{_≤_}
 use native.Mathlib.Omega.{arith}
 use lib.ListN.{length}
+use borrow.Author.Needs.{needs}
 use Rattle.specification.specs.Bytes.{bytes}
 use Rattle.specification.specs.Printed.{fieldText}
 use Rattle.listing.proofs.Laws.Bound.{field-bound}
 use Rattle.console.proofs.Parts.{part-length}
-use borrow.Author.Needs.{needs}
 use Rattle.cases.proofs.print_number.Statement.{statement}
 use Rattle.cases.proofs.print_number.Tie as tie
 
@@ -23,10 +23,10 @@ field-requires : tie.Need-field-requires
 field-requires c κs = omega (arith, bound (c .before .before))
 
 array-share-prefix-line : tie.Need-array-share-prefix-line
-array-share-prefix-line c = omega (arith, bound (c .before .before .before .before), (c .before .field .ensures .end))
+array-share-prefix-line c = omega (arith, bound (c .before .before .before .before), c .before .field .ensures .end)
 
 slice-aggregate-write : tie.Need-slice-aggregate-write
-slice-aggregate-write c = part-length _ _ (omega (arith, bound (c .before .before .before .before .before), (c .before .before .field .ensures .end)))
+slice-aggregate-write c = part-length _ _ (omega (arith, bound (c .before .before .before .before .before), c .before .before .field .ensures .end))
 
 write-requires : tie.Need-write-requires
 write-requires c κs = search needs

@@ -1,6 +1,6 @@
 -- `cases::run_sheet` is safe: the parts that it writes stand in their memory.
-use Rattle.page.proofs.Box.{answered-inside, closed-inside}
 use borrow.Author.Needs.{needs}
+use Rattle.page.proofs.Box.{answered-inside, closed-inside}
 use Rattle.cases.proofs.run_sheet.Statement.{statement}
 use Rattle.cases.proofs.run_sheet.Tie as tie
 
@@ -20,7 +20,11 @@ closing-requires : tie.Need-closing-requires
 closing-requires c κs = search needs
 
 write-page-requires : tie.Need-write-page-requires
-write-page-requires c κs = (rw (c .before .before .before .before .before .written .ensures) (answered-inside (c .before .before .before .before .before .before .before .before .before .before .run .ensures)), closed-inside (c .before .before .before .closing .ensures))
+write-page-requires c κs =
+    let at-closing = c .before .before .before in
+    let at-written = at-closing .before .before in
+    let at-run = at-written .before .before .before .before .before in
+    (rw (at-written .written .ensures) (answered-inside (at-run .run .ensures)), closed-inside (at-closing .closing .ensures))
 
 same-length : tie.Need-same-length
 same-length c = search needs

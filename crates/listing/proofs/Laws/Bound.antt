@@ -11,11 +11,11 @@ use Rattle.specification.specs.Bytes.{Bytes, bytes, pick}
 use Rattle.specification.specs.Number.{printℕ, printℤ}
 use Rattle.specification.specs.Lines.{CellName, scalar, element}
 use Rattle.specification.specs.Listing.{Line, cellLabel, _is_, labelText, linesText}
+use Rattle.specification.specs.Printed.{fieldText}
 use Rattle.specification.proofs.Laws.Blocks.{linesText-++}
 use Rattle.values.specs.Word.{signed}
 use Rattle.sheet.specs.Tables.{Words}
 use Rattle.listing.specs.declared.Head.the-variants.{Answer, Error}
-use Rattle.specification.specs.Printed.{fieldText}
 use Rattle.listing.specs.Put.{Room, Put}
 use Rattle.listing.specs.Model.{flagAt, valueAt, firstAt, Laid, eachLine, lineAt, scalarLine, elementLine, arrayLines, headText, Headed}
 use Rattle.listing.proofs.Laws.Digits.{length-within, value-bound}

@@ -7,9 +7,9 @@ use Rattle.specification.specs.Bytes.{Bytes, bytes}
 use Rattle.specification.specs.Number.{printℕ, printℤ}
 use Rattle.specification.specs.Lines.{CellName, scalar, element}
 use Rattle.specification.specs.Listing.{cellLabel, headLines, labelText, linesText}
+use Rattle.specification.specs.Printed.{fieldText}
 use Rattle.sheet.specs.Tables.{Words}
 use Rattle.listing.specs.declared.Head.the-variants.{Answer, Error}
-use Rattle.specification.specs.Printed.{fieldText}
 use Rattle.listing.specs.Put.{endText}
 use Rattle.listing.specs.Model.{flagAt, valueAt, firstAt, eachLine, lineAt, elementLine, arrayLines, headText}
 use Rattle.listing.proofs.Laws.Put.{joined}

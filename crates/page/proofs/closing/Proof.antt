@@ -18,13 +18,15 @@ end-line-requires : tie.Need-end-line-requires
 end-line-requires c κs = search needs
 
 tally-lines-requires : tie.Need-tally-lines-requires
-tally-lines-requires c κs = (c .before .end-line .ensures .short)
+tally-lines-requires c κs = c .before .end-line .ensures .short
 
 returns : tie.Need-returns
 returns c = closed-refused (c .before .before .before .outcome .given .1) (omega arith) (c .refusal-lines .ensures)
 
 returns-2 : tie.Need-returns-2
-returns-2 c = closed-ran (c .before .before .before .before .before .outcome2 .given .1) (omega arith) (c .before .before .end-line .ensures) (c .tally-lines .ensures)
+returns-2 c =
+    let at-end-line = c .before .before in
+    closed-ran (at-end-line .before .before .before .outcome2 .given .1) (omega arith) (at-end-line .end-line .ensures) (c .tally-lines .ensures)
 
 pub closing-spec : {M : Type 1} → statement M
 closing-spec =

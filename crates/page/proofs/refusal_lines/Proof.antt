@@ -36,15 +36,21 @@ slice-aggregate-field-2 : tie.Need-slice-aggregate-field-2
 slice-aggregate-field-2 c = search needs
 
 field-requires-2 : tie.Need-field-requires-2
-field-requires-2 c κs = room-left (less-left (parted (c .before .before .before .before .before .before .before .before)) (c .before .before .before .before .field .ensures)) (room (c .before .before .before .before .before .before .before .before))
+field-requires-2 c κs =
+    let at-field = c .before .before .before .before in
+    let start = at-field .before .before .before .before in
+    room-left (less-left (parted start) (at-field .field .ensures)) (room start)
 
 same-length : tie.Need-same-length
 same-length c = search needs
 
 returns : tie.Need-returns
 returns c =
-    let p = last-left (less-left (parted (c .before .before .before .before .before .before .before .before .before .before .before)) (c .before .before .before .before .before .before .before .field .ensures)) (c .before .before .field2 .ensures) in
-    record { text = p; short = omega (arith, p .end, bound (c .before .before .before .before .before .before .before .before .before .before .before)) }
+    let at-field2 = c .before .before in
+    let at-field = at-field2 .before .before .before .before .before in
+    let start = at-field .before .before .before .before in
+    let p = last-left (less-left (parted start) (at-field .field .ensures)) (at-field2 .field2 .ensures) in
+    record { text = p; short = omega (arith, p .end, bound start) }
 
 pub refusal-lines-spec : {M : Type 1} → statement M
 refusal-lines-spec =

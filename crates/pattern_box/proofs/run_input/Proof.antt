@@ -1,6 +1,6 @@
 -- `pattern_box::run_input` is safe: the parts that it writes stand in their memory.
-use Rattle.page.proofs.Box.{paged-inside}
 use borrow.Author.Needs.{needs}
+use Rattle.page.proofs.Box.{paged-inside}
 use Rattle.pattern_box.proofs.run_input.Statement.{statement}
 use Rattle.pattern_box.proofs.run_input.Tie as tie
 

@@ -1,10 +1,10 @@
--- What the box reads of its input is enough: a longer input is refused either way. Assumes nothing.
-use Prim.Native.Nat.{ℕ, _<_}
+-- What the box reads of its input decides what it prints: a longer input is refused either way. Assumes nothing.
+use Prim.Native.Nat.{_<_}
 use native.Mathlib.Omega.{arith}
 use mathlib.Core.Path.{_≡_, refl, sym, _∙_, ap}
 use mathlib.Core.Bool.{Bool, true, false}
 use lib.ListN.{length, take}
-use lib.Seq.{take-all, length-take-le}
+use lib.Seq.{take-all, take-take, length-take-le}
 use lib.Dec.{leb}
 use borrow.Author.Tests.{leb-true, leb-false, lt-leb}
 use Rattle.specification.specs.Bytes.{Bytes}
@@ -24,3 +24,7 @@ box-whole input = ap printed (go (leb (length input) 4096) refl)
     go false e =
         let h : 4096 < length input = leb-false (length input) 4096 e in
         too-long (take boxInput input) (omega (arith, length-take-le boxInput input (omega arith))) ∙ sym (too-long input h)
+
+pub box-read : (input : Bytes) → box (take boxInput input) ≡ box input
+unfolding box
+box-read input = rw (take-take boxInput boxInput input (omega arith))
