@@ -1,36 +1,24 @@
 -- A block's bytes as the code makes them, from the work words alone. The laws that they are the specification's are in
 -- proofs/Laws/Shown.antt. Assumes nothing.
-use Prim.Native.Nat.{ℕ, zero, suc, _+_, _-_, _*_, _<_, _≤_}
+use Prim.Native.Nat.{ℕ, zero, suc, _+_, _-_, _<_, _≤_}
 use mathlib.Core.List.{List, [], _∷_, _++_}
-use lib.ListN.{length, getD}
+use lib.ListN.{length}
 use lib.Dec.{eqb}
 use Rattle.specification.specs.Bytes.{Bytes, pick}
 use Rattle.specification.specs.Lines.{CellName, scalar, element}
 use Rattle.specification.specs.Listing as listing
 use Rattle.specification.specs.Listing.{Line, answerHead, errorHead, cellLabel, _is_, headLines, linesText}
 use Rattle.values.specs.Word.{signed}
-use Rattle.sheet.specs.Tables.{Words}
+use Rattle.tables.specs.Layout.{Words, duesAt, flagAt, valueAt, firstAt}
 use Rattle.listing.specs.declared.Head.{Head}
 use Rattle.listing.specs.declared.Head.the-variants.{Answer, Error}
 use Rattle.listing.specs.Put.{Put}
 
 -- ---- the words
 
--- 0 where cell c has no value
-abbrev pub flagAt : Words → ℕ → ℕ
-flagAt w c = getD w (4096 + 2 * c) 0
-
--- its value's word
-abbrev pub valueAt : Words → ℕ → ℕ
-valueAt w c = getD w (4096 + 2 * c + 1) 0
-
--- the first cell of array a
-abbrev pub firstAt : Words → ℕ → ℕ
-firstAt w a = getD w (5184 + a) 0
-
 -- the words of cells and arrays are there
 abbrev pub Sized : Words → Type 0
-Sized w = 5201 ≤ length w
+Sized w = duesAt ≤ length w
 
 -- array a ends at its first cell or after it, and among the cells
 pub record Spans (w : Words) (a : ℕ) : Type 0 where

@@ -1,50 +1,10 @@
 // The lines of the cells that have a value, from the work words (specs/Model.antt). Each function gives the place after them.
-ghost use mathlib.Core.Path.{_≡_};
 ghost use Prim.Native.Nat.{_+_, _<_, _≤_};
-ghost use lib.ListN.{length, getD};
 ghost use Rattle.specification.specs.Lines.{scalar, element};
 ghost use Rattle.specification.specs.Listing.{cellLabel, labelText, linesText};
 ghost use Rattle.listing.specs.Put.{Room, Put};
-ghost use Rattle.listing.specs.Model.{flagAt, valueAt, firstAt, Sized, Spans, Laid, eachLine, lineAt, scalarLine, elementLine, arrayLines};
+ghost use Rattle.listing.specs.Model.{Sized, Spans, Laid, eachLine, lineAt, scalarLine, elementLine, arrayLines};
 use crate::put;
-
-// ---- words
-
-// Where the cells stand, two words each, and the first cells of the arrays.
-const CELLS: usize = 4096;
-
-const FIRSTS: usize = 5184;
-
-fn word(w: &[u32], i: usize) -> u32
-    requires { ⌜ i < length (now w) ⌝ }
-    ensures { λ r. ⌜ r ≡ getD (now (w .entry)) i 0 ⌝ }
-{
-    w[i]
-}
-
-// 0 where cell c has no value.
-fn flag(w: &[u32], c: u32) -> u32
-    requires { ⌜ (Sized (now w)) × (c < 512) ⌝ }
-    ensures { λ r. ⌜ r ≡ flagAt (now (w .entry)) c ⌝ }
-{
-    word(w, CELLS + 2 * (c as usize))
-}
-
-// The word of its value.
-fn value(w: &[u32], c: u32) -> u32
-    requires { ⌜ (Sized (now w)) × (c < 512) ⌝ }
-    ensures { λ r. ⌜ r ≡ valueAt (now (w .entry)) c ⌝ }
-{
-    word(w, CELLS + 2 * (c as usize) + 1)
-}
-
-// The first cell of array a, or the end of the cells.
-fn first(w: &[u32], a: u32) -> u32
-    requires { ⌜ (Sized (now w)) × (a ≤ 16) ⌝ }
-    ensures { λ r. ⌜ r ≡ firstAt (now (w .entry)) a ⌝ }
-{
-    word(w, FIRSTS + (a as usize))
-}
 
 // ---- one cell
 
@@ -73,10 +33,10 @@ fn scalar(out: &mut [u8], at: usize, w: &[u32], n: u32) -> usize
     requires { ⌜ (Sized (now w)) × (n < 512) × (Room at (linesText (scalarLine (now w) n))) ⌝ }
     ensures { λ r. ⌜ Put (now (out .entry)) (now (out .exit)) at (linesText (scalarLine (now (w .entry)) n)) r ⌝ }
 {
-    if flag(w, n) == 0 {
+    if tables::cell_flag(w, n) == 0 {
         return at;
     }
-    let v = value(w, n);
+    let v = tables::cell_value(w, n);
     let p = scalar_name(out, at, n);
     put::ending(out, p, v)
 }
@@ -86,10 +46,10 @@ fn element(out: &mut [u8], at: usize, w: &[u32], a: u32, e: u32, c: u32) -> usiz
     requires { ⌜ (Sized (now w)) × (c < 512) × (Room at (linesText (lineAt (now w) (element a e) c))) ⌝ }
     ensures { λ r. ⌜ Put (now (out .entry)) (now (out .exit)) at (linesText (lineAt (now (w .entry)) (element a e) c)) r ⌝ }
 {
-    if flag(w, c) == 0 {
+    if tables::cell_flag(w, c) == 0 {
         return at;
     }
-    let v = value(w, c);
+    let v = tables::cell_value(w, c);
     let p = element_name(out, at, a, e);
     put::ending(out, p, v)
 }
@@ -129,8 +89,8 @@ fn array(out: &mut [u8], at: usize, w: &[u32], a: u32) -> usize
     requires { ⌜ (Sized (now w)) × (a < 16) × (Spans (now w) a) × (Room at (linesText (arrayLines (now w) a))) ⌝ }
     ensures { λ r. ⌜ Put (now (out .entry)) (now (out .exit)) at (linesText (arrayLines (now (w .entry)) a)) r ⌝ }
 {
-    let from = first(w, a);
-    let to = first(w, a + 1);
+    let from = tables::first_cell(w, a);
+    let to = tables::first_cell(w, a + 1);
     elements(out, at, w, a, from, to - from)
 }
 

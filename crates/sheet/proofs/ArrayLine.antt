@@ -15,6 +15,7 @@ use Rattle.specification.specs.Parser.{Reader, Read, refused, found, require, a
 use Rattle.specification.specs.Lines.{index, count, lengths, arraysLine, sum, Declared, firstOf}
 use Rattle.text.specs.Class.{classAt}
 use Rattle.text.proofs.Laws.Class.{class-next, class-not-next}
+use Rattle.tables.specs.Layout.{firstSlot}
 use Rattle.sheet.specs.declared.arrays.Arrays.{Arrays}
 use Rattle.sheet.specs.declared.arrays.Arrays.the-variants as arrays
 use Rattle.sheet.specs.declared.lines.Count.{Count}
@@ -30,11 +31,11 @@ use Rattle.sheet.proofs.NumberLines.{Origin, mapped-refused, mapped-fou
 pub laid-length : (m a end : ℕ) (ns : List ℕ) (w : Words) → length (laidOn m a end ns w) ≡ length w
 unfolding laidOn
 laid-length zero a end ns w = refl
-laid-length (suc m) a end ns w = laid-length m (suc a) (end + getD ns 0 0) (drop 1 ns) (set w (5184 + a) end) ∙ length-set w (5184 + a) end
+laid-length (suc m) a end ns w = laid-length m (suc a) (end + getD ns 0 0) (drop 1 ns) (set w (firstSlot a) end) ∙ length-set w (firstSlot a) end
 
 module _ (a end : ℕ) (w : Words) where
   laid-next : (ns : List ℕ) → a < 17
-      → laidOn (17 - a) a end ns w ≡ laidOn (17 - (a + 1)) (a + 1) (end + getD ns 0 0) (drop 1 ns) (set w (5184 + a) end)
+      → laidOn (17 - a) a end ns w ≡ laidOn (17 - (a + 1)) (a + 1) (end + getD ns 0 0) (drop 1 ns) (set w (firstSlot a) end)
   unfolding laidOn
   laid-next ns h =
       let q : 17 - a ≡ suc (17 - (a + 1)) = omega arith in
@@ -47,8 +48,8 @@ pub record Filling (w₀ : Words) (from end : ℕ) (w : Words) (a : ℕ) : Type 
   pub rest : laidOn (17 - from) from end [] w₀ ≡ laidOn (17 - a) a end [] w
 
 module _ {w₀ : Words} {from end : ℕ} {w : Words} {a : ℕ} (st : Filling w₀ from end w a) where
-  pub fill-more : a < 17 → Filling w₀ from end (set w (5184 + a) end) (a + 1)
-  fill-more h = record { long = length-set w (5184 + a) end ∙ st .long; rest = st .rest ∙ laid-next a end w [] h ∙ rw add-zero }
+  pub fill-more : a < 17 → Filling w₀ from end (set w (firstSlot a) end) (a + 1)
+  fill-more h = record { long = length-set w (firstSlot a) end ∙ st .long; rest = st .rest ∙ laid-next a end w [] h ∙ rw add-zero }
 
   pub fill-done : 17 ≤ a → w ≡ laidOn (17 - from) from end [] w₀
   unfolding laidOn
@@ -70,7 +71,7 @@ first-more D a = omega (arith, sum-more (D .arrays) a)
 laid-declared : (D : Declared) (m a : ℕ) (w : Words) → laidFirsts D a m w ≡ laidOn m a (firstOf D a) (drop a (D .arrays)) w
 unfolding laidFirsts laidOn
 laid-declared D zero a w = refl
-laid-declared D (suc m) a w = rw (sym (first-more D a), drop-drop, add-one a) (laid-declared D m (suc a) (set w (5184 + a) (firstOf D a)))
+laid-declared D (suc m) a w = rw (sym (first-more D a), drop-drop, add-one a) (laid-declared D m (suc a) (set w (firstSlot a) (firstOf D a)))
 
 -- the first cells of a sheet that declares the lengths
 declared-laid : (D : Declared) (scalars : ℕ) (ns : List ℕ) (w : Words) → D .scalars ≡ scalars → D .arrays ≡ ns → laidOn 17 0 scalars ns w ≡ laidArrays D w
@@ -103,7 +104,7 @@ pub record Reading (s : Bytes) (from scalars : ℕ) (w₀ w : Words) (at n end :
 
 -- a length that was read, before those that follow
 tabled-more : (n end m : ℕ) (w : Words) → n < 16 → (x : Read (List ℕ))
-    → mapped (tabled n end w) (andThen (λ ns. give (m ∷ ns)) x) ≡ mapped (tabled (n + 1) (end + m) (set w (5184 + n) end)) x
+    → mapped (tabled n end w) (andThen (λ ns. give (m ∷ ns)) x) ≡ mapped (tabled (n + 1) (end + m) (set w (firstSlot n) end)) x
 unfolding sum
 tabled-more n end m w h (refused k p) = refl
 tabled-more n end m w h (found ns r) =
@@ -147,21 +148,21 @@ module _ {s : Bytes} {from scalars : ℕ} {w₀ w : Words} {at n end : ℕ} (st 
       pub turn-few : end + m ≤ 512
       turn-few = omega (arith, count-few 1 (512 - end) m (lineAt s at) (lineAt s e) is .1, st .small)
 
-      pub turn-last : (classAt s e ≡ classNumber comma → ⊥) → (w′ : Words) → w′ ≡ laidOn (17 - (n + 1)) (n + 1) (end + m) [] (set w (5184 + n) end)
+      pub turn-last : (classAt s e ≡ classNumber comma → ⊥) → (w′ : Words) → w′ ≡ laidOn (17 - (n + 1)) (n + 1) (end + m) [] (set w (firstSlot n) end)
           → Whole (found (record { arrays = n + 1; end = end + m; words = w′ }) (lineAt s e))
       unfolding sum
       turn-last other w′ laid =
           let last = rw (class-not-next s e comma other) at (turned (found m (lineAt s e)) is) in
           rw laid (rw (add-zero (n + 1), add-zero (end + m)) at (sym (tabled-more n end m w h (found [] (lineAt s e))) ∙ last))
 
-      pub turn-next : classAt s e ≡ classNumber comma → Reading s from scalars w₀ (set w (5184 + n) end) (e + 1) (n + 1) (end + m)
+      pub turn-next : classAt s e ≡ classNumber comma → Reading s from scalars w₀ (set w (firstSlot n) end) (e + 1) (n + 1) (end + m)
       turn-next is-comma =
           let left : 512 - end - m ≡ 512 - (end + m) = omega arith in
           let more = rw (class-next s e comma is-comma, mark-yes s e comma _ is-comma, left) at (turned (found m (lineAt s e)) is) in
           record {
             few = omega arith;
             small = turn-few;
-            long = length-set w (5184 + n) end ∙ st .long;
+            long = length-set w (firstSlot n) end ∙ st .long;
             rest = sym (sym (tabled-more n end m w h (lengths (16 - (n + 1)) (512 - (end + m)) (lineAt s (e + 1)))) ∙ more);
           }
 

@@ -7,6 +7,7 @@ use mathlib.Core.List.{List, [], _∷_, _++_}
 use lib.ListN.{length, getD, set, length-set}
 use lib.Seq.{getD-set-same, getD-set-other}
 use lib.Dec.{eqb}
+use Rattle.tables.specs.Layout.{tokenSlot}
 use borrow.Author.Tests.{eqb-true, eqb-false}
 use Rattle.sheet.specs.declared.Token.{Token}
 use Rattle.sheet.specs.Codes.{arity}
@@ -15,7 +16,7 @@ use Rattle.sheet.specs.Stack.{Beside}
 
 -- a token's two words
 abbrev pub stored : Words → ℕ → Token → Words
-stored w i t = set (set w (4 * i) (t .code)) (4 * i + 1) (t .operand)
+stored w i t = set (set w (tokenSlot i) (t .code)) (tokenSlot i + 1) (t .operand)
 
 -- ---- the same word in both
 
@@ -36,20 +37,20 @@ module _ {u v : Words} (i x : ℕ) (h : i < length u) (b : Beside u v) where
 
 -- ---- the same tokens, the same ends
 
-pub beside-stored : {u v : Words} (i : ℕ) (t : Token) → 4 * i + 1 < length u → Beside u v → Beside (stored u i t) (stored v i t)
-beside-stored i t h b = beside-set (4 * i + 1) (t .operand) (simp length-set h) (beside-set (4 * i) (t .code) (omega arith) b)
+pub beside-stored : {u v : Words} (i : ℕ) (t : Token) → tokenSlot i + 1 < length u → Beside u v → Beside (stored u i t) (stored v i t)
+beside-stored i t h b = beside-set (tokenSlot i + 1) (t .operand) (simp length-set h) (beside-set (tokenSlot i) (t .code) (omega arith) b)
 
-pub beside-tokens : (ts : List Token) (i : ℕ) {u v : Words} → 4 * (i + length ts) ≤ length u → Beside u v → Beside (laidTokens i ts u) (laidTokens i ts v)
+pub beside-tokens : (ts : List Token) (i : ℕ) {u v : Words} → tokenSlot (i + length ts) ≤ length u → Beside u v → Beside (laidTokens i ts u) (laidTokens i ts v)
 unfolding laidTokens
 beside-tokens [] i h b = b
 beside-tokens (t ∷ ts) i {u} h b = beside-tokens ts (suc i) (simp length-set (omega arith)) (beside-stored i t (omega arith) b)
 
-pub beside-ends : (ts : List Token) (i : ℕ) {u v : Words} → 4 * (i + length ts) ≤ length u → Beside u v → Beside (laidEnds i ts u) (laidEnds i ts v)
+pub beside-ends : (ts : List Token) (i : ℕ) {u v : Words} → tokenSlot (i + length ts) ≤ length u → Beside u v → Beside (laidEnds i ts u) (laidEnds i ts v)
 unfolding laidEnds
 beside-ends [] i h b = b
 beside-ends (t ∷ ts) i h b =
     beside-ends ts (suc i) (simp length-set (omega arith))
-    (beside-set (4 * i + 2) (suc i + length ts - length (after ts (arity (t .code)))) (omega arith) b)
+    (beside-set (tokenSlot i + 2) (suc i + length ts - length (after ts (arity (t .code)))) (omega arith) b)
 
 -- ---- one token more
 

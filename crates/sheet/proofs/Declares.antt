@@ -12,6 +12,7 @@ use borrow.Author.Tests.{leb-true, leb-false}
 use Rattle.specification.specs.Bytes.{Bytes, bytes, pick, comma, feed}
 use Rattle.specification.specs.Parser.{Reader, Read, refused, found, andThen, _>>_, give, next, mark, key}
 use Rattle.specification.specs.Lines.{count, lengths, arraysLine, sum, Declared, cells, firstOf}
+use Rattle.tables.specs.Layout.{firstSlot, pathAt}
 use Rattle.sheet.specs.Reader.{lineAt}
 use Rattle.sheet.specs.Tables.{Words, laidFirsts, laidArrays}
 use Rattle.sheet.specs.Held.{ArraysAt}
@@ -85,34 +86,34 @@ arrays-few scalars r ns r′ e = by-key (key (bytes "arrays=") r) e
 -- ---- first cells in their places
 
 module _ (D : Declared) where
-  laid-before : (n a b : ℕ) (w : Words) → b < a → getD (laidFirsts D a n w) (5184 + b) 0 ≡ getD w (5184 + b) 0
+  laid-before : (n a b : ℕ) (w : Words) → b < a → getD (laidFirsts D a n w) (firstSlot b) 0 ≡ getD w (firstSlot b) 0
   unfolding laidFirsts
   laid-before zero a b w h = refl
   laid-before (suc n) a b w h =
-      laid-before n (suc a) b (set w (5184 + a) (firstOf D a)) (omega arith) ∙ getD-set-other w (5184 + a) (5184 + b) (firstOf D a) 0 (λ e. omega arith)
+      laid-before n (suc a) b (set w (firstSlot a) (firstOf D a)) (omega arith) ∙ getD-set-other w (firstSlot a) (firstSlot b) (firstOf D a) 0 (λ e. omega arith)
 
-  laid-at : (n a b : ℕ) (w : Words) → a ≤ b → b < a + n → 5184 + b < length w → getD (laidFirsts D a n w) (5184 + b) 0 ≡ firstOf D b
+  laid-at : (n a b : ℕ) (w : Words) → a ≤ b → b < a + n → firstSlot b < length w → getD (laidFirsts D a n w) (firstSlot b) 0 ≡ firstOf D b
   unfolding laidFirsts
   laid-at zero a b w l h k = absurd (omega arith)
-  laid-at (suc n) a b w l h k = go (laid-at n (suc a) b (set w (5184 + a) (firstOf D a))) (leb b a) refl
+  laid-at (suc n) a b w l h k = go (laid-at n (suc a) b (set w (firstSlot a) (firstOf D a))) (leb b a) refl
     where
       w₁ : Words
-      w₁ = set w (5184 + a) (firstOf D a)
+      w₁ = set w (firstSlot a) (firstOf D a)
 
-      go : (suc a ≤ b → b < suc a + n → 5184 + b < length w₁ → getD (laidFirsts D (suc a) n w₁) (5184 + b) 0 ≡ firstOf D b)
-          → (t : Bool) → leb b a ≡ t → getD (laidFirsts D (suc a) n w₁) (5184 + b) 0 ≡ firstOf D b
+      go : (suc a ≤ b → b < suc a + n → firstSlot b < length w₁ → getD (laidFirsts D (suc a) n w₁) (firstSlot b) 0 ≡ firstOf D b)
+          → (t : Bool) → leb b a ≡ t → getD (laidFirsts D (suc a) n w₁) (firstSlot b) 0 ≡ firstOf D b
       go ih true e =
           let same : b ≡ a = omega (arith, leb-true b a e) in
-          rw same (laid-before n (suc a) a w₁ (omega arith) ∙ getD-set-same w (5184 + a) (firstOf D a) 0 (omega arith))
-      go ih false e = ih (omega (arith, leb-false b a e)) (omega arith) (omega (arith, length-set w (5184 + a) (firstOf D a)))
+          rw same (laid-before n (suc a) a w₁ (omega arith) ∙ getD-set-same w (firstSlot a) (firstOf D a) 0 (omega arith))
+      go ih false e = ih (omega (arith, leb-false b a e)) (omega arith) (omega (arith, length-set w (firstSlot a) (firstOf D a)))
 
-  pub laid-arrays : (w : Words) → 6144 ≤ length w → ArraysAt (laidArrays D w) D
+  pub laid-arrays : (w : Words) → pathAt ≤ length w → ArraysAt (laidArrays D w) D
   unfolding laidArrays
   laid-arrays w long a l = laid-at 17 0 a w (omega arith) (omega arith) (omega arith)
 
 -- what the line of given values wants of the words
 pub found-declares : {s : Bytes} {at scalars : ℕ} {w w′ : Words} {n end e : ℕ} → (f : ArraysFound s at scalars w w′ n end e)
-    → scalars ≤ 512 → 6144 ≤ length w → (D : Declared) → D .scalars ≡ scalars → D .arrays ≡ f .lengths → Declares D scalars n w′
+    → scalars ≤ 512 → pathAt ≤ length w → (D : Declared) → D .scalars ≡ scalars → D .arrays ≡ f .lengths → Declares D scalars n w′
 unfolding cells
 found-declares {s} {at} {scalars} {w} {w′} {n} {end} {e} f few long D a b =
     let h = arrays-few scalars (lineAt s at) (f .lengths) (lineAt s e) (f .read) in

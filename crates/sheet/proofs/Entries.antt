@@ -5,6 +5,7 @@ use mathlib.Core.Path.{_≡_, refl, _∙_}
 use mathlib.Core.List.{List, [], _∷_}
 use lib.ListN.{length, getD, set, length-set}
 use lib.Seq.{getD-set-same, getD-set-other}
+use Rattle.tables.specs.Layout.{dueSlot, duesAt}
 use Rattle.sheet.specs.declared.stack.Entry.{Entry}
 use Rattle.sheet.specs.Dues.{Due}
 use Rattle.sheet.specs.Tables.{Words}
@@ -19,46 +20,46 @@ module _ (w : Words) (i : ℕ) (e : Entry) where
   entered-length : length (entered w i e) ≡ length w
   entered-length = simp length-set
 
-  entered-other : (j : ℕ) → (j ≡ 5201 + 3 * i → ⊥) → (j ≡ 5201 + 3 * i + 1 → ⊥) → (j ≡ 5201 + 3 * i + 2 → ⊥) → getD (entered w i e) j 0 ≡ getD w j 0
+  entered-other : (j : ℕ) → (j ≡ dueSlot i → ⊥) → (j ≡ dueSlot i + 1 → ⊥) → (j ≡ dueSlot i + 2 → ⊥) → getD (entered w i e) j 0 ≡ getD w j 0
   entered-other j a b c =
-      getD-set-other (set (set w (5201 + 3 * i) (e .sort)) (5201 + 3 * i + 1) (e .room)) (5201 + 3 * i + 2) j (e .scope) 0 c ∙
-      getD-set-other (set w (5201 + 3 * i) (e .sort)) (5201 + 3 * i + 1) j (e .room) 0 b ∙
-      getD-set-other w (5201 + 3 * i) j (e .sort) 0 a
+      getD-set-other (set (set w (dueSlot i) (e .sort)) (dueSlot i + 1) (e .room)) (dueSlot i + 2) j (e .scope) 0 c ∙
+      getD-set-other (set w (dueSlot i) (e .sort)) (dueSlot i + 1) j (e .room) 0 b ∙
+      getD-set-other w (dueSlot i) j (e .sort) 0 a
 
-  module _ (h : 5201 + 3 * i + 2 < length w) where
+  module _ (h : dueSlot i + 2 < length w) where
     entered-at : entryAt (entered w i e) i ≡ e
     entered-at = entry-of e _ _ _ at-sort at-room at-scope
       where
-        at-scope : getD (entered w i e) (5201 + 3 * i + 2) 0 ≡ e .scope
-        at-scope = getD-set-same (set (set w (5201 + 3 * i) (e .sort)) (5201 + 3 * i + 1) (e .room)) (5201 + 3 * i + 2) (e .scope) 0 (simp length-set h)
+        at-scope : getD (entered w i e) (dueSlot i + 2) 0 ≡ e .scope
+        at-scope = getD-set-same (set (set w (dueSlot i) (e .sort)) (dueSlot i + 1) (e .room)) (dueSlot i + 2) (e .scope) 0 (simp length-set h)
 
-        at-room : getD (entered w i e) (5201 + 3 * i + 1) 0 ≡ e .room
+        at-room : getD (entered w i e) (dueSlot i + 1) 0 ≡ e .room
         at-room =
-            getD-set-other (set (set w (5201 + 3 * i) (e .sort)) (5201 + 3 * i + 1) (e .room)) (5201 + 3 * i + 2) (5201 + 3 * i + 1) (e .scope) 0 (λ q. omega arith) ∙
-            getD-set-same (set w (5201 + 3 * i) (e .sort)) (5201 + 3 * i + 1) (e .room) 0 (simp length-set (omega arith))
+            getD-set-other (set (set w (dueSlot i) (e .sort)) (dueSlot i + 1) (e .room)) (dueSlot i + 2) (dueSlot i + 1) (e .scope) 0 (λ q. omega arith) ∙
+            getD-set-same (set w (dueSlot i) (e .sort)) (dueSlot i + 1) (e .room) 0 (simp length-set (omega arith))
 
-        at-sort : getD (entered w i e) (5201 + 3 * i) 0 ≡ e .sort
+        at-sort : getD (entered w i e) (dueSlot i) 0 ≡ e .sort
         at-sort =
-            getD-set-other (set (set w (5201 + 3 * i) (e .sort)) (5201 + 3 * i + 1) (e .room)) (5201 + 3 * i + 2) (5201 + 3 * i) (e .scope) 0 (λ q. omega arith) ∙
-            getD-set-other (set w (5201 + 3 * i) (e .sort)) (5201 + 3 * i + 1) (5201 + 3 * i) (e .room) 0 (λ q. omega arith) ∙
-            getD-set-same w (5201 + 3 * i) (e .sort) 0 (omega arith)
+            getD-set-other (set (set w (dueSlot i) (e .sort)) (dueSlot i + 1) (e .room)) (dueSlot i + 2) (dueSlot i) (e .scope) 0 (λ q. omega arith) ∙
+            getD-set-other (set w (dueSlot i) (e .sort)) (dueSlot i + 1) (dueSlot i) (e .room) 0 (λ q. omega arith) ∙
+            getD-set-same w (dueSlot i) (e .sort) 0 (omega arith)
 
 -- ---- the stack
 
 -- the stack is what stands in its words
-pub stacked-same : (w w′ : Words) (ds : List Due) → ((j : ℕ) → 5201 ≤ j → j < 5201 + 3 * length ds → getD w′ j 0 ≡ getD w j 0) → Stacked w ds → Stacked w′ ds
+pub stacked-same : (w w′ : Words) (ds : List Due) → ((j : ℕ) → duesAt ≤ j → j < dueSlot (length ds) → getD w′ j 0 ≡ getD w j 0) → Stacked w ds → Stacked w′ ds
 unfolding Stacked
 stacked-same w w′ [] h s = tt
 stacked-same w w′ (d ∷ ds) h s = (
   rw (
-    h (5201 + 3 * length ds) (omega arith) (omega arith),
-    h (5201 + 3 * length ds + 1) (omega arith) (omega arith),
-    h (5201 + 3 * length ds + 2) (omega arith) (omega arith),
+    h (dueSlot (length ds)) (omega arith) (omega arith),
+    h (dueSlot (length ds) + 1) (omega arith) (omega arith),
+    h (dueSlot (length ds) + 2) (omega arith) (omega arith),
   ) (s .0),
   stacked-same w w′ ds (λ j a b. h j a (omega arith)) (s .1),
 )
 
-pub stacked-put : (w : Words) (d : Due) (ds : List Due) (n : ℕ) (e : Entry) → length ds ≡ n → 5201 + 3 * n + 2 < length w → Means e d → Stacked w ds → Stacked (entered w n e) (d ∷ ds)
+pub stacked-put : (w : Words) (d : Due) (ds : List Due) (n : ℕ) (e : Entry) → length ds ≡ n → dueSlot n + 2 < length w → Means e d → Stacked w ds → Stacked (entered w n e) (d ∷ ds)
 unfolding Stacked
 stacked-put w d ds n e q h m s = (
   rw (q, entered-at w n e h) m,

@@ -13,6 +13,7 @@ use Rattle.specification.specs.Ast.{Formula}
 use Rattle.specification.specs.Formula.{Locals, formula}
 use Rattle.text.specs.Class.{classAt}
 use Rattle.text.proofs.Laws.Class.{class-next, class-not-next}
+use Rattle.tables.specs.Layout.{pathAt}
 use Rattle.sheet.specs.declared.Token.{Token}
 use Rattle.sheet.specs.declared.formula.Limits.{Limits}
 use Rattle.sheet.specs.declared.formula.Scanned.{Scanned}
@@ -102,7 +103,7 @@ module _ (at : ℕ) {s : Bytes} {l : Limits} {w w′ : Words} {n e : ℕ} (key :
   pub through-long : length w′ ≡ length w
   through-long = p .words .long ∙ tokens-length 0 (p .tokens) w
 
-  pub through-end : classAt s e ≡ 4 → length s ≤ e + 1 → 6144 ≤ length w → (w″ : Words) → w″ ≡ laidEnds 0 (tokensIn w′ 0 n) w′ →
+  pub through-end : classAt s e ≡ 4 → length s ≤ e + 1 → pathAt ≤ length w → (w″ : Words) → w″ ≡ laidEnds 0 (tokensIn w′ 0 n) w′ →
       (D : Declared) → Counts l D → Laid s at D w w″ n
   through-end q h k w″ x D g =
       let ts = p .tokens in

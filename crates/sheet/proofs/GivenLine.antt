@@ -16,6 +16,7 @@ use Rattle.text.specs.Class.{classAt}
 use Rattle.text.proofs.Laws.Class.{class-next, class-not-next}
 use Rattle.values.specs.Word.{signed}
 use Rattle.values.proofs.Laws.Word.{biased-signed}
+use Rattle.tables.specs.Layout.{cellSlot, firstSlot}
 use Rattle.sheet.specs.declared.given.Entry.{Entry}
 use Rattle.sheet.specs.declared.given.Entry.the-variants as entry
 use Rattle.sheet.specs.declared.given.Given.{Given}
@@ -29,10 +30,10 @@ use Rattle.sheet.proofs.GivenItems.{item-cell}
 -- ---- a cell that is laid
 
 abbrev pub stored : ℕ → ℕ → Words → Words
-stored c z w = set (set w (4096 + 2 * c) 1) (4096 + 2 * c + 1) z
+stored c z w = set (set w (cellSlot c) 1) (cellSlot c + 1) z
 
 pub stored-length : (c z : ℕ) (w : Words) → length (stored c z w) ≡ length w
-stored-length c z w = length-set (set w (4096 + 2 * c) 1) (4096 + 2 * c + 1) z ∙ length-set w (4096 + 2 * c) 1
+stored-length c z w = length-set (set w (cellSlot c) 1) (cellSlot c + 1) z ∙ length-set w (cellSlot c) 1
 
 -- the arrays' first cells stay
 stored-declares : {D : Declared} {scalars arrays : ℕ} {w : Words} (c z : ℕ) → c < 512 → Declares D scalars arrays w → Declares D scalars arrays (stored c z w)
@@ -42,8 +43,8 @@ stored-declares {w = w} c z h d = record {
   few = d .few;
   small = d .small;
   held = λ a l.
-      getD-set-other (set w (4096 + 2 * c) 1) (4096 + 2 * c + 1) (5184 + a) z 0 (λ e. omega arith)
-      ∙ getD-set-other w (4096 + 2 * c) (5184 + a) 1 0 (λ e. omega arith) ∙ d .held a l;
+      getD-set-other (set w (cellSlot c) 1) (cellSlot c + 1) (firstSlot a) z 0 (λ e. omega arith)
+      ∙ getD-set-other w (cellSlot c) (firstSlot a) 1 0 (λ e. omega arith) ∙ d .held a l;
 }
 
 -- an item that was read, before those that follow

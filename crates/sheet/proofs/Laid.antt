@@ -7,6 +7,7 @@ use mathlib.Core.Logic.{_≢_}
 use mathlib.Core.List.{List, [], _∷_, _++_}
 use lib.ListN.{length, getD, set, length-set, length-append}
 use lib.Seq.{getD-set-same, getD-set-other}
+use Rattle.tables.specs.Layout.{tokenSlot}
 use Rattle.sheet.specs.declared.Token.{Token}
 use Rattle.sheet.specs.Codes.{token, arity}
 use Rattle.sheet.specs.Tables.{Words, laidTokens, after, laidEnds}
@@ -21,32 +22,32 @@ endOf i t ts = suc i + length ts - length (after ts (arity (t .code)))
 
 module _ (j : ℕ) where
   pub tokens-other : (i : ℕ) (ts : List Token) (w : Words) →
-      ((m : ℕ) → i ≤ m → m < i + length ts → (j ≢ 4 * m) × (j ≢ 4 * m + 1)) → getD (laidTokens i ts w) j 0 ≡ getD w j 0
+      ((m : ℕ) → i ≤ m → m < i + length ts → (j ≢ tokenSlot m) × (j ≢ tokenSlot m + 1)) → getD (laidTokens i ts w) j 0 ≡ getD w j 0
   unfolding laidTokens
   tokens-other i [] w h = refl
   tokens-other i (t ∷ ts) w h =
       let k = h i (omega arith) (omega arith) in
-      tokens-other (suc i) ts (set (set w (4 * i) (t .code)) (4 * i + 1) (t .operand)) (λ m a b. h m (omega arith) (omega arith)) ∙
-      getD-set-other (set w (4 * i) (t .code)) (4 * i + 1) j (t .operand) 0 (k .1) ∙
-      getD-set-other w (4 * i) j (t .code) 0 (k .0)
+      tokens-other (suc i) ts (set (set w (tokenSlot i) (t .code)) (tokenSlot i + 1) (t .operand)) (λ m a b. h m (omega arith) (omega arith)) ∙
+      getD-set-other (set w (tokenSlot i) (t .code)) (tokenSlot i + 1) j (t .operand) 0 (k .1) ∙
+      getD-set-other w (tokenSlot i) j (t .code) 0 (k .0)
 
   pub ends-other : (i : ℕ) (ts : List Token) (w : Words) →
-      ((m : ℕ) → i ≤ m → m < i + length ts → j ≢ 4 * m + 2) → getD (laidEnds i ts w) j 0 ≡ getD w j 0
+      ((m : ℕ) → i ≤ m → m < i + length ts → j ≢ tokenSlot m + 2) → getD (laidEnds i ts w) j 0 ≡ getD w j 0
   unfolding laidEnds
   ends-other i [] w h = refl
   ends-other i (t ∷ ts) w h =
-      ends-other (suc i) ts (set w (4 * i + 2) (endOf i t ts)) (λ m a b. h m (omega arith) (omega arith)) ∙
-      getD-set-other w (4 * i + 2) j (endOf i t ts) 0 (h i (omega arith) (omega arith))
+      ends-other (suc i) ts (set w (tokenSlot i + 2) (endOf i t ts)) (λ m a b. h m (omega arith) (omega arith)) ∙
+      getD-set-other w (tokenSlot i + 2) j (endOf i t ts) 0 (h i (omega arith) (omega arith))
 
 pub tokens-length : (i : ℕ) (ts : List Token) (w : Words) → length (laidTokens i ts w) ≡ length w
 unfolding laidTokens
 tokens-length i [] w = refl
-tokens-length i (t ∷ ts) w = tokens-length (suc i) ts (set (set w (4 * i) (t .code)) (4 * i + 1) (t .operand)) ∙ simp length-set
+tokens-length i (t ∷ ts) w = tokens-length (suc i) ts (set (set w (tokenSlot i) (t .code)) (tokenSlot i + 1) (t .operand)) ∙ simp length-set
 
 pub ends-length : (i : ℕ) (ts : List Token) (w : Words) → length (laidEnds i ts w) ≡ length w
 unfolding laidEnds
 ends-length i [] w = refl
-ends-length i (t ∷ ts) w = ends-length (suc i) ts (set w (4 * i + 2) (endOf i t ts)) ∙ length-set w (4 * i + 2) (endOf i t ts)
+ends-length i (t ∷ ts) w = ends-length (suc i) ts (set w (tokenSlot i + 2) (endOf i t ts)) ∙ length-set w (tokenSlot i + 2) (endOf i t ts)
 
 -- ---- the tokens, one after the other
 
@@ -75,33 +76,33 @@ module _ (w : Words) where
   abbrev Ended : ℕ → Token → List Token → Type 0
   Ended i t ts = endAt w i ≡ endOf i t ts
 
-laid-coded : (i : ℕ) (ts : List Token) (w : Words) → 4 * (i + length ts) ≤ length w → Along (Coded (laidTokens i ts w)) i ts
+laid-coded : (i : ℕ) (ts : List Token) (w : Words) → tokenSlot (i + length ts) ≤ length w → Along (Coded (laidTokens i ts w)) i ts
 unfolding laidTokens Along
 laid-coded i [] w h = tt
 laid-coded i (t ∷ ts) w h = (
   (
-    tokens-other (4 * i) (suc i) ts v (λ m a b. (omega arith, omega arith)) ∙
-        getD-set-other u (4 * i + 1) (4 * i) (t .operand) 0 (omega arith) ∙
-        getD-set-same w (4 * i) (t .code) 0 (omega arith),
-    tokens-other (4 * i + 1) (suc i) ts v (λ m a b. (omega arith, omega arith)) ∙
-        getD-set-same u (4 * i + 1) (t .operand) 0 (simp length-set (omega arith)),
+    tokens-other (tokenSlot i) (suc i) ts v (λ m a b. (omega arith, omega arith)) ∙
+        getD-set-other u (tokenSlot i + 1) (tokenSlot i) (t .operand) 0 (omega arith) ∙
+        getD-set-same w (tokenSlot i) (t .code) 0 (omega arith),
+    tokens-other (tokenSlot i + 1) (suc i) ts v (λ m a b. (omega arith, omega arith)) ∙
+        getD-set-same u (tokenSlot i + 1) (t .operand) 0 (simp length-set (omega arith)),
   ),
   laid-coded (suc i) ts v (simp length-set (omega arith)),
 )
   where
     u : Words
-    u = set w (4 * i) (t .code)
+    u = set w (tokenSlot i) (t .code)
 
     v : Words
-    v = set u (4 * i + 1) (t .operand)
+    v = set u (tokenSlot i + 1) (t .operand)
 
-laid-ended : (i : ℕ) (ts : List Token) (w : Words) → 4 * (i + length ts) ≤ length w → Along (Ended (laidEnds i ts w)) i ts
+laid-ended : (i : ℕ) (ts : List Token) (w : Words) → tokenSlot (i + length ts) ≤ length w → Along (Ended (laidEnds i ts w)) i ts
 unfolding laidEnds Along
 laid-ended i [] w h = tt
 laid-ended i (t ∷ ts) w h = (
-  ends-other (4 * i + 2) (suc i) ts (set w (4 * i + 2) (endOf i t ts)) (λ m a b. omega arith) ∙
-      getD-set-same w (4 * i + 2) (endOf i t ts) 0 (omega arith),
-  laid-ended (suc i) ts (set w (4 * i + 2) (endOf i t ts)) (simp length-set (omega arith)),
+  ends-other (tokenSlot i + 2) (suc i) ts (set w (tokenSlot i + 2) (endOf i t ts)) (λ m a b. omega arith) ∙
+      getD-set-same w (tokenSlot i + 2) (endOf i t ts) 0 (omega arith),
+  laid-ended (suc i) ts (set w (tokenSlot i + 2) (endOf i t ts)) (simp length-set (omega arith)),
 )
 
 -- the ends are written beside codes and operands
@@ -109,11 +110,11 @@ ends-beside : (k : ℕ) (us : List Token) (w : Words) (i : ℕ) (ts : List Token
 unfolding Along
 ends-beside k us w i [] c = tt
 ends-beside k us w i (t ∷ ts) c = (
-  (ends-other (4 * i) k us w (λ m a b. omega arith) ∙ c .0 .0, ends-other (4 * i + 1) k us w (λ m a b. omega arith) ∙ c .0 .1),
+  (ends-other (tokenSlot i) k us w (λ m a b. omega arith) ∙ c .0 .0, ends-other (tokenSlot i + 1) k us w (λ m a b. omega arith) ∙ c .0 .1),
   ends-beside k us w (suc i) ts (c .1),
 )
 
-pub laid : (ts : List Token) (w : Words) → 4 * length ts ≤ length w →
+pub laid : (ts : List Token) (w : Words) → tokenSlot (length ts) ≤ length w →
     Along (Entry (laidEnds 0 ts (laidTokens 0 ts w))) 0 ts
 laid ts w h =
     along-both (λ i t us c e. record { code = c .0; operand = c .1; end = e }) 0 ts

@@ -16,6 +16,7 @@ use Rattle.specification.specs.Sheet.{Sheet, sheet, opened, read}
 use Rattle.specification.specs.Outcome.{start}
 use Rattle.specification.proofs.Laws.Parser.{Post, refusal, holds, of-found, bind-post, after, require-post, present-post, choose-post, pick-post}
 use Rattle.specification.proofs.Laws.ReadSheet.{read-well-formed}
+use Rattle.tables.specs.Layout.{pathAt}
 use Rattle.sheet.specs.Tables.{tables}
 use Rattle.sheet.specs.Held.{FormulaAt, Holds, ArraysAt}
 use Rattle.sheet.specs.Numbered.{formulaSize, Numbered}
@@ -156,7 +157,7 @@ pub record Ready (s : Sheet) (n : ℕ) : Type 0 where
   pub values : Holds (tables s n) (start (s .given))
   pub arrays : ArraysAt (tables s n) (s .declared)
 
-pub read-ready : (b : Bytes) (s : Sheet) (r : Reader) (n : ℕ) → read b ≡ found s r → 6144 ≤ n → Ready s n
+pub read-ready : (b : Bytes) (s : Sheet) (r : Reader) (n : ℕ) → read b ≡ found s r → pathAt ≤ n → Ready s n
 read-ready b s r n e h =
     let c = read-counts b s r e in
     let ok = read-well-formed b s r e in

@@ -20,6 +20,7 @@ use Rattle.specification.specs.Outcome.{start}
 use Rattle.specification.proofs.Laws.Lists.{each-map}
 use Rattle.specification.proofs.Laws.ReadGiven.{rising-above}
 use Rattle.values.specs.Word.{biased}
+use Rattle.tables.specs.Layout.{cellSlot, firstSlot, localsAt}
 use Rattle.sheet.specs.Tables.{Words, laidFirsts, laidGiven}
 
 pub zeros : (n j : ℕ) → _≡_ {A = ℕ} (getD (replicate n 0) j 0) 0
@@ -33,50 +34,50 @@ module _ (D : Declared) where
   pub firsts-length : (a n : ℕ) (w : Words) → length (laidFirsts D a n w) ≡ length w
   unfolding laidFirsts
   firsts-length a zero w = refl
-  firsts-length a (suc n) w = firsts-length (suc a) n (set w (5184 + a) (firstOf D a)) ∙ length-set w (5184 + a) (firstOf D a)
+  firsts-length a (suc n) w = firsts-length (suc a) n (set w (firstSlot a) (firstOf D a)) ∙ length-set w (firstSlot a) (firstOf D a)
 
-  pub firsts-other : (j a n : ℕ) (w : Words) → ((m : ℕ) → a ≤ m → m < a + n → j ≢ 5184 + m) → getD (laidFirsts D a n w) j 0 ≡ getD w j 0
+  pub firsts-other : (j a n : ℕ) (w : Words) → ((m : ℕ) → a ≤ m → m < a + n → j ≢ firstSlot m) → getD (laidFirsts D a n w) j 0 ≡ getD w j 0
   unfolding laidFirsts
   firsts-other j a zero w h = refl
   firsts-other j a (suc n) w h =
-      firsts-other j (suc a) n (set w (5184 + a) (firstOf D a)) (λ m x y. h m (omega arith) (omega arith)) ∙
-      getD-set-other w (5184 + a) j (firstOf D a) 0 (h a (omega arith) (omega arith))
+      firsts-other j (suc a) n (set w (firstSlot a) (firstOf D a)) (λ m x y. h m (omega arith) (omega arith)) ∙
+      getD-set-other w (firstSlot a) j (firstOf D a) 0 (h a (omega arith) (omega arith))
 
-  pub firsts-at : (m a n : ℕ) (w : Words) → a ≤ m → m < a + n → 5184 + (a + n) ≤ length w →
-      getD (laidFirsts D a n w) (5184 + m) 0 ≡ firstOf D m
+  pub firsts-at : (m a n : ℕ) (w : Words) → a ≤ m → m < a + n → firstSlot (a + n) ≤ length w →
+      getD (laidFirsts D a n w) (firstSlot m) 0 ≡ firstOf D m
   unfolding laidFirsts
   firsts-at m a zero w x y h = absurd (omega arith)
   firsts-at m a (suc n) w x y h = go (eqb a m) refl (firsts-at m (suc a) n v)
     where
       v : Words
-      v = set w (5184 + a) (firstOf D a)
+      v = set w (firstSlot a) (firstOf D a)
 
       go : (b : Bool) → eqb a m ≡ b →
-          (suc a ≤ m → m < suc a + n → 5184 + (suc a + n) ≤ length v → getD (laidFirsts D (suc a) n v) (5184 + m) 0 ≡ firstOf D m) →
-          getD (laidFirsts D (suc a) n v) (5184 + m) 0 ≡ firstOf D m
+          (suc a ≤ m → m < suc a + n → firstSlot (suc a + n) ≤ length v → getD (laidFirsts D (suc a) n v) (firstSlot m) 0 ≡ firstOf D m) →
+          getD (laidFirsts D (suc a) n v) (firstSlot m) 0 ≡ firstOf D m
       go true e ih =
           let f = eqb-true a m e in
-          firsts-other (5184 + m) (suc a) n v (λ k p q. omega arith) ∙
-          ap (λ i. getD v (5184 + i) 0) (sym f) ∙
-          getD-set-same w (5184 + a) (firstOf D a) 0 (omega arith) ∙
+          firsts-other (firstSlot m) (suc a) n v (λ k p q. omega arith) ∙
+          ap (λ i. getD v (firstSlot i) 0) (sym f) ∙
+          getD-set-same w (firstSlot a) (firstOf D a) 0 (omega arith) ∙
           ap (firstOf D) f
-      go false e ih = let d = eqb-false a m e in ih (omega arith) (omega arith) (rw (length-set w (5184 + a) (firstOf D a)) (omega arith))
+      go false e ih = let d = eqb-false a m e in ih (omega arith) (omega arith) (rw (length-set w (firstSlot a) (firstOf D a)) (omega arith))
 
 -- ---- given values
 
 -- one given value
 abbrev gave : Item → Words → Words
-gave i w = set (set w (4096 + 2 * i .cell) 1) (4096 + 2 * i .cell + 1) (biased (i .value))
+gave i w = set (set w (cellSlot (i .cell)) 1) (cellSlot (i .cell) + 1) (biased (i .value))
 
 abbrev Beside : ℕ → Item → Type 0
-Beside j i = (j ≢ 4096 + 2 * i .cell) × (j ≢ 4096 + 2 * i .cell + 1)
+Beside j i = (j ≢ cellSlot (i .cell)) × (j ≢ cellSlot (i .cell) + 1)
 
 gave-length : (i : Item) (w : Words) → length (gave i w) ≡ length w
 gave-length i w = simp length-set
 
 gave-other : (j : ℕ) (i : Item) (w : Words) → Beside j i → getD (gave i w) j 0 ≡ getD w j 0
 gave-other j i w h =
-    let k = 4096 + 2 * i .cell in
+    let k = cellSlot (i .cell) in
     getD-set-other (set w k 1) (k + 1) j (biased (i .value)) 0 (h .1) ∙ getD-set-other w k j 1 0 (h .0)
 
 pub given-length : (is : List Item) (w : Words) → length (laidGiven is w) ≡ length w
@@ -100,17 +101,17 @@ wordOf (full z) = biased z
 
 module _ (c : ℕ) where
   abbrev pub CellWords : Words → Slot → Type 0
-  CellWords w s = (getD w (4096 + 2 * c) 0 ≡ isFull s) × (getD w (4096 + 2 * c + 1) 0 ≡ wordOf s)
+  CellWords w s = (getD w (cellSlot c) 0 ≡ isFull s) × (getD w (cellSlot c + 1) 0 ≡ wordOf s)
 
-  gave-at : (i : Item) (w : Words) → c ≡ i .cell → c < 512 → 5120 ≤ length w → CellWords (gave i w) (full (i .value))
+  gave-at : (i : Item) (w : Words) → c ≡ i .cell → c < 512 → localsAt ≤ length w → CellWords (gave i w) (full (i .value))
   gave-at i w e l h = rw e
-      (let k = 4096 + 2 * i .cell in (
+      (let k = cellSlot (i .cell) in (
         getD-set-other (set w k 1) (k + 1) k (biased (i .value)) 0 (omega arith) ∙ getD-set-same w k 1 0 (omega arith),
         getD-set-same (set w k 1) (k + 1) (biased (i .value)) 0 (rw (length-set w k 1) (omega arith)),
       ))
 
   -- the words of each cell, where each is given once and had no words before
-  pub given-at : (floor : ℕ) (is : List Item) (w : Words) → Rising floor is → c < 512 → 5120 ≤ length w → CellWords w empty →
+  pub given-at : (floor : ℕ) (is : List Item) (w : Words) → Rising floor is → c < 512 → localsAt ≤ length w → CellWords w empty →
       CellWords (laidGiven is w) (start is (cell c))
   unfolding laidGiven start put Rising
   given-at floor [] w r l h x = x
@@ -122,11 +123,11 @@ module _ (c : ℕ) where
           let f = eqb-true c (i .cell) e in
           let g = gave-at i w f l h in
           let a = rising-above (suc (i .cell)) is (r .1) in (
-            given-other (4096 + 2 * c) is (gave i w) (each-map (λ k above. (omega arith, omega arith)) is a) ∙ g .0,
-            given-other (4096 + 2 * c + 1) is (gave i w) (each-map (λ k above. (omega arith, omega arith)) is a) ∙ g .1,
+            given-other (cellSlot c) is (gave i w) (each-map (λ k above. (omega arith, omega arith)) is a) ∙ g .0,
+            given-other (cellSlot c + 1) is (gave i w) (each-map (λ k above. (omega arith, omega arith)) is a) ∙ g .1,
           )
       go false e ih =
           let d = eqb-false c (i .cell) e in
-          let still = gave-other (4096 + 2 * c) i w (omega arith, omega arith) in
-          let after = gave-other (4096 + 2 * c + 1) i w (omega arith, omega arith) in
+          let still = gave-other (cellSlot c) i w (omega arith, omega arith) in
+          let after = gave-other (cellSlot c + 1) i w (omega arith, omega arith) in
           ih (still ∙ x .0, after ∙ x .1)

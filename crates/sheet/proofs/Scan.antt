@@ -15,6 +15,7 @@ use Rattle.specification.specs.Formula.{Locals}
 use Rattle.text.specs.Class.{classAt}
 use Rattle.text.proofs.Laws.Class.{class-next, class-not-next, class-inside}
 use Rattle.text.proofs.Laws.Run.{end-le, end-part}
+use Rattle.tables.specs.Layout.{tokenSlot, duesAt, pathAt}
 use Rattle.sheet.specs.declared.Token.{Token}
 use Rattle.sheet.specs.declared.stack.Entry.{Entry}
 use Rattle.sheet.specs.declared.formula.Limits.{Limits}
@@ -73,7 +74,7 @@ module _ (s : Bytes) (from : ℕ) (l : Limits) (w₀ w : Words) (n count bound a
 
 -- ---- the start
 
-pub reading-start : (s : Bytes) (from : ℕ) (l : Limits) (w : Words) → from ≤ length s → 6144 ≤ length w →
+pub reading-start : (s : Bytes) (from : ℕ) (l : Limits) (w : Words) → from ≤ length s → pathAt ≤ length w →
     Reading s from l (entered w 0 (entry 0 64 0)) (entered w 0 (entry 0 64 0)) 1 0 0 from
 unfolding laidTokens Stacked
 reading-start s from l w h k = record {
@@ -121,7 +122,7 @@ pub record May (e : Entry) (t : Token) (n count : ℕ) : Type 0 where
 
 -- the token at a place, with k its refusal
 module _ {s : Bytes} {from : ℕ} {l : Limits} {w₀ w : Words} {n count bound at : ℕ} (i : Reading s from l w₀ w n count bound at)
-    (small : Small l) (wide : 6144 ≤ length w₀) (e : ℕ) (is : e ≡ at + length (run inToken (drop at s)))
+    (small : Small l) (wide : pathAt ≤ length w₀) (e : ℕ) (is : e ≡ at + length (run inToken (drop at s)))
     (en : Entry) (top : en ≡ entryAt w (n - 1)) (t : Token) (spelt : t ≡ tokenOf (wordOf (l .edition) (take (e - at) (drop at s))))
     (k : ℕ) (judged : Refuses l en bound count t k) where
   means : Means en (i .due)
@@ -169,8 +170,8 @@ module _ {s : Bytes} {from : ℕ} {l : Limits} {w₀ w : Words} {n count bound a
           let ds = i .dues in
           let q : length ds ≡ n - 1 = omega (arith, i .depth) in
           let c : count < 1024 = standing .number in
-          let wide′ : 6144 ≤ length w = omega (arith, i .long) in
-          let laid : 4 * count + 1 < length (laidTokens 0 (i .read) w₀) = rw tokens-length (omega arith) in
+          let wide′ : pathAt ≤ length w = omega (arith, i .long) in
+          let laid : tokenSlot count + 1 < length (laidTokens 0 (i .read) w₀) = rw tokens-length (omega arith) in
           record {
             locals = binds d t (i .locals);
             dues = opens d t ++ ds;
@@ -188,10 +189,10 @@ module _ {s : Bytes} {from : ℕ} {l : Limits} {w₀ w : Words} {n count bound a
                 i .rest D g ∙ turn-taken D (g .limited) d ds (i .read) here (fault-here D g ∙ z) ∙ rw (behind-here D g, token-here D g);
           }
         where
-          other : (j : ℕ) → 5201 ≤ j → getD (stored w count t) j 0 ≡ getD w j 0
+          other : (j : ℕ) → duesAt ≤ j → getD (stored w count t) j 0 ≡ getD w j 0
           other j a =
-              getD-set-other (set w (4 * count) (t .code)) (4 * count + 1) j (t .operand) 0 (λ r. omega (arith, standing .number)) ∙
-              getD-set-other w (4 * count) j (t .code) 0 (λ r. omega (arith, standing .number))
+              getD-set-other (set w (tokenSlot count) (t .code)) (tokenSlot count + 1) j (t .operand) 0 (λ r. omega (arith, standing .number)) ∙
+              getD-set-other w (tokenSlot count) j (t .code) 0 (λ r. omega (arith, standing .number))
 
 -- ---- behind a token
 
@@ -246,7 +247,7 @@ module _ {s : Bytes} {from : ℕ} {l : Limits} {w₀ w : Words} {n count bound e
         }
 
 -- the words before the first entry was put
-pub through-start : {s : Bytes} {from : ℕ} {l : Limits} {w₀ w w′ : Words} {n e : ℕ} → w₀ ≡ entered w 0 (entry 0 64 0) → 6144 ≤ length w →
+pub through-start : {s : Bytes} {from : ℕ} {l : Limits} {w₀ w w′ : Words} {n e : ℕ} → w₀ ≡ entered w 0 (entry 0 64 0) → pathAt ≤ length w →
     Through s from l w₀ w′ n e → Through s from l w w′ n e
 through-start {w = w} q h p =
     let b = beside-put w 0 (entry 0 64 0) (omega arith) in

@@ -18,6 +18,7 @@ use Rattle.specification.specs.Sheet.{Sheet, sheet, read}
 use Rattle.specification.proofs.Laws.Parser.{Post, holds, of-found, bind-post, after}
 use Rattle.specification.proofs.Laws.ReadLines.{line-post}
 use Rattle.specification.proofs.Laws.ReadSheet.{read-well-formed}
+use Rattle.tables.specs.Layout.{duesAt, duesEnd, pathAt}
 use Rattle.sheet.specs.declared.lines.Count.{Count}
 use Rattle.sheet.specs.declared.lines.Count.the-variants as count
 use Rattle.sheet.specs.declared.arrays.Arrays.{Arrays}
@@ -186,7 +187,7 @@ module _ (s : Bytes) where
     pub arrays-refused : (k p : ℕ) → arraysLine (H .scalars) (lineAt s a) ≡ refused k p → sheet (lineAt s 0) ≡ refused k p
     arrays-refused k p e = arrays-then ∙ ap (andThen (λ ns. fromGiven (declaring H ns))) e
 
-    module _ {w w₁ : Words} {n end c : ℕ} (long : 6144 ≤ length w) (f : ArraysFound s a (H .scalars) w w₁ n end c) where
+    module _ {w w₁ : Words} {n end c : ℕ} (long : pathAt ≤ length w) (f : ArraysFound s a (H .scalars) w w₁ n end c) where
       abbrev D : Declared
       D = declaring H (f .lengths)
 
@@ -314,7 +315,7 @@ module _ (s : Bytes) where
   unfolding read
   words-no n k p e = sym (ap (wordsOf n) e)
 
-  module _ {n : ℕ} {w₂ : Words} {u v : ℕ} (long : 6144 ≤ n) (f : SheetFound (sheet (lineAt s 0)) (withArrays (replicate n 0)) w₂ u v) where
+  module _ {n : ℕ} {w₂ : Words} {u v : ℕ} (long : pathAt ≤ n) (f : SheetFound (sheet (lineAt s 0)) (withArrays (replicate n 0)) w₂ u v) where
     is : read s ≡ found (f .sheet) (f .after)
     unfolding read
     is = f .is
@@ -326,19 +327,19 @@ module _ (s : Bytes) where
     unfolding tables
     beside = f .words
 
-    zero-there : (j : ℕ) → 5201 ≤ j → getD T j 0 ≡ 0
+    zero-there : (j : ℕ) → duesAt ≤ j → getD T j 0 ≡ 0
     zero-there j h = rest-zero (f .sheet) n long (read-counts s (f .sheet) (f .after) is .1) (read-well-formed s (f .sheet) (f .after) is) j h
 
     pub read-yes : reading.Read u v ≡ readingOf (read s)
     read-yes = rw (is, f .many, f .count)
 
-    pub words-yes : (w₃ : Words) → Zeroed w₂ w₃ 5201 5588 → w₃ ≡ wordsOf n (read s)
-    words-yes w₃ z = ext-getD 0 w₃ T (z .long ∙ beside .long) (λ j h. at j (ltb j 5201) refl (ltb j 5588) refl) ∙ sym (ap (wordsOf n) is)
+    pub words-yes : (w₃ : Words) → Zeroed w₂ w₃ duesAt duesEnd → w₃ ≡ wordsOf n (read s)
+    words-yes w₃ z = ext-getD 0 w₃ T (z .long ∙ beside .long) (λ j h. at j (ltb j duesAt) refl (ltb j duesEnd) refl) ∙ sym (ap (wordsOf n) is)
       where
-        at : (j : ℕ) (a : Bool) → ltb j 5201 ≡ a → (b : Bool) → ltb j 5588 ≡ b → getD w₃ j 0 ≡ getD T j 0
-        at j true e b d = z .below j (ltb-true j 5201 e) ∙ beside .below j (ltb-true j 5201 e)
-        at j false e true d = z .inside j (ltb-false j 5201 e) (ltb-true j 5588 d) ∙ sym (zero-there j (ltb-false j 5201 e))
-        at j false e false d = z .above j (ltb-false j 5588 d) ∙ beside .above j (ltb-false j 5588 d)
+        at : (j : ℕ) (a : Bool) → ltb j duesAt ≡ a → (b : Bool) → ltb j duesEnd ≡ b → getD w₃ j 0 ≡ getD T j 0
+        at j true e b d = z .below j (ltb-true j duesAt e) ∙ beside .below j (ltb-true j duesAt e)
+        at j false e true d = z .inside j (ltb-false j duesAt e) (ltb-true j duesEnd d) ∙ sym (zero-there j (ltb-false j duesAt e))
+        at j false e false d = z .above j (ltb-false j duesEnd d) ∙ beside .above j (ltb-false j duesEnd d)
 
 -- from the answers of the code: the words w are cleared to w₁, read into as w₂, and left as w₃
 module _ (s : Bytes) (w w₁ w₂ w₃ : Words) (r : Reading) (cleared : w₁ ≡ replicate (length w) 0)
@@ -351,7 +352,7 @@ module _ (s : Bytes) (w w₁ w₂ w₃ : Words) (r : Reading) (cleared : w₁ �
       let x = sheet-no (sheet (lineAt s 0)) (withArrays w₁) (length w₁) w₂ r d k p q in
       (read-no s k p (x .0), e ∙ ap (λ n. replicate n 0) (x .1 ∙ same-long) ∙ words-no s (length w) k p (x .0))
 
-  pub found-whole : 6144 ≤ length w → Zeroed w₂ w₃ 5201 5588 → (u v : ℕ) → r ≡ reading.Read u v → (reading.Read u v ≡ readingOf (read s)) × (w₃ ≡ wordsOf (length w) (read s))
+  pub found-whole : pathAt ≤ length w → Zeroed w₂ w₃ duesAt duesEnd → (u v : ℕ) → r ≡ reading.Read u v → (reading.Read u v ≡ readingOf (read s)) × (w₃ ≡ wordsOf (length w) (read s))
   found-whole h z u v q =
       let x : SheetFound (sheet (lineAt s 0)) (withArrays (replicate (length w) 0)) w₂ u v = rw (sym cleared) (sheet-yes (sheet (lineAt s 0)) (withArrays w₁) (length w₁) w₂ r d u v q) in
       (read-yes s h x, words-yes s h x w₃ z)

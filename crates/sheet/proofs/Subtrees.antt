@@ -11,6 +11,7 @@ use lib.Seq.{drop-cons, drop-drop, getD-set-same, getD-set-other, set-comm}
 use lib.Dec.{ltb}
 use borrow.Author.Tests.{ne-eqb, ltb-true, ltb-false}
 use Rattle.specification.specs.Bytes.{pick}
+use Rattle.tables.specs.Layout.{tokenSlot, pathAt}
 use Rattle.sheet.specs.declared.Token.{Token}
 use Rattle.sheet.specs.Codes.{token, arity}
 use Rattle.sheet.specs.Tables.{Words, laidTokens, after, laidEnds}
@@ -85,24 +86,24 @@ tokens-in-same w w′ i (suc n) h =
     rw (k .0, k .1, tokens-in-same w w′ (suc i) n (λ j a b. h j (omega arith) (omega arith)))
 
 -- those that were laid
-laid-tokens-in : (ts : List Token) (i : ℕ) (w : Words) → 4 * (i + length ts) ≤ length w → tokensIn (laidTokens i ts w) i (length ts) ≡ ts
+laid-tokens-in : (ts : List Token) (i : ℕ) (w : Words) → tokenSlot (i + length ts) ≤ length w → tokensIn (laidTokens i ts w) i (length ts) ≡ ts
 unfolding tokensIn laidTokens
 laid-tokens-in [] i w h = refl
 laid-tokens-in (t ∷ ts) i w h =
-    let u = set w (4 * i) (t .code) in
-    let v = set u (4 * i + 1) (t .operand) in
+    let u = set w (tokenSlot i) (t .code) in
+    let v = set u (tokenSlot i + 1) (t .operand) in
     let a : codeAt (laidTokens (suc i) ts v) i ≡ t .code =
-    tokens-other (4 * i) (suc i) ts v (λ m a b. (omega arith, omega arith)) ∙ getD-set-other u (4 * i + 1) (4 * i) (t .operand) 0 (λ q. omega arith) ∙
-    getD-set-same w (4 * i) (t .code) 0 (omega arith) in
+    tokens-other (tokenSlot i) (suc i) ts v (λ m a b. (omega arith, omega arith)) ∙ getD-set-other u (tokenSlot i + 1) (tokenSlot i) (t .operand) 0 (λ q. omega arith) ∙
+    getD-set-same w (tokenSlot i) (t .code) 0 (omega arith) in
     let b : operandAt (laidTokens (suc i) ts v) i ≡ t .operand =
-    tokens-other (4 * i + 1) (suc i) ts v (λ m a b. (omega arith, omega arith)) ∙
-    getD-set-same u (4 * i + 1) (t .operand) 0 (simp length-set (omega arith)) in
+    tokens-other (tokenSlot i + 1) (suc i) ts v (λ m a b. (omega arith, omega arith)) ∙
+    getD-set-same u (tokenSlot i + 1) (t .operand) 0 (simp length-set (omega arith)) in
     rw (a, b, laid-tokens-in ts (suc i) v (simp length-set (omega arith)))
 
 -- also with the stack beside them
-pub beside-tokens-in : (ts : List Token) (w w′ : Words) → length ts ≤ 1024 → 6144 ≤ length w → Beside (laidTokens 0 ts w) w′ → tokensIn w′ 0 (length ts) ≡ ts
+pub beside-tokens-in : (ts : List Token) (w w′ : Words) → length ts ≤ 1024 → pathAt ≤ length w → Beside (laidTokens 0 ts w) w′ → tokensIn w′ 0 (length ts) ≡ ts
 beside-tokens-in ts w w′ h l b =
-    tokens-in-same (laidTokens 0 ts w) w′ 0 (length ts) (λ j p q. (b .below (4 * j) (omega arith), b .below (4 * j + 1) (omega arith))) ∙
+    tokens-in-same (laidTokens 0 ts w) w′ 0 (length ts) (λ j p q. (b .below (tokenSlot j) (omega arith), b .below (tokenSlot j + 1) (omega arith))) ∙
     laid-tokens-in ts 0 w (omega arith)
 
 -- ---- one subtree
@@ -188,27 +189,27 @@ module _ (w : Words) (n : ℕ) where
 -- ---- all of them
 
 ends-in : (k : ℕ) (us : List Token) (w : Words) (n : ℕ) → tokensIn (laidEnds k us w) 0 n ≡ tokensIn w 0 n
-ends-in k us w n = tokens-in-same w (laidEnds k us w) 0 n (λ j a b. (ends-other (4 * j) k us w (λ m p q. omega arith), ends-other (4 * j + 1) k us w (λ m p q. omega arith)))
+ends-in k us w n = tokens-in-same w (laidEnds k us w) 0 n (λ j a b. (ends-other (tokenSlot j) k us w (λ m p q. omega arith), ends-other (tokenSlot j + 1) k us w (λ m p q. omega arith)))
 
-ends-set : (ts : List Token) (k j v : ℕ) (w : Words) → j < k → laidEnds k ts (set w (4 * j + 2) v) ≡ set (laidEnds k ts w) (4 * j + 2) v
+ends-set : (ts : List Token) (k j v : ℕ) (w : Words) → j < k → laidEnds k ts (set w (tokenSlot j + 2) v) ≡ set (laidEnds k ts w) (tokenSlot j + 2) v
 unfolding laidEnds
 ends-set [] k j v w h = refl
 ends-set (t ∷ ts) k j v w h =
     let x = suc k + length ts - length (after ts (arity (t .code))) in
-    rw (set-comm w (4 * j + 2) (4 * k + 2) v x (λ q. omega arith)) (ends-set ts (suc k) j v (set w (4 * k + 2) x) (omega arith))
+    rw (set-comm w (tokenSlot j + 2) (tokenSlot k + 2) v x (λ q. omega arith)) (ends-set ts (suc k) j v (set w (tokenSlot k + 2) x) (omega arith))
 
-ends-at : (ts : List Token) (i j : ℕ) (w : Words) → i ≤ j → j < i + length ts → 4 * (i + length ts) ≤ length w →
+ends-at : (ts : List Token) (i j : ℕ) (w : Words) → i ≤ j → j < i + length ts → tokenSlot (i + length ts) ≤ length w →
     endAt (laidEnds i ts w) j ≡ i + length ts - length (after (drop (j - i) ts) 1)
 unfolding laidEnds
 ends-at [] i j w a b h = absurd (omega arith)
 ends-at (t ∷ ts) i j w a b h =
-    by (ltb i j) refl (λ l. ends-at ts (suc i) j (set w (4 * i + 2) x) l (omega arith) (simp length-set (omega arith)))
+    by (ltb i j) refl (λ l. ends-at ts (suc i) j (set w (tokenSlot i + 2) x) l (omega arith) (simp length-set (omega arith)))
   where
     x : ℕ
     x = suc i + length ts - length (after ts (arity (t .code)))
 
     next : Words
-    next = laidEnds (suc i) ts (set w (4 * i + 2) x)
+    next = laidEnds (suc i) ts (set w (tokenSlot i + 2) x)
 
     q : i + suc (length ts) ≡ suc i + length ts
     q = omega arith
@@ -220,10 +221,10 @@ ends-at (t ∷ ts) i j w a b h =
         let l : j ≡ i = omega (arith, ltb-false i j f) in
         let e : i - i ≡ 0 = omega arith in
         rw (l, e, q, after-cons t ts)
-        (ends-other (4 * i + 2) (suc i) ts (set w (4 * i + 2) x) (λ m p r. omega arith) ∙ getD-set-same w (4 * i + 2) x 0 (omega arith))
+        (ends-other (tokenSlot i + 2) (suc i) ts (set w (tokenSlot i + 2) x) (λ m p r. omega arith) ∙ getD-set-same w (tokenSlot i + 2) x 0 (omega arith))
 
 -- one more, before the others
-ends-step : (k : ℕ) (t : Token) (us : List Token) (w : Words) → laidEnds k (t ∷ us) w ≡ set (laidEnds (suc k) us w) (4 * k + 2) (suc k + length us - length (after us (arity (t .code))))
+ends-step : (k : ℕ) (t : Token) (us : List Token) (w : Words) → laidEnds k (t ∷ us) w ≡ set (laidEnds (suc k) us w) (tokenSlot k + 2) (suc k + length us - length (after us (arity (t .code))))
 unfolding laidEnds
 ends-step k t us w = ends-set us (suc k) k (suc k + length us - length (after us (arity (t .code)))) w (omega arith)
 
@@ -242,7 +243,7 @@ module _ (w : Words) (n i : ℕ) (w′ : Words) (is : w′ ≡ laidFrom w n i) (
   same-tokens : tokensIn w′ 0 n ≡ all
   same-tokens = ap (λ x. tokensIn x 0 n) is ∙ ends-in i (drop i all) w n
 
-  pub from-ends : n ≤ 1024 → 6144 ≤ length w → EndsAfter w′ n (i - 1)
+  pub from-ends : n ≤ 1024 → pathAt ≤ length w → EndsAfter w′ n (i - 1)
   unfolding endIn
   from-ends h l j p q =
       let d : length (drop i all) ≡ n - i = length-drop i all ∙ rw tokens-in-length in
@@ -251,11 +252,11 @@ module _ (w : Words) (n i : ℕ) (w′ : Words) (is : w′ ≡ laidFrom w n i) (
       ap (λ x. endAt x j) is ∙ ends-at (drop i all) i j w (omega arith) (omega arith) (omega arith) ∙
       rw (e, drop-drop, f, same-tokens, tokens-in-length)
 
-  pub from-more : (v : ℕ) → v ≡ endIn (tokensIn w′ 0 n) (i - 1) → set w′ (4 * (i - 1) + 2) v ≡ laidFrom w n (i - 1)
+  pub from-more : (v : ℕ) → v ≡ endIn (tokensIn w′ 0 n) (i - 1) → set w′ (tokenSlot (i - 1) + 2) v ≡ laidFrom w n (i - 1)
   unfolding endIn
   from-more v q = by (i - 1) (omega arith) (q ∙ rw same-tokens)
     where
-      by : (k : ℕ) → i ≡ suc k → v ≡ length all - length (after (drop k all) 1) → set w′ (4 * k + 2) v ≡ laidFrom w n k
+      by : (k : ℕ) → i ≡ suc k → v ≡ length all - length (after (drop k all) 1) → set w′ (tokenSlot k + 2) v ≡ laidFrom w n k
       by k e f =
           let b : k < length all = rw tokens-in-length (omega arith) in
           let us = drop (suc k) all in
@@ -263,5 +264,5 @@ module _ (w : Words) (n i : ℕ) (w′ : Words) (is : w′ ≡ laidFrom w n i) (
           let g : suc k + length us ≡ length all = omega (arith, length-drop (suc k) all) in
           let x : v ≡ suc k + length us - length (after us (arity (t .code))) =
           f ∙ ap (λ xs. length all - length xs) (after-one all k b) ∙ ap (λ (y : ℕ). y - length (after us (arity (t .code)))) (sym g) in
-          ap (λ y. set y (4 * k + 2) v) (is ∙ ap (laidFrom w n) e) ∙ ap (set (laidEnds (suc k) us w) (4 * k + 2)) x ∙
+          ap (λ y. set y (tokenSlot k + 2) v) (is ∙ ap (laidFrom w n) e) ∙ ap (set (laidEnds (suc k) us w) (tokenSlot k + 2)) x ∙
           sym (ap (λ xs. laidEnds k xs w) (drop-cons all k none b) ∙ ends-step k t us w)

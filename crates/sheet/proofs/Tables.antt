@@ -14,6 +14,7 @@ use Rattle.specification.specs.WellFormed.{WellFormed}
 use Rattle.specification.specs.Outcome.{start}
 use Rattle.specification.proofs.Laws.Lists.{each-map}
 use Rattle.specification.proofs.Laws.Start.{start-local}
+use Rattle.tables.specs.Layout.{cellSlot, localSlot, firstSlot, tokenSlot, cellsAt, localsAt, firstsAt, duesAt, pathAt}
 use Rattle.sheet.specs.Codes.{formulaTokens}
 use Rattle.sheet.specs.Tables.{Words, laidArrays, laidGiven, laidTokens, tables}
 use Rattle.sheet.specs.Held.{FormulaAt, SlotAt, Holds, ArraysAt}
@@ -22,7 +23,7 @@ use Rattle.sheet.proofs.Laid.{tokens-other, ends-other, tokens-length, 
 use Rattle.sheet.proofs.Held.{formula-at}
 use Rattle.sheet.proofs.Regions.{zeros, firsts-length, firsts-other, firsts-at, given-length, given-other, isFull, wordOf, CellWords, given-at}
 
-module _ (s : Sheet) (n : ℕ) (enough : 6144 ≤ n) (few : formulaSize (s .formula) ≤ 1024) where
+module _ (s : Sheet) (n : ℕ) (enough : pathAt ≤ n) (few : formulaSize (s .formula) ≤ 1024) where
   -- arrays and given values, without tokens
   abbrev under : Words
   under = laidArrays (s .declared) (replicate n 0)
@@ -55,7 +56,7 @@ module _ (s : Sheet) (n : ℕ) (enough : 6144 ≤ n) (few : formulaSize (s .form
   -- ---- values and arrays
 
   -- beside the words of the tokens
-  beside : (j : ℕ) → ((m : ℕ) → m < formulaSize (s .formula) → (j ≢ 4 * m) × (j ≢ 4 * m + 1) × (j ≢ 4 * m + 2)) →
+  beside : (j : ℕ) → ((m : ℕ) → m < formulaSize (s .formula) → (j ≢ tokenSlot m) × (j ≢ tokenSlot m + 1) × (j ≢ tokenSlot m + 2)) →
       getD (tables s n) j 0 ≡ getD base j 0
   unfolding tables
   beside j h =
@@ -63,13 +64,13 @@ module _ (s : Sheet) (n : ℕ) (enough : 6144 ≤ n) (few : formulaSize (s .form
       ends-other j 0 ts (laidTokens 0 ts base) (λ m x y. h m (omega arith) .2) ∙
       tokens-other j 0 ts base (λ m x y. let k = h m (omega arith) in (k .0, k .1))
 
-  above : (j : ℕ) → 4096 ≤ j → getD (tables s n) j 0 ≡ getD base j 0
+  above : (j : ℕ) → cellsAt ≤ j → getD (tables s n) j 0 ≡ getD base j 0
   above j h = beside j (λ m x. (omega arith, omega arith, omega arith))
 
   module _ (ok : WellFormed s) where
     -- a word that holds neither a given value nor an array
-    zero-base : (j : ℕ) → ((c : ℕ) → c < 512 → (j ≢ 4096 + 2 * c) × (j ≢ 4096 + 2 * c + 1)) →
-        ((m : ℕ) → m < 17 → j ≢ 5184 + m) → getD base j 0 ≡ 0
+    zero-base : (j : ℕ) → ((c : ℕ) → c < 512 → (j ≢ cellSlot c) × (j ≢ cellSlot c + 1)) →
+        ((m : ℕ) → m < 17 → j ≢ firstSlot m) → getD base j 0 ≡ 0
     unfolding laidArrays
     zero-base j c a =
         given-other j (s .given) under (each-map (λ i h. c (i .cell) (omega (arith, ok .limits .cells))) (s .given) (ok .declared)) ∙
@@ -78,8 +79,8 @@ module _ (s : Sheet) (n : ℕ) (enough : 6144 ≤ n) (few : formulaSize (s .form
     pub arrays-held : ArraysAt (tables s n) (s .declared)
     unfolding laidArrays
     arrays-held a h =
-        above (5184 + a) (omega arith) ∙
-        given-other (5184 + a) (s .given) under
+        above (firstSlot a) (omega arith) ∙
+        given-other (firstSlot a) (s .given) under
         (each-map (λ i k. (omega (arith, ok .limits .cells), omega (arith, ok .limits .cells))) (s .given) (ok .declared)) ∙
         firsts-at (s .declared) a 0 17 (replicate n 0) (omega arith) (omega arith) (rw length-replicate (omega arith))
 
@@ -88,26 +89,26 @@ module _ (s : Sheet) (n : ℕ) (enough : 6144 ≤ n) (few : formulaSize (s .form
     unfolding laidArrays
     cells-held c h =
         let g = given-at c 0 (s .given) under (ok .rising) h (omega (arith, under-length)) (
-          firsts-other (s .declared) (4096 + 2 * c) 0 17 (replicate n 0) (λ m x y. omega arith) ∙ zeros n (4096 + 2 * c),
-          firsts-other (s .declared) (4096 + 2 * c + 1) 0 17 (replicate n 0) (λ m x y. omega arith) ∙ zeros n (4096 + 2 * c + 1),
+          firsts-other (s .declared) (cellSlot c) 0 17 (replicate n 0) (λ m x y. omega arith) ∙ zeros n (cellSlot c),
+          firsts-other (s .declared) (cellSlot c + 1) 0 17 (replicate n 0) (λ m x y. omega arith) ∙ zeros n (cellSlot c + 1),
         ) in
-        (above (4096 + 2 * c) (omega arith) ∙ g .0, above (4096 + 2 * c + 1) (omega arith) ∙ g .1)
+        (above (cellSlot c) (omega arith) ∙ g .0, above (cellSlot c + 1) (omega arith) ∙ g .1)
 
     -- ---- every other word
 
-    pub locals-zero : (j : ℕ) → 5120 ≤ j → j < 5184 → getD (tables s n) j 0 ≡ 0
+    pub locals-zero : (j : ℕ) → localsAt ≤ j → j < firstsAt → getD (tables s n) j 0 ≡ 0
     locals-zero j l h = above j (omega arith) ∙ zero-base j (λ c x. (omega arith, omega arith)) (λ m x. omega arith)
 
     -- what is due while the formula is read, the spare words, and the path
-    pub rest-zero : (j : ℕ) → 5201 ≤ j → getD (tables s n) j 0 ≡ 0
+    pub rest-zero : (j : ℕ) → duesAt ≤ j → getD (tables s n) j 0 ≡ 0
     rest-zero j l = above j (omega arith) ∙ zero-base j (λ c x. (omega arith, omega arith)) (λ m x. omega arith)
 
     -- ---- the start valuation
 
     pub start-held : Holds (tables s n) (start (s .given))
     start-held = record {
-      cells = λ c h. slot (4096 + 2 * c) (start (s .given) (cell c)) (cells-held c h .0) (rw add-one at (cells-held c h .1));
-      locals = λ l h. rw start-local (locals-zero (5120 + 2 * l) (omega arith) (omega arith));
+      cells = λ c h. slot (cellSlot c) (start (s .given) (cell c)) (cells-held c h .0) (rw add-one at (cells-held c h .1));
+      locals = λ l h. rw start-local (locals-zero (localSlot l) (omega arith) (omega arith));
     }
       where
         slot : (j : ℕ) (v : Slot) → getD (tables s n) j 0 ≡ isFull v → getD (tables s n) (suc j) 0 ≡ wordOf v → SlotAt (tables s n) j v

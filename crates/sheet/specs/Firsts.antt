@@ -7,6 +7,7 @@ use lib.ListN.{length, getD, drop, set}
 use Rattle.specification.specs.Bytes.{Bytes, pick, feed}
 use Rattle.specification.specs.Parser.{Read, refused, found, Parser, give, next}
 use Rattle.specification.specs.Lines.{lengths, sum, Declared, arraysLine}
+use Rattle.tables.specs.Layout.{firstSlot}
 use Rattle.sheet.specs.declared.arrays.Arrays.{Arrays}
 use Rattle.sheet.specs.declared.arrays.Arrays.the-variants as arrays
 use Rattle.sheet.specs.Reader.{lineAt}
@@ -17,7 +18,7 @@ use Rattle.sheet.specs.Tables.{Words, laidArrays}
 -- m first cells from the a-th on, which is `end`, where these lengths follow
 unfoldable pub laidOn : ℕ → ℕ → ℕ → List ℕ → Words → Words
 laidOn zero a end ns w = w
-laidOn (suc m) a end ns w = laidOn m (suc a) (end + getD ns 0 0) (drop 1 ns) (set w (5184 + a) end)
+laidOn (suc m) a end ns w = laidOn m (suc a) (end + getD ns 0 0) (drop 1 ns) (set w (firstSlot a) end)
 
 -- how many arrays, the end of the cells, and the words
 pub record Table : Type 0 where

@@ -8,20 +8,12 @@ use Rattle.specification.specs.Ast.{Term, constant, scalarAt, localAt, elementA
 use Rattle.specification.specs.Place.{Place, cell, local}
 use Rattle.specification.specs.Value.{Slot, empty, full, Valuation}
 use Rattle.values.specs.Word.{biased}
+use Rattle.tables.specs.Layout.{cellSlot, localSlot, firstSlot}
+pub use Rattle.tables.specs.Layout.{codeAt, operandAt, endAt}
 use Rattle.sheet.specs.Codes.{relCode, opCode}
 use Rattle.sheet.specs.Tables.{Words}
 
 -- ---- tokens
-
-abbrev pub codeAt : Words → ℕ → ℕ
-codeAt w i = getD w (4 * i) 0
-
-abbrev pub operandAt : Words → ℕ → ℕ
-operandAt w i = getD w (4 * i + 1) 0
-
--- the number of the token after its subtree
-abbrev pub endAt : Words → ℕ → ℕ
-endAt w i = getD w (4 * i + 2) 0
 
 -- token i has this code, and its subtree ends at e, within the table
 pub record TokenAt (w : Words) (i k e : ℕ) : Type 0 where
@@ -100,14 +92,14 @@ SlotAt w j (full z) = (getD w j 0 ≡ 1) × (getD w (suc j) 0 ≡ biased z)
 
 -- the first word of a place's slot
 abbrev pub slotOf : Place → ℕ
-slotOf (cell c) = 4096 + 2 * c
-slotOf (local l) = 5120 + 2 * l
+slotOf (cell c) = cellSlot c
+slotOf (local l) = localSlot l
 
 -- the words hold the valuation
 pub record Holds (w : Words) (α : Valuation) : Type 0 where
-  pub cells : (c : ℕ) → c < 512 → SlotAt w (4096 + 2 * c) (α (cell c))
-  pub locals : (l : ℕ) → l < 32 → SlotAt w (5120 + 2 * l) (α (local l))
+  pub cells : (c : ℕ) → c < 512 → SlotAt w (cellSlot c) (α (cell c))
+  pub locals : (l : ℕ) → l < 32 → SlotAt w (localSlot l) (α (local l))
 
 -- the words hold the arrays' first cells, and the end of the cells after them
 abbrev pub ArraysAt : Words → Declared → Type 0
-ArraysAt w D = (a : ℕ) → a ≤ 16 → getD w (5184 + a) 0 ≡ firstOf D a
+ArraysAt w D = (a : ℕ) → a ≤ 16 → getD w (firstSlot a) 0 ≡ firstOf D a

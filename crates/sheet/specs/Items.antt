@@ -11,6 +11,7 @@ use Rattle.specification.specs.Parser.{Read, refused, found, Parser, give, refu
 use Rattle.specification.specs.Lines.{index, value, Declared, cells, CellName, scalar, element}
 use Rattle.specification.specs.Given.{Item, items, givenLine}
 use Rattle.values.specs.Word.{signed}
+use Rattle.tables.specs.Layout.{firstSlot}
 use Rattle.sheet.specs.declared.given.Name.{Name}
 use Rattle.sheet.specs.declared.given.Name.the-variants as names
 use Rattle.sheet.specs.declared.given.Cell.{Cell}
@@ -52,7 +53,7 @@ scalarIn scalars n = pick (ltb n scalars) (cell.Is n) cell.Undeclared
 unfoldable pub elementIn : ℕ → Words → ℕ → ℕ → Cell
 elementIn arrays w a i =
     pick (ltb a arrays)
-    (pick (ltb (getD w (5184 + a) 0 + i) (getD w (5184 + a + 1) 0)) (cell.Is (getD w (5184 + a) 0 + i)) cell.Undeclared)
+    (pick (ltb (getD w (firstSlot a) 0 + i) (getD w (firstSlot a + 1) 0)) (cell.Is (getD w (firstSlot a) 0 + i)) cell.Undeclared)
     cell.Undeclared
 
 -- ---- items

@@ -8,6 +8,7 @@ use lib.ListN.{length, getD, set}
 use lib.Dec.{eqb}
 use Rattle.specification.specs.Bytes.{pick, between}
 use Rattle.specification.specs.Formula.{Locals, has}
+use Rattle.tables.specs.Layout.{dueSlot, duesAt, duesEnd}
 use Rattle.sheet.specs.declared.Token.{Token}
 use Rattle.sheet.specs.declared.stack.Entry.{Entry}
 use Rattle.sheet.specs.declared.stack.Operands.{Operands}
@@ -53,11 +54,11 @@ entry s k m = record { sort = s; room = k; scope = m }
 
 -- the i-th entry from the bottom
 abbrev pub entryAt : Words → ℕ → Entry
-entryAt w i = entry (getD w (5201 + 3 * i) 0) (getD w (5201 + 3 * i + 1) 0) (getD w (5201 + 3 * i + 2) 0)
+entryAt w i = entry (getD w (dueSlot i) 0) (getD w (dueSlot i + 1) 0) (getD w (dueSlot i + 2) 0)
 
 -- the words with an entry at i
 abbrev pub entered : Words → ℕ → Entry → Words
-entered w i e = set (set (set w (5201 + 3 * i) (e .sort)) (5201 + 3 * i + 1) (e .room)) (5201 + 3 * i + 2) (e .scope)
+entered w i e = set (set (set w (dueSlot i) (e .sort)) (dueSlot i + 1) (e .room)) (dueSlot i + 2) (e .scope)
 
 -- the stack holds what is due, the topmost first
 unfoldable pub Stacked : Words → List Due → Type 0
@@ -67,8 +68,8 @@ Stacked w (d ∷ ds) = Means (entryAt w (length ds)) d × Stacked w ds
 -- the words beside the stack are those of the first
 pub record Beside (w w′ : Words) : Type 0 where
   pub long : length w′ ≡ length w
-  pub below : (j : ℕ) → j < 5201 → getD w′ j 0 ≡ getD w j 0
-  pub above : (j : ℕ) → 5588 ≤ j → getD w′ j 0 ≡ getD w j 0
+  pub below : (j : ℕ) → j < duesAt → getD w′ j 0 ≡ getD w j 0
+  pub above : (j : ℕ) → duesEnd ≤ j → getD w′ j 0 ≡ getD w j 0
 
 -- ---- what a token makes due
 

@@ -13,18 +13,17 @@ use Rattle.specification.specs.Lines.{Declared, firstOf}
 use Rattle.specification.specs.Given.{Item}
 use Rattle.specification.specs.Sheet.{Sheet}
 use Rattle.values.specs.Word.{biased}
+use Rattle.tables.specs.Layout.{cellSlot, firstSlot, tokenSlot}
+pub use Rattle.tables.specs.Layout.{Words}
 use Rattle.sheet.specs.declared.Token.{Token}
 use Rattle.sheet.specs.Codes.{arity, formulaTokens}
-
-abbrev pub Words : Type 0
-Words = List ℕ
 
 -- ---- arrays
 
 -- n first cells, from the a-th array's on; beyond the declared arrays it is the end of the cells
 unfoldable pub laidFirsts : Declared → ℕ → ℕ → Words → Words
 laidFirsts D a zero w = w
-laidFirsts D a (suc n) w = laidFirsts D (suc a) n (set w (5184 + a) (firstOf D a))
+laidFirsts D a (suc n) w = laidFirsts D (suc a) n (set w (firstSlot a) (firstOf D a))
 
 unfoldable pub laidArrays : Declared → Words → Words
 laidArrays D w = laidFirsts D 0 17 w
@@ -33,14 +32,14 @@ laidArrays D w = laidFirsts D 0 17 w
 
 unfoldable pub laidGiven : List Item → Words → Words
 laidGiven [] w = w
-laidGiven (i ∷ is) w = laidGiven is (set (set w (4096 + 2 * i .cell) 1) (4096 + 2 * i .cell + 1) (biased (i .value)))
+laidGiven (i ∷ is) w = laidGiven is (set (set w (cellSlot (i .cell)) 1) (cellSlot (i .cell) + 1) (biased (i .value)))
 
 -- ---- tokens
 
 -- codes and operands, from the i-th token on
 unfoldable pub laidTokens : ℕ → List Token → Words → Words
 laidTokens i [] w = w
-laidTokens i (t ∷ ts) w = laidTokens (suc i) ts (set (set w (4 * i) (t .code)) (4 * i + 1) (t .operand))
+laidTokens i (t ∷ ts) w = laidTokens (suc i) ts (set (set w (tokenSlot i) (t .code)) (tokenSlot i + 1) (t .operand))
 
 -- the tokens after n whole subtrees
 unfoldable pub after : List Token → ℕ → List Token
@@ -51,7 +50,7 @@ after (t ∷ ts) (suc n) = after ts (arity (t .code) + n)
 -- the end of its subtree for each token from the i-th on: the number of the token after it
 unfoldable pub laidEnds : ℕ → List Token → Words → Words
 laidEnds i [] w = w
-laidEnds i (t ∷ ts) w = laidEnds (suc i) ts (set w (4 * i + 2) (suc i + length ts - length (after ts (arity (t .code)))))
+laidEnds i (t ∷ ts) w = laidEnds (suc i) ts (set w (tokenSlot i + 2) (suc i + length ts - length (after ts (arity (t .code)))))
 
 -- ---- a sheet's tables, over so many work words
 

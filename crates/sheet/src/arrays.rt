@@ -4,6 +4,7 @@ ghost use mathlib.Core.List.{[]};
 ghost use Prim.Native.Nat.{_+_, _-_, _≤_};
 ghost use lib.ListN.{length};
 ghost use Rattle.specification.specs.Lines.{lengths};
+ghost use Rattle.tables.specs.Layout.{pathAt};
 ghost use Rattle.sheet.specs.Reader.{lineAt};
 ghost use Rattle.sheet.specs.Answers.{mapped};
 ghost use Rattle.sheet.specs.Firsts.{laidOn, tabled, arraysValue, arraysRead, ArraysDone};
@@ -19,13 +20,13 @@ pub(crate) enum Arrays {
 }
 
 // Where the words have the first cell of each array, and how many stand there: 16, and the end of the cells.
-const FIRSTS: usize = 5184;
+const FIRSTS: usize = tables::FIRSTS;
 
 const COUNT: usize = 17;
 
 // Puts the end of the cells behind the last array, and in the place of each array that is not declared.
 fn fill(w: &mut [u32], from: u32, end: u32)
-    requires { ⌜ 6144 ≤ length (now w) ⌝ }
+    requires { ⌜ pathAt ≤ length (now w) ⌝ }
     ensures { λ _. ⌜ now (w .exit) ≡ laidOn (17 - from) from end [] (now (w .entry)) ⌝ }
 {
     let mut a = from as usize;
@@ -37,7 +38,7 @@ fn fill(w: &mut [u32], from: u32, end: u32)
 
 // Lengths from a place on, the first of which begins after the scalars.
 fn lengths(s: &[u8], from: usize, scalars: u32, w: &mut [u32]) -> Arrays
-    requires { ⌜ (scalars ≤ 512) × (6144 ≤ length (now w)) ⌝ }
+    requires { ⌜ (scalars ≤ 512) × (pathAt ≤ length (now w)) ⌝ }
     ensures { λ r. ⌜ arraysRead (now (s .entry)) r (now (w .exit))
         ≡ mapped (tabled 0 scalars (now (w .entry))) (lengths 16 (512 - scalars) (lineAt (now (s .entry)) from)) ⌝ }
 {
@@ -66,7 +67,7 @@ fn lengths(s: &[u8], from: usize, scalars: u32, w: &mut [u32]) -> Arrays
 
 // The line's value: empty, or lengths.
 fn contents(s: &[u8], from: usize, scalars: u32, w: &mut [u32]) -> Arrays
-    requires { ⌜ (scalars ≤ 512) × (6144 ≤ length (now w)) ⌝ }
+    requires { ⌜ (scalars ≤ 512) × (pathAt ≤ length (now w)) ⌝ }
     ensures { λ r. ⌜ arraysRead (now (s .entry)) r (now (w .exit))
         ≡ mapped (tabled 0 scalars (now (w .entry))) (arraysValue scalars (lineAt (now (s .entry)) from)) ⌝ }
 {
@@ -79,7 +80,7 @@ fn contents(s: &[u8], from: usize, scalars: u32, w: &mut [u32]) -> Arrays
 
 // The line of arrays, after so many scalars.
 pub(crate) fn arrays_line(s: &[u8], at: usize, scalars: u32, w: &mut [u32]) -> Arrays
-    requires { ⌜ (scalars ≤ 64) × (6144 ≤ length (now w)) ⌝ }
+    requires { ⌜ (scalars ≤ 64) × (pathAt ≤ length (now w)) ⌝ }
     ensures { λ r. ⌜ ArraysDone (now (s .entry)) at scalars (now (w .entry)) (now (w .exit)) r ⌝ }
 {
     if !lines::begins(s, at, b"arrays=") {

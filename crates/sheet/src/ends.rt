@@ -2,6 +2,7 @@
 ghost use mathlib.Core.Path.{_≡_};
 ghost use Prim.Native.Nat.{_≤_, _<_};
 ghost use lib.ListN.{length};
+ghost use Rattle.tables.specs.Layout.{pathAt};
 ghost use Rattle.sheet.specs.Codes.{arity};
 ghost use Rattle.sheet.specs.Tables.{laidEnds};
 ghost use Rattle.sheet.specs.Held.{codeAt};
@@ -22,7 +23,7 @@ fn arity(code: u32) -> u32
 }
 
 fn code(w: &[u32], i: u32) -> u32
-    requires { ⌜ (i < 1024) × (6144 ≤ length (now w)) ⌝ }
+    requires { ⌜ (i < 1024) × (pathAt ≤ length (now w)) ⌝ }
     ensures { λ r. ⌜ r ≡ codeAt (now (w .entry)) i ⌝ }
 {
     w[4 * (i as usize)]
@@ -30,7 +31,7 @@ fn code(w: &[u32], i: u32) -> u32
 
 // The end of token e's subtree from the table of n tokens, n behind the last.
 fn end(w: &[u32], n: u32, e: u32) -> u32
-    requires { ⌜ (n ≤ 1024) × (6144 ≤ length (now w)) ⌝ }
+    requires { ⌜ (n ≤ 1024) × (pathAt ≤ length (now w)) ⌝ }
     ensures { λ r. ⌜ r ≡ endFrom (now (w .entry)) n e ⌝ }
 {
     if n <= e {
@@ -41,7 +42,7 @@ fn end(w: &[u32], n: u32, e: u32) -> u32
 
 // The end of token i's subtree, where those of the tokens after it are in the table: past each operand.
 fn subtree(w: &[u32], n: u32, i: u32) -> u32
-    requires { ⌜ (i < n) × (n ≤ 1024) × (6144 ≤ length (now w)) × EndsAfter (now w) n i ⌝ }
+    requires { ⌜ (i < n) × (n ≤ 1024) × (pathAt ≤ length (now w)) × EndsAfter (now w) n i ⌝ }
     ensures { λ r. ⌜ r ≡ endIn (tokensIn (now (w .entry)) 0 n) i ⌝ }
 {
     let mut e = i + 1;
@@ -55,7 +56,7 @@ fn subtree(w: &[u32], n: u32, i: u32) -> u32
 
 // The ends of the subtrees of n tokens, into the table.
 pub(crate) fn ends(w: &mut [u32], n: u32)
-    requires { ⌜ (n ≤ 1024) × (6144 ≤ length (now w)) ⌝ }
+    requires { ⌜ (n ≤ 1024) × (pathAt ≤ length (now w)) ⌝ }
     ensures { λ r. ⌜ now (w .exit) ≡ laidEnds 0 (tokensIn (now (w .entry)) 0 n) (now (w .entry)) ⌝ }
 {
     let mut i = n;

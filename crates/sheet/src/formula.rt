@@ -5,6 +5,7 @@ ghost use lib.ListN.{length, set};
 ghost use Rattle.specification.specs.Bytes.{between};
 ghost use Rattle.specification.specs.Lines.{Declared};
 ghost use Rattle.specification.specs.Formula.{Locals};
+ghost use Rattle.tables.specs.Layout.{tokenSlot, pathAt};
 ghost use Rattle.sheet.specs.Dues.{Due};
 ghost use Rattle.sheet.specs.Turn.{suits, declared, placed, faultOf};
 ghost use Rattle.sheet.specs.Stack.{Bits, sortOf, Means};
@@ -140,8 +141,8 @@ fn bound_after(e: Entry, t: Token, bound: u32) -> u32
 
 // A token into the table.
 fn store(w: &mut [u32], i: u32, t: Token)
-    requires { ⌜ (i < 1024) × (6144 ≤ length (now w)) ⌝ }
-    ensures { λ r. ⌜ now (w .exit) ≡ set (set (now (w .entry)) (4 * i) (t .code)) (4 * i + 1) (t .operand) ⌝ }
+    requires { ⌜ (i < 1024) × (pathAt ≤ length (now w)) ⌝ }
+    ensures { λ r. ⌜ now (w .exit) ≡ set (set (now (w .entry)) (tokenSlot i) (t .code)) (tokenSlot i + 1) (t .operand) ⌝ }
 {
     let at = 4 * (i as usize);
     w[at] = t.code;
@@ -152,7 +153,7 @@ fn store(w: &mut [u32], i: u32, t: Token)
 
 // The formula's tokens from a place on, into the table.
 fn scan(s: &[u8], from: usize, d: Limits, w: &mut [u32]) -> Scanned
-    requires { ⌜ (from ≤ length (now s)) × Small d × (6144 ≤ length (now w)) ⌝ }
+    requires { ⌜ (from ≤ length (now s)) × Small d × (pathAt ≤ length (now w)) ⌝ }
     ensures { λ r. ⌜ Scans (now (s .entry)) from d (now (w .entry)) (now (w .exit)) r ⌝ }
 {
     stack::put(
@@ -194,7 +195,7 @@ fn scan(s: &[u8], from: usize, d: Limits, w: &mut [u32]) -> Scanned
 
 // The formula's line and the sheet's end: its tokens and the ends of their subtrees into the table.
 pub(crate) fn formula_line(s: &[u8], at: usize, d: Limits, w: &mut [u32]) -> Parsed
-    requires { ⌜ Small d × (6144 ≤ length (now w)) ⌝ }
+    requires { ⌜ Small d × (pathAt ≤ length (now w)) ⌝ }
     ensures { λ r. ⌜ ((D : Declared) → Counts d D → LineRead (now (s .entry)) at D (now (w .entry)) (now (w .exit)) r) ⌝ }
 {
     if !lines::begins(s, at, b"formula=") {

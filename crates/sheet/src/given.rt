@@ -4,6 +4,7 @@ ghost use Prim.Native.Nat.{_+_, _*_, _<_, _≤_};
 ghost use lib.ListN.{length, set};
 ghost use Rattle.specification.specs.Lines.{Declared};
 ghost use Rattle.specification.specs.Given.{scalarName, elementName, name, item, items};
+ghost use Rattle.tables.specs.Layout.{cellSlot, pathAt};
 ghost use Rattle.sheet.specs.Reader.{lineAt};
 ghost use Rattle.sheet.specs.Items.{heldNames, elementAfter, nameRead, scalarIn, elementIn, afterName, entryRead, Declares, Arranged, laidItems, givenRead, givenValue, GivenDone};
 use crate::lines;
@@ -38,9 +39,9 @@ enum Entry {
 }
 
 // Where the words have the cells, two for each, and the arrays' first cells.
-const CELLS: usize = 4096;
+const CELLS: usize = tables::CELLS;
 
-const FIRSTS: usize = 5184;
+const FIRSTS: usize = tables::FIRSTS;
 
 // ---- names
 
@@ -109,7 +110,7 @@ fn wide(x: u32) -> u64
 
 // An element's cell lies before the next array's first.
 fn element_cell(a: u32, i: u32, arrays: u32, w: &[u32]) -> Cell
-    requires { ⌜ (arrays ≤ 16) × (6144 ≤ length (now w)) ⌝ }
+    requires { ⌜ (arrays ≤ 16) × (pathAt ≤ length (now w)) ⌝ }
     ensures { λ r. ⌜ r ≡ elementIn arrays (now (w .entry)) a i ⌝ }
 {
     if arrays <= a {
@@ -147,7 +148,7 @@ fn valued(s: &[u8], at: usize, e: usize, floor: u32, c: Cell) -> Entry
 }
 
 fn item_at(s: &[u8], at: usize, scalars: u32, arrays: u32, floor: u32, w: &[u32]) -> Entry
-    requires { ⌜ (arrays ≤ 16) × (6144 ≤ length (now w)) ⌝ }
+    requires { ⌜ (arrays ≤ 16) × (pathAt ≤ length (now w)) ⌝ }
     ensures { λ r. ⌜ ((D : Declared) → Declares D scalars arrays (now (w .entry))
         → entryRead (now (s .entry)) r ≡ item D floor (lineAt (now (s .entry)) at)) ⌝ }
 {
@@ -160,8 +161,8 @@ fn item_at(s: &[u8], at: usize, scalars: u32, arrays: u32, floor: u32, w: &[u32]
 
 // Marks a cell, and puts its value's word beside the mark.
 fn put(w: &mut [u32], cell: u32, word: u32)
-    requires { ⌜ (cell < 512) × (6144 ≤ length (now w)) ⌝ }
-    ensures { λ _. ⌜ now (w .exit) ≡ set (set (now (w .entry)) (4096 + 2 * cell) 1) (4096 + 2 * cell + 1) word ⌝ }
+    requires { ⌜ (cell < 512) × (pathAt ≤ length (now w)) ⌝ }
+    ensures { λ _. ⌜ now (w .exit) ≡ set (set (now (w .entry)) (cellSlot cell) 1) (cellSlot cell + 1) word ⌝ }
 {
     let k = CELLS + 2 * cell as usize;
     w[k] = 1;
@@ -172,7 +173,7 @@ fn put(w: &mut [u32], cell: u32, word: u32)
 
 // Items from a place on. Each has a cell above that of the one before, so they come to an end.
 fn items_at(s: &[u8], from: usize, scalars: u32, arrays: u32, w: &mut [u32]) -> Given
-    requires { ⌜ (Arranged scalars arrays (now w)) × (6144 ≤ length (now w)) ⌝ }
+    requires { ⌜ (Arranged scalars arrays (now w)) × (pathAt ≤ length (now w)) ⌝ }
     ensures { λ r. ⌜ ((D : Declared) → Declares D scalars arrays (now (w .entry))
         → givenRead (now (s .entry)) r (now (w .exit)) ≡ laidItems (now (w .entry)) (items D 512 0 (lineAt (now (s .entry)) from))) ⌝ }
 {
@@ -197,7 +198,7 @@ fn items_at(s: &[u8], from: usize, scalars: u32, arrays: u32, w: &mut [u32]) -> 
 
 // The line's value: empty, or items.
 fn contents(s: &[u8], from: usize, scalars: u32, arrays: u32, w: &mut [u32]) -> Given
-    requires { ⌜ (Arranged scalars arrays (now w)) × (6144 ≤ length (now w)) ⌝ }
+    requires { ⌜ (Arranged scalars arrays (now w)) × (pathAt ≤ length (now w)) ⌝ }
     ensures { λ r. ⌜ ((D : Declared) → Declares D scalars arrays (now (w .entry))
         → givenRead (now (s .entry)) r (now (w .exit)) ≡ laidItems (now (w .entry)) (givenValue D (lineAt (now (s .entry)) from))) ⌝ }
 {
@@ -209,7 +210,7 @@ fn contents(s: &[u8], from: usize, scalars: u32, arrays: u32, w: &mut [u32]) -> 
 
 // The line of given values, where the words have the arrays of a sheet.
 pub(crate) fn given_line(s: &[u8], at: usize, scalars: u32, arrays: u32, w: &mut [u32]) -> Given
-    requires { ⌜ (Arranged scalars arrays (now w)) × (6144 ≤ length (now w)) ⌝ }
+    requires { ⌜ (Arranged scalars arrays (now w)) × (pathAt ≤ length (now w)) ⌝ }
     ensures { λ r. ⌜ ((D : Declared) → Declares D scalars arrays (now (w .entry))
         → GivenDone D (now (s .entry)) at (now (w .entry)) (now (w .exit)) r) ⌝ }
 {

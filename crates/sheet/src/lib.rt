@@ -3,6 +3,7 @@ ghost use mathlib.Core.Path.{_≡_};
 ghost use Prim.Native.Nat.{_≤_};
 ghost use lib.ListN.{length, replicate};
 ghost use Rattle.specification.specs.Sheet.{read};
+ghost use Rattle.tables.specs.Layout.{pathAt};
 ghost use Rattle.sheet.specs.Whole.{readingOf, wordsOf, Zeroed};
 
 mod arrays;
@@ -28,9 +29,9 @@ pub enum Reading {
 }
 
 // Where the words have what is due while the formula is read, and its end.
-const DUES: usize = 5201;
+const DUES: usize = tables::DUES;
 
-const DUES_END: usize = 5588;
+const DUES_END: usize = tables::DUES_END;
 
 // Words from one place up to another are 0.
 fn zero(w: &mut [u32], from: usize, to: usize)
@@ -53,7 +54,7 @@ pub fn clear(w: &mut [u32])
 
 // Reads a sheet: its tables stand in the work words, and nothing else; where it is refused they are all 0.
 pub fn read_sheet(s: &[u8], w: &mut [u32]) -> Reading
-    requires { ⌜ 6144 ≤ length (now w) ⌝ }
+    requires { ⌜ pathAt ≤ length (now w) ⌝ }
     ensures { λ r. ⌜ (r ≡ readingOf (read (now (s .entry))))
         × (now (w .exit) ≡ wordsOf (length (now (w .entry))) (read (now (s .entry)))) ⌝ }
 {

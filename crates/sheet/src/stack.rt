@@ -3,6 +3,7 @@ ghost use mathlib.Core.Path.{_≡_};
 ghost use Prim.Native.Nat.{_≤_, _<_, _^_};
 ghost use lib.ListN.{length};
 ghost use lib.Bits.{bitOr};
+ghost use Rattle.tables.specs.Layout.{pathAt};
 ghost use Rattle.sheet.specs.Stack.{bit, entryAt, entered, operandsBy, Opened};
 use crate::Token;
 
@@ -21,7 +22,7 @@ pub(crate) struct Operands {
 }
 
 // The first word of the stack.
-const STACK: usize = 5201;
+const STACK: usize = tables::DUES;
 
 // ---- sets of locals
 
@@ -51,7 +52,7 @@ pub(crate) fn with(m: u32, l: u32) -> u32
 
 // The i-th entry from the bottom.
 pub(crate) fn get(w: &[u32], i: usize) -> Entry
-    requires { ⌜ (i < 129) × (6144 ≤ length (now w)) ⌝ }
+    requires { ⌜ (i < 129) × (pathAt ≤ length (now w)) ⌝ }
     ensures { λ r. ⌜ r ≡ entryAt (now (w .entry)) i ⌝ }
 {
     let at = STACK + 3 * i;
@@ -63,7 +64,7 @@ pub(crate) fn get(w: &[u32], i: usize) -> Entry
 }
 
 pub(crate) fn put(w: &mut [u32], i: usize, e: Entry)
-    requires { ⌜ (i < 129) × (6144 ≤ length (now w)) ⌝ }
+    requires { ⌜ (i < 129) × (pathAt ≤ length (now w)) ⌝ }
     ensures { λ r. ⌜ now (w .exit) ≡ entered (now (w .entry)) i e ⌝ }
 {
     let at = STACK + 3 * i;
@@ -91,7 +92,7 @@ fn operands_of(code: u32) -> Operands
 
 // The operands of a token where a formula or a term is due, put above n entries: how many there are then.
 fn push_operands(w: &mut [u32], n: usize, e: Entry, t: Token) -> usize
-    requires { ⌜ (n ≤ 126) × (6144 ≤ length (now w)) × (0 < e .room) × (e .sort ≤ 1) ⌝ }
+    requires { ⌜ (n ≤ 126) × (pathAt ≤ length (now w)) × (0 < e .room) × (e .sort ≤ 1) ⌝ }
     ensures { λ r. ⌜ Opened (now (w .entry)) (now (w .exit)) n e t r ⌝ }
 {
     let o = operands_of(t.code);
@@ -113,7 +114,7 @@ fn push_operands(w: &mut [u32], n: usize, e: Entry, t: Token) -> usize
 
 // What a token makes due where an entry was due, put above n entries: how many there are then. A binder's formula lies below its bounds.
 pub(crate) fn push(w: &mut [u32], n: usize, e: Entry, t: Token) -> usize
-    requires { ⌜ (n ≤ 126) × (6144 ≤ length (now w)) × (0 < e .room) × (1 < e .sort → t .operand < 32) ⌝ }
+    requires { ⌜ (n ≤ 126) × (pathAt ≤ length (now w)) × (0 < e .room) × (1 < e .sort → t .operand < 32) ⌝ }
     ensures { λ r. ⌜ Opened (now (w .entry)) (now (w .exit)) n e t r ⌝ }
 {
     if e.sort <= 1 {

@@ -4,6 +4,7 @@ ghost use Prim.Native.Nat.{_≤_};
 ghost use lib.ListN.{length};
 ghost use Rattle.specification.specs.Lines.{Declared};
 ghost use Rattle.specification.specs.Sheet.{sheet};
+ghost use Rattle.tables.specs.Layout.{pathAt};
 ghost use Rattle.sheet.specs.Reader.{lineAt};
 ghost use Rattle.sheet.specs.Items.{Declares, Arranged};
 ghost use Rattle.sheet.specs.FormulaLine.{Small, Counts};
@@ -42,7 +43,7 @@ fn three_lines(s: &[u8]) -> Heading
 
 // The lines of given values and of the formula.
 fn from_given(s: &[u8], at: usize, d: Limits, w: &mut [u32]) -> Reading
-    requires { ⌜ (Arranged (d .scalars) (d .arrays) (now w)) × Small d × (6144 ≤ length (now w)) ⌝ }
+    requires { ⌜ (Arranged (d .scalars) (d .arrays) (now w)) × Small d × (pathAt ≤ length (now w)) ⌝ }
     ensures { λ r. ⌜ ((D : Declared) → Counts d D → Declares D (d .scalars) (d .arrays) (now (w .entry))
         → SheetDone (fromGiven D (lineAt (now (s .entry)) at)) (withGiven (now (w .entry))) (length (now (w .entry))) (now (w .exit)) r) ⌝ }
 {
@@ -57,7 +58,7 @@ fn from_given(s: &[u8], at: usize, d: Limits, w: &mut [u32]) -> Reading
 
 // All six lines. What was due while the formula was read still stands in the words.
 pub(crate) fn six_lines(s: &[u8], w: &mut [u32]) -> Reading
-    requires { ⌜ 6144 ≤ length (now w) ⌝ }
+    requires { ⌜ pathAt ≤ length (now w) ⌝ }
     ensures { λ r. ⌜ SheetDone (sheet (lineAt (now (s .entry)) 0)) (withArrays (now (w .entry))) (length (now (w .entry))) (now (w .exit)) r ⌝ }
 {
     match three_lines(s) {

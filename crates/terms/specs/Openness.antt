@@ -15,6 +15,7 @@ use Rattle.specification.specs.WellFormed.{Scope, Ok}
 use Rattle.specification.specs.Closed.{filled, closed}
 use Rattle.specification.specs.Value as value
 use Rattle.specification.specs.Closed as specified
+use Rattle.tables.specs.Layout.{pathAt}
 use Rattle.sheet.specs.Tables.{Words}
 use Rattle.sheet.specs.Held.{codeAt, operandAt, endAt, FormulaAt, SlotAt, Holds}
 
@@ -43,7 +44,7 @@ pub record Standing (w : Words) (from to : ℕ) (D : Declared) (α : Valuation) 
   pub locals : (l : ℕ) → T (scope l) → l < 32
   pub ok : Ok D scope F
   pub low : LowLocals F
-  pub size : 6144 ≤ length w
+  pub size : pathAt ≤ length w
 
 pub record AskedFormula (w : Words) (from to : ℕ) : Type 0 where
   pub declared : Declared
@@ -133,7 +134,7 @@ pub record Marked (w : Words) (i : ℕ) : Type 0 where
   pub mark : Mark
   pub token : i < 1024
   pub at : MarkAt w i mark
-  pub size : 6144 ≤ length w
+  pub size : pathAt ≤ length w
 
 abbrev pub Met : Words → ℕ → ℕ → ℕ → Type 0
 Met w i m r = (α : Valuation) (x : Mark) → MarkAt w i x → knownBy α r ≡ learnt x (knownBy α m)

@@ -11,6 +11,7 @@ use Rattle.specification.specs.Place.{Place}
 use Rattle.specification.specs.Value.{Slot, Valuation, Side, val, bare, err, look, side}
 use Rattle.specification.specs.WellFormed.{Scope, OkTerm, Valid}
 use Rattle.values.specs.Word.{biased}
+use Rattle.tables.specs.Layout.{duesAt, duesEnd, pathAt}
 use Rattle.sheet.specs.Tables.{Words}
 use Rattle.sheet.specs.Held.{TermsAt, height, SlotAt, slotOf, Holds, ArraysAt}
 use Rattle.terms.specs.declared.Stack.{Stack}
@@ -51,7 +52,7 @@ pub record Given (w : Words) (from to : ℕ) (D : Declared) (α : Valuation) (s 
   pub right : OkTerm D scope t
   pub left-low : height s ≤ 64
   pub right-low : height t ≤ 64
-  pub size : 6144 ≤ length w
+  pub size : pathAt ≤ length w
 
 pub record Asked (w : Words) (from to : ℕ) : Type 0 where
   pub declared : Declared
@@ -62,7 +63,7 @@ pub record Asked (w : Words) (from to : ℕ) : Type 0 where
 
 -- all words but those of the stack
 abbrev pub Kept : Words → Words → Type 0
-Kept w w' = (k : ℕ) → (k < 5201) ⊎ (5588 ≤ k) → getD w' k 0 ≡ getD w k 0
+Kept w w' = (k : ℕ) → (k < duesAt) ⊎ (duesEnd ≤ k) → getD w' k 0 ≡ getD w k 0
 
 pub record Valued (w w' : Words) (from to : ℕ) (r : Sides) : Type 0 where
   pub sides : (D : Declared) (α : Valuation) (s t : Term) → Given w from to D α s t → r ≡ sidesOf (side D α s) (side D α t)

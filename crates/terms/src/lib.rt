@@ -2,7 +2,6 @@
 // the tokens; nothing recurses.
 pub mod evaluation;
 pub mod openness;
-mod tables;
 
 // What two terms are. A tag says what a word is: 0 the word of a value, 1 the first word of a bare place's slot, 2 an error kind.
 pub struct Sides {

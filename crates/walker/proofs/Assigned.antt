@@ -13,6 +13,7 @@ use Rattle.specification.specs.Lines.{sum, cells, firstOf}
 use Rattle.specification.specs.Place.{Place, cell, local}
 use Rattle.specification.specs.Value.{full}
 use Rattle.specification.specs.Tree.{step, isElement, assign}
+use Rattle.tables.specs.Layout.{cellSlot, nodeEnd, localsAt, firstsAt, pathAt}
 use Rattle.sheet.specs.Tables.{Words}
 use Rattle.sheet.specs.Held.{slotOf}
 use Rattle.walker.specs.declared.Due.{Due}
@@ -39,12 +40,12 @@ test-false x e = record { at = x .at; son = λ c o i. let q = x .son c o i in (f
 -- ---- whether a slot may be assigned
 
 -- the last test, where the others do not hold
-pub by-locals : (w : Words) (inner slot : ℕ) → ¬ (inner ≡ 0) → 4096 + 2 * getD w 5184 0 ≤ slot → Assignable w inner slot (leb 5120 slot)
-by-locals w inner slot n h = go (leb 5120 slot) refl
+pub by-locals : (w : Words) (inner slot : ℕ) → ¬ (inner ≡ 0) → cellSlot (getD w firstsAt 0) ≤ slot → Assignable w inner slot (leb localsAt slot)
+by-locals w inner slot n h = go (leb localsAt slot) refl
   where
-    go : (b : Bool) → leb 5120 slot ≡ b → Assignable w inner slot b
-    go true e = inr (inr (leb-true 5120 slot e))
-    go false e = (n, h, leb-false 5120 slot e)
+    go : (b : Bool) → leb localsAt slot ≡ b → Assignable w inner slot b
+    go true e = inr (inr (leb-true localsAt slot e))
+    go false e = (n, h, leb-false localsAt slot e)
 
 -- ---- an assignment, by where it stands and what is assigned
 
@@ -59,7 +60,7 @@ module _ {w : Words} {r : Regs} {slot value : ℕ} (x : Assigns w r slot value) 
   }
 
   -- the scalars come first among the cells
-  first-is : (c : World) (o : Bytes) (i : In c o w r) → getD w 5184 0 ≡ c .declared .scalars
+  first-is : (c : World) (o : Bytes) (i : In c o w r) → getD w firstsAt 0 ≡ c .declared .scalars
   unfolding firstOf sum
   first-is c o i = i .path .arrays 0 (omega arith) ∙ omega arith
 
@@ -88,7 +89,7 @@ module _ {w : Words} {r : Regs} {slot value : ℕ} (x : Assigns w r slot value) 
   and-false true = refl
   and-false false = refl
 
-  sets-scalar : slot < 4096 + 2 * getD w 5184 0 → Sets w r slot value
+  sets-scalar : slot < cellSlot (getD w firstsAt 0) → Sets w r slot value
   sets-scalar h = sets-by go
     where
       go : (c : World) (o : Bytes) (i : In c o w r) (p : Place) → slot ≡ slotOf p → InTable p → innerIn (i .fr) && isElement (c .declared) p ≡ false
@@ -97,7 +98,7 @@ module _ {w : Words} {r : Regs} {slot value : ℕ} (x : Assigns w r slot value) 
           rw (lt-leb (c .declared .scalars) k (omega arith)) (and-false (innerIn (i .fr)))
       go c o i (local l) place inside = and-false (innerIn (i .fr))
 
-  sets-local : 5120 ≤ slot → Sets w r slot value
+  sets-local : localsAt ≤ slot → Sets w r slot value
   sets-local h = sets-by go
     where
       go : (c : World) (o : Bytes) (i : In c o w r) (p : Place) → slot ≡ slotOf p → InTable p → innerIn (i .fr) && isElement (c .declared) p ≡ false
@@ -129,7 +130,7 @@ module _ {w : Words} {r : Regs} {slot value : ℕ} (x : Assigns w r slot value) 
       element c o i (local l) place = absurd (omega (arith, elsewhere .1, elsewhere .2))
 
   -- the word that the code reads
-  pub assigns-words : (5184 < length w) × (getD w 5184 0 ≤ 512)
+  pub assigns-words : (firstsAt < length w) × (getD w firstsAt 0 ≤ 512)
   assigns-words =
       let v = x .at in
       let f = first-is (v .c) (v .o) (v .ins) in
@@ -173,8 +174,8 @@ module _ {w mid w1 w' : Words} {r : Regs} {slot old value : ℕ} (x : Sets w r s
 
 -- the slot lies in the tables, and the words are there
 pub record Placed (w : Words) (r : Regs) (slot : ℕ) : Type 0 where
-  pub low : slot + 1 < 6144
-  pub size : 6156 + 12 * r .depth ≤ length w
+  pub low : slot + 1 < pathAt
+  pub size : nodeEnd (r .depth) ≤ length w
 
 pub sets-placed : {w : Words} {r : Regs} {slot value : ℕ} → Sets w r slot value → Placed w r slot
 sets-placed x =

@@ -10,6 +10,7 @@ use lib.IntN.{ℤ}
 use Rattle.specification.specs.Bytes.{Bytes}
 use Rattle.specification.specs.Ast.{Formula}
 use Rattle.specification.specs.Tree.{grow, rounds}
+use Rattle.tables.specs.Layout.{nodeEnd, duesAt, duesEnd}
 use Rattle.sheet.specs.Tables.{Words}
 use Rattle.sheet.specs.Held.{codeAt}
 use Rattle.walker.specs.declared.Regs.{Regs}
@@ -124,7 +125,7 @@ module _ {c : World} {o : Bytes} {w : Words} {r : Regs} (i : In c o w r) where
 
   -- ---- room
 
-  pub room-words : 6156 + 12 * r .depth ≤ length w
+  pub room-words : nodeEnd (r .depth) ≤ length w
   room-words = omega (arith, i .path .size, i .room)
 
   pub shallow : r .depth < 32768
@@ -139,7 +140,7 @@ head-code {w} x =
 
 -- ---- after evaluating terms
 
-module _ (w w' : Words) (u : (k : ℕ) → (k < 5201) ⊎ (5588 ≤ k) → getD w' k 0 ≡ getD w k 0) (z : length w' ≡ length w) where
+module _ (w w' : Words) (u : (k : ℕ) → (k < duesAt) ⊎ (duesEnd ≤ k) → getD w' k 0 ≡ getD w k 0) (z : length w' ≡ length w) where
   unfoldable pub in-spare : {c : World} {o : Bytes} {r : Regs} → In c o w r → In c o w' r
   in-spare {c} {o} {r} i =
       let k = spare-kept w w' u z (r .depth) in

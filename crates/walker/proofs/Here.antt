@@ -4,6 +4,7 @@ use native.Mathlib.Omega.{arith}
 use mathlib.Core.Path.{_≡_, refl, _∙_}
 use Rattle.specification.specs.Lines.{Declared}
 use Rattle.specification.specs.Ast.{Term, constant, scalarAt, localAt, elementAt, apply, Formula, truth, and, or, imp, neg, eq, compare, ex, some, all}
+use Rattle.tables.specs.Layout.{tokenSlot}
 use Rattle.sheet.specs.Tables.{Words}
 use Rattle.sheet.specs.Held.{codeAt, operandAt, endAt, TokenAt, TermAt, TermsAt, LocalAt, FormulaAt}
 use Rattle.walker.specs.Path.{SameTokens}
@@ -43,13 +44,13 @@ module _ (t : Words) (i : ℕ) where
 
 module _ (t w : Words) (s : SameTokens t w) where
   pub code-here : {i : ℕ} → i < 1024 → codeAt w i ≡ codeAt t i
-  code-here {i} h = s (4 * i) (omega arith)
+  code-here {i} h = s (tokenSlot i) (omega arith)
 
   pub operand-here : {i : ℕ} → i < 1024 → operandAt w i ≡ operandAt t i
-  operand-here {i} h = s (4 * i + 1) (omega arith)
+  operand-here {i} h = s (tokenSlot i + 1) (omega arith)
 
   pub end-here : {i : ℕ} → i < 1024 → endAt w i ≡ endAt t i
-  end-here {i} h = s (4 * i + 2) (omega arith)
+  end-here {i} h = s (tokenSlot i + 2) (omega arith)
 
   ended-here : {i : ℕ} → Ends t i → endAt w i ≡ endAt t i
   ended-here q = end-here (omega (arith, q .after, q .inside))

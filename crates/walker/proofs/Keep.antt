@@ -7,6 +7,7 @@ use mathlib.Core.List.{List, [], _∷_}
 use lib.ListN.{getD}
 use Rattle.specification.specs.Place.{Place}
 use Rattle.specification.specs.Value.{Valuation}
+use Rattle.tables.specs.Layout.{nodeSlot, pathAt}
 use Rattle.sheet.specs.Tables.{Words}
 use Rattle.walker.specs.declared.Due.{Due}
 use Rattle.walker.specs.Node.{headAt, restAt}
@@ -15,18 +16,18 @@ use Rattle.walker.specs.Path.{World, Pend, Job, Changed, FrameAt, Stack}
 
 -- the words of the nodes below n are the same
 pub record SameNodes (n : ℕ) (w w' : Words) : Type 0 where
-  pub same : (j : ℕ) → 6144 ≤ j → j < 6144 + 12 * n → getD w' j 0 ≡ getD w j 0
+  pub same : (j : ℕ) → pathAt ≤ j → j < nodeSlot n → getD w' j 0 ≡ getD w j 0
 
 pub fewer-nodes : {m n : ℕ} {w w' : Words} → m ≤ n → SameNodes n w w' → SameNodes m w w'
 fewer-nodes h u = record { same = λ j a b. u .same j a (omega arith) }
 
 -- the words of a node that is kept
 module _ {w w' : Words} (i : ℕ) (u : SameNodes (suc i) w w') where
-  same-word : (k : ℕ) → k < 12 → getD w' (6144 + 12 * i + k) 0 ≡ getD w (6144 + 12 * i + k) 0
-  same-word k h = u .same (6144 + 12 * i + k) (omega arith) (omega arith)
+  same-word : (k : ℕ) → k < 12 → getD w' (nodeSlot i + k) 0 ≡ getD w (nodeSlot i + k) 0
+  same-word k h = u .same (nodeSlot i + k) (omega arith) (omega arith)
 
   same-head : headAt w' i ≡ headAt w i
-  same-head = u .same (6144 + 12 * i) (omega arith) (omega arith)
+  same-head = u .same (nodeSlot i) (omega arith) (omega arith)
 
   -- what a node keeps of a slot
   pub changed-keep : {p : Place} {α : Valuation} → Changed w i p α → Changed w' i p α

@@ -5,6 +5,7 @@ use native.Mathlib.Numerals.{add-one}
 use mathlib.Core.Path.{_≡_, refl, _∙_}
 use mathlib.Core.List.{List, [], _∷_}
 use lib.ListN.{length, getD}
+use Rattle.tables.specs.Layout.{nodeEnd, tokenSlot, cellsAt}
 use Rattle.sheet.specs.Tables.{Words}
 use Rattle.sheet.specs.Held.{codeAt, endAt}
 use Rattle.walker.specs.Node.{headAt, restAt}
@@ -17,7 +18,7 @@ use Rattle.walker.proofs.Here.{code-here, end-here}
 
 -- the node before p is there, and its token is one of the table
 pub record CellAt (w : Words) (p : ℕ) : Type 0 where
-  pub words : 6156 + 12 * (p - 1) ≤ length w
+  pub words : nodeEnd (p - 1) ≤ length w
   pub small : headAt w (p - 1) < 1024
   -- the second part of an `and`
   pub far : codeAt w (headAt w (p - 1)) ≡ 2 → endAt w (headAt w (p - 1) + 1) < 1024
@@ -49,7 +50,7 @@ listed-none w p e c n (again l F m v ∷ is) s q = absurd (omega (arith, q .1))
 
 module _ (w : Words) (p h q : ℕ) (some : p ≡ 0 → ⊥) (eh : h ≡ headAt w (p - 1)) (er : q ≡ restAt w (p - 1)) where
   -- the code of the node's token, in the tables
-  code-at : (c : World) (k : ℕ) → ((j : ℕ) → j < 4096 → getD w j 0 ≡ getD (c .tables) j 0) → p ≡ suc k → headAt w k < 1024 →
+  code-at : (c : World) (k : ℕ) → ((j : ℕ) → j < cellsAt → getD w j 0 ≡ getD (c .tables) j 0) → p ≡ suc k → headAt w k < 1024 →
       codeAt w h ≡ codeAt (c .tables) (headAt w k)
   code-at c k s e small =
       let z : p - 1 ≡ k = omega arith in
@@ -63,7 +64,7 @@ module _ (w : Words) (p h q : ℕ) (some : p ≡ 0 → ⊥) (eh : h ≡ headAt w
       let eh′ : h ≡ headAt w (x .0) = rw z at eh in
       let er′ : q ≡ restAt w (x .0) = rw z at er in
       let ee′ : e ≡ endAt (c .tables) (suc (headAt w (x .0))) =
-      ee ∙ rw (add-one, eh′) (s (4 * suc (headAt w (x .0)) + 2) (omega (arith, x .3))) in
+      ee ∙ rw (add-one, eh′) (s (tokenSlot (suc (headAt w (x .0))) + 2) (omega (arith, x .3))) in
       (code-here (c .tables) w s (rw ee′ (x .5)), rw ee′ (x .5), rw ee′ (x .6), rw er′ (pend-more c w (x .0) n (restAt w (x .0)) is (omega (arith, x .2)) (x .7)))
   listed-form {e} code ee c n (again l F m v ∷ is) s x = absurd (omega (arith, code, code-at c (x .0) s (x .1) (omega (arith, x .4 .near)), x .3))
 

@@ -16,6 +16,7 @@ use Rattle.specification.specs.Value.{full, Valuation}
 use Rattle.specification.proofs.Laws.Place.{valid-put}
 use Rattle.values.specs.Word.{signed, biased}
 use Rattle.values.proofs.Laws.Word.{biased-signed, signed-in32, signed-add}
+use Rattle.tables.specs.Layout.{nodeSlot, firstsAt, pathAt}
 use Rattle.sheet.specs.Tables.{Words}
 use Rattle.sheet.specs.Held.{endAt, Holds}
 use Rattle.walker.specs.declared.Regs.{Regs}
@@ -62,7 +63,7 @@ pub record Readable (w : Words) (k : ℕ) : Type 0 where
   pub near : headAt w k + 2 < 1024
   pub middle : endAt w (headAt w k + 2) < 1024
   pub inside : bodyOf w (headAt w k) < 1024
-  pub slot : slotAt w k + 1 < 5184
+  pub slot : slotAt w k + 1 < firstsAt
   pub last : lastAt w k < 4294967296
 
 pub readable : {w : Words} {r : Regs} → Topped w r 3 → Readable w (r .depth - 1)
@@ -104,7 +105,7 @@ pub record Follows (w w' : Words) (r : Regs) (h p : ℕ) : Type 0 where
   pub rest : p ≡ restAt w (r .depth - 1)
   pub slot : i ≡ slotAt w (r .depth - 1)
   pub value : v ≡ currentAt w (r .depth - 1) + 1
-  pub current : first ≡ set w (6144 + 12 * (r .depth - 1) + 6) v
+  pub current : first ≡ set w (nodeSlot (r .depth - 1) + 6) v
   pub flag : second ≡ set first i 1
   pub word : w' ≡ set second (i + 1) v
 
@@ -116,11 +117,11 @@ module _ {c : World} {w w' : Words} {r : Regs} {h p : ℕ} (g : Follows w w' r h
   value-is : g .v ≡ currentAt w (len fr) + 1
   value-is = g .value ∙ ap (λ k. currentAt w k + 1) (top-index P)
 
-  current-is : g .first ≡ set w (6144 + 12 * len fr + 6) (g .v)
+  current-is : g .first ≡ set w (nodeSlot (len fr) + 6) (g .v)
   current-is = rw (top-index P) at (g .current)
 
   current-kept : Kept (len fr) w (g .first)
-  current-kept = word-kept (len fr) (6144 + 12 * len fr + 6) (g .v) (omega arith) current-is
+  current-kept = word-kept (len fr) (nodeSlot (len fr) + 6) (g .v) (omega arith) current-is
 
   altered : Altered (g .first) w' (local l) (full (x +ℤ pos (suc i)))
   altered =
@@ -133,22 +134,22 @@ module _ {c : World} {w w' : Words} {r : Regs} {h p : ℕ} (g : Follows w w' r h
   next-kept = kept-both current-kept (altered-kept (len fr) (P .stack .0 .1 .inside) altered)
 
   -- the words of the node
-  from-first : (j : ℕ) → 6144 ≤ j → getD w' j 0 ≡ getD (g .first) j 0
+  from-first : (j : ℕ) → pathAt ≤ j → getD w' j 0 ≡ getD (g .first) j 0
   from-first j low =
       let z = in-table (local l) (P .stack .0 .1 .inside) in
       altered .others j (λ y. omega (arith, z .high)) (λ y. omega (arith, z .high))
 
-  same-word : (j : ℕ) → 6144 ≤ j → ¬ (j ≡ 6144 + 12 * len fr + 6) → getD w' j 0 ≡ getD w j 0
-  same-word j low n = from-first j low ∙ rw current-is (getD-set-other w (6144 + 12 * len fr + 6) j (g .v) 0 (λ y. n (omega arith)))
+  same-word : (j : ℕ) → pathAt ≤ j → ¬ (j ≡ nodeSlot (len fr) + 6) → getD w' j 0 ≡ getD w j 0
+  same-word j low n = from-first j low ∙ rw current-is (getD-set-other w (nodeSlot (len fr) + 6) j (g .v) 0 (λ y. n (omega arith)))
 
-  same : (k : ℕ) → ¬ (k ≡ 6) → getD w' (6144 + 12 * len fr + k) 0 ≡ getD w (6144 + 12 * len fr + k) 0
-  same k n = same-word (6144 + 12 * len fr + k) (omega arith) (λ y. n (omega arith))
+  same : (k : ℕ) → ¬ (k ≡ 6) → getD w' (nodeSlot (len fr) + k) 0 ≡ getD w (nodeSlot (len fr) + k) 0
+  same k n = same-word (nodeSlot (len fr) + k) (omega arith) (λ y. n (omega arith))
 
   now : currentAt w' (len fr) ≡ currentAt w (len fr) + 1
   now =
       let deep = P .deep in
-      from-first (6144 + 12 * len fr + 6) (omega arith) ∙
-      rw current-is (getD-set-same w (6144 + 12 * len fr + 6) (g .v) 0 (omega (arith, P .size, P .inside)) ∙ value-is)
+      from-first (nodeSlot (len fr) + 6) (omega arith) ∙
+      rw current-is (getD-set-same w (nodeSlot (len fr) + 6) (g .v) 0 (omega (arith, P .size, P .inside)) ∙ value-is)
 
   next-frame : FrameAt c w' (len fr) (innerIn fr) (range l x (suc i) m F is β)
   next-frame =
@@ -156,7 +157,7 @@ module _ {c : World} {w w' : Words} {r : Regs} {h p : ℕ} (g : Follows w w' r h
       let ch = a .1 in (
         same 2 (λ y. omega arith) ∙ a .0,
         record { slot = same 3 (λ y. omega arith) ∙ ch .slot; inside = ch .inside; saved = rw (same 4 (λ y. omega arith), same 5 (λ y. omega arith)) (ch .saved) },
-        rw (same-word (6144 + 12 * len fr) (omega arith) (λ y. omega arith)) (a .2),
+        rw (same-word (nodeSlot (len fr)) (omega arith) (λ y. omega arith)) (a .2),
         rw (now, same 7 (λ y. omega arith)) (next-left x i (a .3) more-here m refl),
         rw now (next-value x i (a .3) more-here),
         rw (same 1 (λ y. omega arith)) (pend-keep c w w' (len fr) (restAt w (len fr)) is (next-kept .nodes) (a .5)),
@@ -167,7 +168,7 @@ module _ {c : World} {w w' : Words} {r : Regs} {h p : ℕ} (g : Follows w w' r h
       let a = P .stack .0 in
       path-top P next-kept (range l x (suc i) m F is β) refl next-frame
       (holds-again altered (a .1 .inside) β (full (x +ℤ pos i))
-      (holds-keep (word-slots (6144 + 12 * len fr + 6) (g .v) (omega arith) current-is) (subst (Holds w) (P .chain .0) (P .holds))))
+      (holds-keep (word-slots (nodeSlot (len fr) + 6) (g .v) (omega arith) current-is) (subst (Holds w) (P .chain .0) (P .holds))))
       (valid-put β (local l) (full (x +ℤ pos (suc i))) (P .chain .1) (next-in x i (a .3) more-here))
 
   -- the formula under the quantifier

@@ -17,6 +17,7 @@ use Rattle.values.specs.Word.{signed}
 use Rattle.values.proofs.Laws.Word.{signed-biased, signed-count, signed-add, biased-word}
 use Rattle.sheet.specs.Tables.{Words}
 use lib.ListN.{length}
+use Rattle.tables.specs.Layout.{nodeEnd}
 use Rattle.sheet.specs.Held.{endAt}
 use Rattle.terms.specs.declared.Sides.{Sides}
 use Rattle.terms.specs.Results.{Valued}
@@ -246,7 +247,7 @@ module _ {w w' : Words} {r : Regs} {s : Sides} where
 
 module _ {w : Words} {r : Regs} (x : Visited w r) (j : r .due .job ≡ 15) where
   -- the node that began it
-  pub again-node : (1 ≤ r .due .head) × (6156 + 12 * (r .due .head - 1) ≤ length w)
+  pub again-node : (1 ≤ r .due .head) × (nodeEnd (r .due .head - 1) ≤ length w)
   again-node =
       let i = x .ins in
       let a = at-again i j in

@@ -12,6 +12,7 @@ use Rattle.specification.specs.Place.{Place, local, put}
 use Rattle.specification.specs.Value.{Slot, full, Valuation}
 use Rattle.specification.specs.Run.{going}
 use Rattle.specification.specs.Outcome.{resultOf}
+use Rattle.tables.specs.Layout.{pathAt}
 use Rattle.sheet.specs.Tables.{Words}
 use Rattle.sheet.specs.Held.{Holds}
 use Rattle.walker.specs.declared.Regs.{Regs}
@@ -173,7 +174,7 @@ left {w} x = rose (x .some) (λ c α fr P.
 
 module _ {w : Words} {r : Regs} (x : Restores w r) where
   -- the slot's two words are there
-  pub slot-there : slotAt w (r .depth - 1) + 1 < 6144
+  pub slot-there : slotAt w (r .depth - 1) + 1 < pathAt
   slot-there =
       let P = x .at .path in
       let s = x .back (x .at .c) (x .at .α) (x .at .fr) P in

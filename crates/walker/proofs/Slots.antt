@@ -8,6 +8,7 @@ use lib.Seq.{getD-set-same, getD-set-other}
 use Rattle.specification.specs.Place.{Place, cell, local, put}
 use Rattle.specification.specs.Value.{Slot, empty, full, Valuation}
 use Rattle.specification.proofs.Laws.Place.{place-dec, put-same, put-other}
+use Rattle.tables.specs.Layout.{cellsAt, firstsAt, pathAt}
 use Rattle.sheet.specs.Tables.{Words}
 use Rattle.sheet.specs.Held.{SlotAt, slotOf, Holds}
 use Rattle.walker.specs.Path.{Saved, InTable}
@@ -23,8 +24,8 @@ slots-apart (local a) (local b) n x y k j hk hj e = n (ap local (omega arith))
 
 -- a place's two words lie between the tokens and the arrays' first cells
 pub record Within (p : Place) : Type 0 where
-  pub low : 4096 ≤ slotOf p
-  pub high : slotOf p + 1 < 5184
+  pub low : cellsAt ≤ slotOf p
+  pub high : slotOf p + 1 < firstsAt
 
 pub in-table : (p : Place) → InTable p → Within p
 in-table (cell a) h = record { low = omega arith; high = omega arith }
@@ -53,7 +54,7 @@ slot-keep w w' i (full z) e f q = (e ∙ q .0, f ∙ q .1)
 -- ---- words with all slots as they were
 
 pub record SameSlots (w w' : Words) : Type 0 where
-  pub same : (j : ℕ) → 4096 ≤ j → j < 5184 → getD w' j 0 ≡ getD w j 0
+  pub same : (j : ℕ) → cellsAt ≤ j → j < firstsAt → getD w' j 0 ≡ getD w j 0
 
 pub holds-keep : {w w' : Words} {α : Valuation} → SameSlots w w' → Holds w α → Holds w' α
 holds-keep {w} {w'} {α} u h = holds-all w' α (λ p q.
@@ -101,7 +102,7 @@ slot-of-saved : (w : Words) (i had old : ℕ) (s : Slot) → Saved had old s →
 slot-of-saved w i had old empty q e f = e ∙ q
 slot-of-saved w i had old (full z) q e f = (e ∙ q .0, rw add-one at (f ∙ q .1))
 
-module _ {w w' : Words} {i : ℕ} (p : Place) (e : i ≡ slotOf p) (h : InTable p) (z : 6144 ≤ length w) where
+module _ {w w' : Words} {i : ℕ} (p : Place) (e : i ≡ slotOf p) (h : InTable p) (z : pathAt ≤ length w) where
   -- by its two words
   pub alter-two : {w1 : Words} (s : Slot) (had old : ℕ) → Saved had old s → w1 ≡ set w i had → w' ≡ set w1 (i + 1) old → Altered w w' p s
   alter-two {w1} s had old q e1 e2 =

@@ -5,6 +5,7 @@ use mathlib.Core.Path.{_≡_, refl, _∙_}
 use mathlib.Core.List.{List, [], _∷_}
 use lib.ListN.{length, getD, set, length-set}
 use lib.Seq.{getD-set-same, getD-set-other}
+use Rattle.tables.specs.Layout.{nodeSlot, nodeEnd}
 use Rattle.sheet.specs.Tables.{Words}
 use Rattle.walker.specs.declared.Regs.{Regs}
 use Rattle.walker.specs.Steps.{Marked, Linked, Pushed}
@@ -34,7 +35,7 @@ length-stores (x ∷ xs) w a k = length-stores xs (set w (a + k) x) a (suc k) �
 
 -- ---- the words of a node
 
-module _ (w : Words) (a d : ℕ) (e : a ≡ 6144 + 12 * d) (z : 6156 + 12 * d ≤ length w) where
+module _ (w : Words) (a d : ℕ) (e : a ≡ nodeSlot d) (z : nodeEnd d ≤ length w) where
   pub passed : Marked w (set w (a + 2) 0) d 0
   passed = record {
     low = λ j h. getD-set-other w (a + 2) j 0 0 (λ y. omega arith);
@@ -44,10 +45,10 @@ module _ (w : Words) (a d : ℕ) (e : a ≡ 6144 + 12 * d) (z : 6156 + 12 * d �
 
   -- the words xs after its first
   module _ (h : ℕ) (xs : List ℕ) (fits : length xs < 12) where
-    word-at : (n : ℕ) → n < length xs → getD (stores (set w a h) a 1 xs) (6144 + 12 * d + (1 + n)) 0 ≡ getD xs n 0
+    word-at : (n : ℕ) → n < length xs → getD (stores (set w a h) a 1 xs) (nodeSlot d + (1 + n)) 0 ≡ getD xs n 0
     word-at n k =
         let size = length-set w a h in
-        stores-at xs (set w a h) a 1 n (6144 + 12 * d + (1 + n)) (omega arith) k (omega arith)
+        stores-at xs (set w a h) a 1 n (nodeSlot d + (1 + n)) (omega arith) k (omega arith)
 
   -- its token, its list, what is left to do there, and more words after these
   pub linked : (h p todo : ℕ) (xs : List ℕ) → length xs < 10 → Linked w (stores (set w a h) a 1 (p ∷ todo ∷ xs)) d h p todo
@@ -64,7 +65,7 @@ module _ (w : Words) (a d : ℕ) (e : a ≡ 6144 + 12 * d) (z : 6156 + 12 * d �
         rest = word-at h ys (omega arith) 0 (omega arith);
       }
 
-pub pushed : (w : Words) (a : ℕ) (r : Regs) (h todo slot had old current last : ℕ) → a ≡ 6144 + 12 * r .depth → 6156 + 12 * r .depth ≤ length w →
+pub pushed : (w : Words) (a : ℕ) (r : Regs) (h todo slot had old current last : ℕ) → a ≡ nodeSlot (r .depth) → nodeEnd (r .depth) ≤ length w →
     Pushed w (stores (set w a h) a 1 (r .due .rest ∷ todo ∷ slot ∷ had ∷ old ∷ current ∷ last ∷ r .inner ∷ r .bad ∷ [])) r h todo slot had old current last
 pushed w a r h todo slot had old current last e z =
     let more : List ℕ = slot ∷ had ∷ old ∷ current ∷ last ∷ r .inner ∷ r .bad ∷ [] in

@@ -12,6 +12,7 @@ use Rattle.specification.specs.Bytes.{Bytes}
 use Rattle.specification.specs.Lines.{Declared}
 use Rattle.specification.specs.Value.{Valuation}
 use Rattle.specification.specs.Tree.{Tree, errorLeaf, fails, undecided}
+use Rattle.tables.specs.Layout.{nodeSlot}
 use Rattle.sheet.specs.Tables.{Words}
 use Rattle.sheet.specs.Held.{codeAt, endAt, Holds}
 use Rattle.walker.specs.declared.Regs.{Regs}
@@ -83,16 +84,16 @@ module _ {c : World} {w w' : Words} {d : ℕ} {α : Valuation} {f : Frame} {fr :
 -- ---- nothing is left to do at the node afterwards
 
 module _ {c : World} {w w' : Words} {d : ℕ} {α : Valuation} {f : Frame} {fr : List Frame} (P : Path c w d α (f ∷ fr))
-    (e : w' ≡ set w (6144 + 12 * (d - 1) + 2) 0) where
+    (e : w' ≡ set w (nodeSlot (d - 1) + 2) 0) where
   pub turned-kept : Kept (len fr) w w'
-  turned-kept = let deep = P .deep in word-kept (len fr) (6144 + 12 * (d - 1) + 2) 0 (omega arith) e
+  turned-kept = let deep = P .deep in word-kept (len fr) (nodeSlot (d - 1) + 2) 0 (omega arith) e
 
   pub turned : below f ≡ here f → Path c w' d (here f) (pass (here f) ∷ fr)
   turned q =
-      let at : w' ≡ set w (6144 + 12 * len fr + 2) 0 = rw (top-index P) at e in
+      let at : w' ≡ set w (nodeSlot (len fr) + 2) 0 = rw (top-index P) at e in
       let deep = P .deep in
-      path-top P turned-kept (pass (here f)) refl (rw at (getD-set-same w (6144 + 12 * len fr + 2) 0 0 (omega (arith, P .size, P .inside))))
-      (holds-keep (word-slots (6144 + 12 * (d - 1) + 2) 0 (omega arith) e) (subst (Holds w) (P .chain .0 ∙ q) (P .holds))) (P .chain .1)
+      path-top P turned-kept (pass (here f)) refl (rw at (getD-set-same w (nodeSlot (len fr) + 2) 0 0 (omega (arith, P .size, P .inside))))
+      (holds-keep (word-slots (nodeSlot (d - 1) + 2) 0 (omega arith) e) (subst (Holds w) (P .chain .0 ∙ q) (P .holds))) (P .chain .1)
 
 -- the second son of an `or`
 pub other-small : {w : Words} {r : Regs} → Topped w r 1 → suc (headAt w (r .depth - 1)) < 1024
@@ -110,7 +111,7 @@ other-far {w} {r} {h} {n} t eh en =
     rw (en, eh′, add-one k, far) (a .2)) (t .fr) (t .path)
 
 pub other-up : {c : World} {o : Bytes} {w w' : Words} {r : Regs} {h n p : ℕ} → 0 < r .depth → todoAt w (r .depth - 1) ≡ 1 → h ≡ headAt w (r .depth - 1) →
-    n ≡ endAt w (h + 1) → p ≡ restAt w (r .depth - 1) → w' ≡ set w (6144 + 12 * (r .depth - 1) + 2) 0 → Up c o w r →
+    n ≡ endAt w (h + 1) → p ≡ restAt w (r .depth - 1) → w' ≡ set w (nodeSlot (r .depth - 1) + 2) 0 → Up c o w r →
     Down c o w' (dueRegs r (r .depth) (formulaDue w n p) (r .inner) (r .bad))
 other-up {c} {o} {w} {w'} {r} {h} {n} {p} some t eh en ep ew u =
     top-other
@@ -135,10 +136,10 @@ pub record Judges (w w' : Words) (r : Regs) (h p inner bad : ℕ) : Type 0 where
   pub rest : p ≡ restAt w (r .depth - 1)
   pub inside : inner ≡ innerAt w (r .depth - 1)
   pub flag : bad ≡ badAt w (r .depth - 1)
-  pub words : w' ≡ set w (6144 + 12 * (r .depth - 1) + 2) 0
+  pub words : w' ≡ set w (nodeSlot (r .depth - 1) + 2) 0
 
 pub judging : {w w' : Words} {r : Regs} {h p inner bad : ℕ} → Topped w r 4 → h ≡ headAt w (r .depth - 1) → p ≡ restAt w (r .depth - 1) →
-    inner ≡ innerAt w (r .depth - 1) → bad ≡ badAt w (r .depth - 1) → w' ≡ set w (6144 + 12 * (r .depth - 1) + 2) 0 → Judges w w' r h p inner bad
+    inner ≡ innerAt w (r .depth - 1) → bad ≡ badAt w (r .depth - 1) → w' ≡ set w (nodeSlot (r .depth - 1) + 2) 0 → Judges w w' r h p inner bad
 judging t eh ep ei eb ew = record { some = t .some; todo = t .todo; head = eh; rest = ep; inside = ei; flag = eb; words = ew }
 
 module _ (D : Declared) (m : Bool) (tok : ℕ) (is : List Item) (α : Valuation) where

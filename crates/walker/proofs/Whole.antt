@@ -9,6 +9,7 @@ use lib.Seq.{getD-set-other}
 use Rattle.specification.specs.Place.{Place}
 use Rattle.specification.specs.Value.{Slot, Valuation}
 use Rattle.specification.specs.WellFormed.{Valid}
+use Rattle.tables.specs.Layout.{firstSlot, nodeSlot, firstsAt, duesAt, duesEnd, pathAt}
 use Rattle.sheet.specs.Tables.{Words}
 use Rattle.sheet.specs.Held.{Holds}
 use Rattle.walker.specs.Frame.{Frame, here, below, len, innerIn}
@@ -21,7 +22,7 @@ use Rattle.walker.proofs.Slots.{in-table, SameSlots, Altered}
 
 pub record Kept (n : ℕ) (w w' : Words) : Type 0 where
   pub tokens : SameTokens w w'
-  pub firsts : (j : ℕ) → 5184 ≤ j → j < 5201 → getD w' j 0 ≡ getD w j 0
+  pub firsts : (j : ℕ) → firstsAt ≤ j → j < duesAt → getD w' j 0 ≡ getD w j 0
   pub nodes : SameNodes n w w'
   pub size : length w' ≡ length w
 
@@ -58,7 +59,7 @@ altered-kept {w} {w'} {p} n h a =
     }
 
 -- by a word of the node n or of one above it
-pub word-kept : {w w' : Words} (n j x : ℕ) → 6144 + 12 * n ≤ j → w' ≡ set w j x → Kept n w w'
+pub word-kept : {w w' : Words} (n j x : ℕ) → nodeSlot n ≤ j → w' ≡ set w j x → Kept n w w'
 word-kept {w} {w'} n j x h e = record {
   tokens = λ k a. rw (e, getD-set-other w j k x 0 (λ y. omega arith));
   firsts = λ k a b. rw (e, getD-set-other w j k x 0 (λ y. omega arith));
@@ -66,11 +67,11 @@ word-kept {w} {w'} n j x h e = record {
   size = rw (e, length-set);
 }
 
-pub word-slots : {w w' : Words} (j x : ℕ) → 6144 ≤ j → w' ≡ set w j x → SameSlots w w'
+pub word-slots : {w w' : Words} (j x : ℕ) → pathAt ≤ j → w' ≡ set w j x → SameSlots w w'
 word-slots {w} j x h e = record { same = λ k a b. rw (e, getD-set-other w j k x 0 (λ y. omega arith)) }
 
 -- by the stack of results of the terms' evaluation
-module _ (w w' : Words) (u : (k : ℕ) → (k < 5201) ⊎ (5588 ≤ k) → getD w' k 0 ≡ getD w k 0) where
+module _ (w w' : Words) (u : (k : ℕ) → (k < duesAt) ⊎ (duesEnd ≤ k) → getD w' k 0 ≡ getD w k 0) where
   pub spare-kept : length w' ≡ length w → (n : ℕ) → Kept n w w'
   spare-kept z n = record {
     tokens = λ j h. u j (inl (omega arith));
@@ -92,7 +93,7 @@ module _ {c : World} {w w' : Words} {d : ℕ} {α : Valuation} {fr : List Frame}
     size = rw (k .size) (P .size);
     limit = P .limit;
     tokens = λ j a. k .tokens j a ∙ P .tokens j a;
-    arrays = λ a b. k .firsts (5184 + a) (omega arith) (omega arith) ∙ P .arrays a b;
+    arrays = λ a b. k .firsts (firstSlot a) (omega arith) (omega arith) ∙ P .arrays a b;
     cells = P .cells;
     few = P .few;
     deep = e;

@@ -2,6 +2,7 @@
 use Prim.Native.Nat.{ℕ, _+_, _*_, _≤_, _<_}
 use mathlib.Core.Path.{_≡_}
 use lib.ListN.{length, getD, set}
+use Rattle.tables.specs.Layout.{localSlot, nodeEnd, pathAt}
 use Rattle.sheet.specs.Tables.{Words}
 use Rattle.sheet.specs.Held.{operandAt, endAt}
 use Rattle.walker.specs.declared.Regs.{Regs}
@@ -12,17 +13,17 @@ use Rattle.walker.specs.Steps.{Pushed}
 pub record Local (w : Words) (r : Regs) (h : ℕ) : Type 0 where
   pub near : h + 2 < 1024
   pub local : operandAt w (h + 1) < 32
-  pub room : 6156 + 12 * r .depth ≤ length w
+  pub room : nodeEnd (r .depth) ≤ length w
 
 -- token h is a bounded quantifier, and its second bound is in the table
 pub record Middle (w : Words) (h : ℕ) : Type 0 where
   pub near : h + 2 < 1024
   pub middle : endAt w (h + 2) < 1024
-  pub size : 6144 ≤ length w
+  pub size : pathAt ≤ length w
 
 -- the local's slot begins with the word `slot`, and its two words are `had` and `old`
 pub record Saves (w : Words) (h slot had old : ℕ) : Type 0 where
-  pub first : slot ≡ 5120 + 2 * operandAt w (h + 1)
+  pub first : slot ≡ localSlot (operandAt w (h + 1))
   pub one : had ≡ getD w slot 0
   pub two : old ≡ getD w (slot + 1) 0
 

@@ -16,6 +16,7 @@ use Rattle.specification.specs.Value.{Slot, empty, full, Valuation}
 use Rattle.specification.specs.WellFormed.{Valid}
 use Rattle.specification.specs.Run.{Run}
 use Rattle.values.specs.Word.{biased, signed}
+use Rattle.tables.specs.Layout.{nodeSlot, cellsAt}
 use Rattle.sheet.specs.Tables.{Words}
 use Rattle.sheet.specs.Held.{codeAt, endAt, slotOf, Holds, ArraysAt}
 use Rattle.walker.specs.declared.Due.{Due}
@@ -144,11 +145,11 @@ Chain α (f ∷ fr) = (α ≡ below f) × Valid (here f) × Chain (here f) fr
 
 -- the tokens of the tables
 abbrev pub SameTokens : Words → Words → Type 0
-SameTokens t w = (j : ℕ) → j < 4096 → getD w j 0 ≡ getD t j 0
+SameTokens t w = (j : ℕ) → j < cellsAt → getD w j 0 ≡ getD t j 0
 
 -- d nodes, at most as many as the path limit
 pub record Path (c : World) (w : Words) (d : ℕ) (α : Valuation) (fr : List Frame) : Type 0 where
-  pub size : 6144 + 12 * c .setting .path ≤ length w
+  pub size : nodeSlot (c .setting .path) ≤ length w
   pub limit : c .setting .path ≤ 32768
   pub tokens : SameTokens (c .tables) w
   pub arrays : ArraysAt w (c .declared)

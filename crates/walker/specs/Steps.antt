@@ -16,6 +16,7 @@ use Rattle.specification.specs.Place.{Place, local, put}
 use Rattle.specification.specs.Value.{empty, full}
 use Rattle.specification.specs.Tree.{step, fan, check, assign}
 use Rattle.values.specs.Word.{biased, signed}
+use Rattle.tables.specs.Layout.{cellSlot, nodeSlot, localsAt, firstsAt}
 use Rattle.sheet.specs.Tables.{Words}
 use Rattle.sheet.specs.Held.{codeAt, slotOf}
 use Rattle.sheet.specs.Codes.{relCode}
@@ -35,7 +36,7 @@ Upto n w w' = (j : ℕ) → j < n → getD w' j 0 ≡ getD w j 0
 
 -- node d has `todo` left to do
 pub record Marked (w w' : Words) (d todo : ℕ) : Type 0 where
-  pub low : Upto (6144 + 12 * d) w w'
+  pub low : Upto (nodeSlot d) w w'
   pub left : todoAt w' d ≡ todo
   pub size : length w' ≡ length w
 
@@ -62,7 +63,7 @@ pub record Leads (w : Words) (p : ℕ) : Type 0 where
   pub n : ℕ
   pub is : List Item
   pub tokens : SameTokens (c .tables) w
-  pub size : 6144 + 12 * n ≤ length w
+  pub size : nodeSlot n ≤ length w
   pub pend : Pend c w n p is
 
 -- what it stands for comes first
@@ -119,8 +120,8 @@ pub record Assigns (w : Words) (r : Regs) (slot value : ℕ) : Type 0 where
 
 -- whether the place of a slot may be assigned: in an inner tree no array element is, and array 0 begins after the scalars
 abbrev pub Assignable : Words → ℕ → ℕ → Bool → Type 0
-Assignable w inner slot true = (inner ≡ 0) ⊎ (slot < 4096 + 2 * getD w 5184 0) ⊎ (5120 ≤ slot)
-Assignable w inner slot false = (inner ≡ 0 → ⊥) × (4096 + 2 * getD w 5184 0 ≤ slot) × (slot < 5120)
+Assignable w inner slot true = (inner ≡ 0) ⊎ (slot < cellSlot (getD w firstsAt 0)) ⊎ (localsAt ≤ slot)
+Assignable w inner slot false = (inner ≡ 0 → ⊥) × (cellSlot (getD w firstsAt 0) ≤ slot) × (slot < localsAt)
 
 -- the same where the place may be assigned
 pub record Sets (w : Words) (r : Regs) (slot value : ℕ) : Type 0 where

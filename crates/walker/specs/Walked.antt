@@ -11,6 +11,7 @@ use Rattle.specification.specs.WellFormed.{WellFormed}
 use Rattle.specification.specs.Run.{tallies}
 use Rattle.specification.specs.Outcome.{ran, resultOf, start, runOf, outcome, outputAfter}
 use Rattle.specification.specs.Report.{endFrom}
+use Rattle.tables.specs.Layout.{nodeSlot}
 use Rattle.sheet.specs.Tables.{Words}
 use Rattle.sheet.specs.Held.{Holds, ArraysAt}
 use Rattle.walker.specs.declared.Regs.{Regs}
@@ -26,7 +27,7 @@ pub record Ready (w : Words) (S : Setting) (scalars arrays : ℕ) (s : Sheet) : 
   pub scalar-count : scalars ≡ s .declared .scalars
   pub array-count : arrays ≡ length (s .declared .arrays)
   pub limit : S .path ≤ 32768
-  pub size : 6144 + 12 * S .path ≤ length w
+  pub size : nodeSlot (S .path) ≤ length w
 
 pub record Readied (w : Words) (S : Setting) (scalars arrays : ℕ) : Type 0 where
   pub sheet : Sheet

@@ -1,11 +1,16 @@
 // Entering a node whose first formula is an atom.
 ghost use Prim.Native.Nat.{_≤_, _<_};
 ghost use lib.ListN.{length, getD};
+ghost use Rattle.tables.specs.Layout.{firstsAt};
 ghost use Rattle.walker.specs.Steps.{Entered, Stepped, Assignable, Assigns, Sets, Tested, KindOf, Compares};
 use crate::Regs;
 use crate::nodes;
 use crate::registers;
 use crate::sons;
+
+const CELLS: u32 = tables::CELLS as u32;
+
+const LOCALS: u32 = tables::LOCALS as u32;
 
 // The value goes into the empty slot, then the rest.
 fn set(w: &mut [u32], r: Regs, slot: u32, value: u32) -> Regs
@@ -23,17 +28,17 @@ fn set(w: &mut [u32], r: Regs, slot: u32, value: u32) -> Regs
 
 // Whether the slot may be assigned: in an inner tree no array element is.
 fn assignable(w: &[u32], inner: u32, slot: u32) -> bool
-    requires { ⌜ (5184 < length (now w)) × (getD (now w) 5184 0 ≤ 512) ⌝ }
+    requires { ⌜ (firstsAt < length (now w)) × (getD (now w) firstsAt 0 ≤ 512) ⌝ }
     ensures { λ b. ⌜ Assignable (now (w .entry)) inner slot b ⌝ }
 {
     if inner == 0 {
         return true;
     }
     // the first element's slot: array 0 begins after the scalars
-    if slot < 4096 + 2 * nodes::word(w, 5184) {
+    if slot < CELLS + 2 * nodes::word(w, tables::FIRSTS) {
         return true;
     }
-    5120 <= slot
+    LOCALS <= slot
 }
 
 // An `eq` with a bare side.

@@ -12,12 +12,14 @@ use crate::registers;
 use crate::sons;
 use terms::Sides;
 
+const LOCALS: u32 = tables::LOCALS as u32;
+
 // Pushes the node with the slot of the local that its quantifier, at token `head`, binds, and gives the slot's first word.
 fn keep(w: &mut [u32], r: Regs, head: u32, todo: u32, current: u32, last: u32) -> usize
     requires { ⌜ Local (now w) r head ⌝ }
     ensures { λ i. ⌜ Keeps (now (w .entry)) (now (w .exit)) r head todo i current last ⌝ }
 {
-    let slot = 5120 + 2 * nodes::operand(w, head + 1);
+    let slot = LOCALS + 2 * nodes::operand(w, head + 1);
     let i = slot as usize;
     let had = nodes::word(w, i);
     let old = nodes::word(w, i + 1);

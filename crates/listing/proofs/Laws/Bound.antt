@@ -14,10 +14,10 @@ use Rattle.specification.specs.Listing.{Line, cellLabel, _is_, labelText, lines
 use Rattle.specification.specs.Printed.{fieldText}
 use Rattle.specification.proofs.Laws.Blocks.{linesText-++}
 use Rattle.values.specs.Word.{signed}
-use Rattle.sheet.specs.Tables.{Words}
+use Rattle.tables.specs.Layout.{Words, cellSlot, flagAt, valueAt, firstAt}
 use Rattle.listing.specs.declared.Head.the-variants.{Answer, Error}
 use Rattle.listing.specs.Put.{Room, Put}
-use Rattle.listing.specs.Model.{flagAt, valueAt, firstAt, Laid, eachLine, lineAt, scalarLine, elementLine, arrayLines, headText, Headed}
+use Rattle.listing.specs.Model.{Laid, eachLine, lineAt, scalarLine, elementLine, arrayLines, headText, Headed}
 use Rattle.listing.proofs.Laws.Digits.{length-within, value-bound}
 use Rattle.listing.proofs.Laws.Pieces.{answer-pieces, error-pieces}
 
@@ -92,7 +92,7 @@ module _ (w : Words) (word : (j : ℕ) → getD w j 0 < 4294967296) where
             arith,
             length-append (labelText (cellLabel n)) (bytes "=" ++ (v ++ bytes "\n")),
             length-append v (bytes "\n"),
-            value-bound (valueAt w c) (word (4096 + 2 * c + 1)),
+            value-bound (valueAt w c) (word (cellSlot c + 1)),
           )
 
   scalar-bound : (i : ℕ) → i < 512 → length (linesText (scalarLine w i)) ≤ 35

@@ -8,10 +8,10 @@ use Rattle.specification.specs.Number.{printℕ, printℤ}
 use Rattle.specification.specs.Lines.{CellName, scalar, element}
 use Rattle.specification.specs.Listing.{cellLabel, headLines, labelText, linesText}
 use Rattle.specification.specs.Printed.{fieldText}
-use Rattle.sheet.specs.Tables.{Words}
 use Rattle.listing.specs.declared.Head.the-variants.{Answer, Error}
 use Rattle.listing.specs.Put.{endText}
-use Rattle.listing.specs.Model.{flagAt, valueAt, firstAt, eachLine, lineAt, elementLine, arrayLines, headText}
+use Rattle.listing.specs.Model.{eachLine, lineAt, elementLine, arrayLines, headText}
+use Rattle.tables.specs.Layout.{Words, flagAt, valueAt, firstAt}
 use Rattle.listing.proofs.Laws.Put.{joined}
 
 -- ---- a cell's line

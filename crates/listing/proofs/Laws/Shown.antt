@@ -18,12 +18,12 @@ use Rattle.specification.specs.Listing.{cellLabel, _is_, headLines, cellLines, 
 use Rattle.specification.proofs.Laws.Blocks.{linesText-++}
 use Rattle.values.specs.Word.{signed}
 use Rattle.values.proofs.Laws.Word.{signed-biased}
-use Rattle.sheet.specs.Tables.{Words}
+use Rattle.tables.specs.Layout.{Words, cellSlot, flagAt, firstAt}
 use Rattle.sheet.specs.Held.{SlotAt}
 use Rattle.listing.specs.declared.Head.{Head}
 use Rattle.listing.specs.declared.Written.the-variants.{Full, Bytes as Count}
 use Rattle.listing.specs.Put.{Put}
-use Rattle.listing.specs.Model.{flagAt, firstAt, Laid, eachLine, lineAt, scalarLine, elementLine, arrayLines, headOf, modelText}
+use Rattle.listing.specs.Model.{Laid, eachLine, lineAt, scalarLine, elementLine, arrayLines, headOf, modelText}
 use Rattle.listing.specs.Block.{Shows, Wrote}
 
 -- ---- the arrays' cells
@@ -59,11 +59,11 @@ module _ {w : Words} {scalars arrays : ℕ} {D : Declared} {β : Valuation} (s :
   unfolding lineAt cellLines
   cell-line n h ns = go (β (cell (cellOf D n))) refl (s .holds .cells (cellOf D n) h)
     where
-      go : (t : Slot) → β (cell (cellOf D n)) ≡ t → SlotAt w (4096 + 2 * cellOf D n) t →
+      go : (t : Slot) → β (cell (cellOf D n)) ≡ t → SlotAt w (cellSlot (cellOf D n)) t →
           cellLines (namedIf n t ns) ≡ lineAt w n (cellOf D n) ++ cellLines ns
       go empty e k = rw (eq-eqb (flagAt w (cellOf D n)) 0 k)
       go (full z) e k =
-          let v = ap (λ j. getD w j 0) {x = 4096 + 2 * cellOf D n + 1} {y = suc (4096 + 2 * cellOf D n)} (omega arith) ∙ k .1 in
+          let v = ap (λ j. getD w j 0) {x = cellSlot (cellOf D n) + 1} {y = suc (cellSlot (cellOf D n))} (omega arith) ∙ k .1 in
           rw (ne-eqb (flagAt w (cellOf D n)) 0 (λ q. omega (arith, k .0)))
           (ap (λ y. (cellLabel n is y) ∷ cellLines ns) (sym (ap signed v ∙ signed-biased z (s .valid (cell (cellOf D n)) z e))))
 

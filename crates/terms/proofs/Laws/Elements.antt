@@ -11,6 +11,7 @@ use Rattle.specification.specs.Place.{cell}
 use Rattle.specification.specs.Value.{Valuation, val, bare, err, elementSide}
 use Rattle.specification.proofs.Laws.Elements.{first-next, first-limit}
 use Rattle.values.specs.Word.{biased}
+use Rattle.tables.specs.Layout.{cellSlot, firstAt}
 use Rattle.sheet.specs.Tables.{Words}
 use Rattle.terms.specs.declared.Stack.{Stack}
 use Rattle.terms.specs.Results.{stackOf, errorOf, Raised, Looked}
@@ -19,10 +20,10 @@ use Rattle.terms.specs.Machine.{Context, Element, Elements}
 -- ---- where arrays stand
 
 module _ {w : Words} {D : Declared} {α : Valuation} (c : Context w D α) (a : ℕ) (declared : a < length (D .arrays)) where
-  pub first-at : getD w (5184 + a) 0 ≡ firstOf D a
+  pub first-at : firstAt w a ≡ firstOf D a
   first-at = c .arrays a (omega (arith, c .few))
 
-  pub next-at : getD w (5184 + (a + 1)) 0 ≡ firstOf D a + lengthOf D a
+  pub next-at : firstAt w (a + 1) ≡ firstOf D a + lengthOf D a
   next-at = rw add-one (c .arrays (suc a) (omega (arith, c .few)) ∙ first-next D a)
 
   pub elements : Elements w a
@@ -60,7 +61,7 @@ module _ {w : Words} {a : ℕ} {s : Stack} where
       go D α (pos n) c d e = absurd (omega arith)
       go D α (negsuc n) c d e = q
 
-  module _ {first next : ℕ} (first-is : first ≡ getD w (5184 + a) 0) (next-is : next ≡ getD w (5184 + (a + 1)) 0) where
+  module _ {first next : ℕ} (first-is : first ≡ firstAt w a) (next-is : next ≡ firstAt w (a + 1)) where
     pub element-outside : {r : Stack} → r ≡ errorOf 4 (s .at) → s .tag ≡ 0 → 2147483648 ≤ s .value →
         next - first ≤ s .value - 2147483648 → Element w a s r
     unfolding elementSide
@@ -72,7 +73,7 @@ module _ {w : Words} {a : ℕ} {s : Stack} where
         go D α (negsuc n) c d e = absurd (omega arith)
 
     pub element-inside : {r : Stack} → s .tag ≡ 0 → 2147483648 ≤ s .value → s .value - 2147483648 < next - first →
-        Looked w (4096 + 2 * (first + (s .value - 2147483648))) (s .at) r → Element w a s r
+        Looked w (cellSlot (first + (s .value - 2147483648))) (s .at) r → Element w a s r
     unfolding elementSide
     element-inside {r} t l o h = element-value t go
       where
@@ -83,6 +84,6 @@ module _ {w : Words} {a : ℕ} {s : Stack} where
             let to = next-at c a d in
             let here = firstOf D a + n in
             let below : here < 512 = omega (arith, first-limit D (suc a), first-next D a, c .cells) in
-            let slot : 4096 + 2 * here ≡ 4096 + 2 * (first + (s .value - 2147483648)) = omega arith in
+            let slot : cellSlot here ≡ cellSlot (first + (s .value - 2147483648)) = omega arith in
             rw (lt-ltb n (lengthOf D a) (omega arith)) (h (cell here) (α (cell here)) slot (rw (sym slot) (c .holds .cells here below)))
         go D α (negsuc n) c d e = absurd (omega arith)

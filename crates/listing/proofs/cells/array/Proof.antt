@@ -11,23 +11,23 @@ use Rattle.listing.proofs.cells.array.Statement.{statement}
 use Rattle.listing.proofs.cells.array.Tie as tie
 
 -- its lines by the cells that were read
-parted : (c : tie.After-first2) →
+parted : (c : tie.After-first-cell2) →
     let a = c .before .before .before .before .args in
-    let from = c .before .first .result in
+    let from = c .before .first-cell .result in
     Left (a .out .now) (a .at) (linesText (arrayLines (a .w .now) (a .a))) (a .out .now) (a .at)
-    (linesText (eachLine (elementLine (a .w .now) (a .a) from) 0 (c .first2 .result - from)) ∷ [])
+    (linesText (eachLine (elementLine (a .w .now) (a .a) from) 0 (c .first-cell2 .result - from)) ∷ [])
 parted c =
-    let f = c .before .first in
-    pieces-left _ _ _ (array-pieces _ _ (f .result) (c .first2 .result) (f .ensures) (c .first2 .ensures))
+    let f = c .before .first-cell in
+    pieces-left _ _ _ (array-pieces _ _ (f .result) (c .first-cell2 .result) (f .ensures) (c .first-cell2 .ensures))
 
-first-requires : tie.Need-first-requires
-first-requires c κs = search needs
+first-cell-requires : tie.Need-first-cell-requires
+first-cell-requires c κs = search needs
 
-add-first : tie.Need-add-first
-add-first c = omega arith
+add-first-cell : tie.Need-add-first-cell
+add-first-cell c = omega arith
 
-first-requires-2 : tie.Need-first-requires-2
-first-requires-2 c κs = search needs
+first-cell-requires-2 : tie.Need-first-cell-requires-2
+first-cell-requires-2 c κs = search needs
 
 sub-elements : tie.Need-sub-elements
 sub-elements c = omega arith
@@ -50,4 +50,4 @@ returns c =
 pub array-spec : {M : Type 1} → statement M
 array-spec =
     tie.close
-    (tie.spec first-requires add-first first-requires-2 sub-elements elements-requires same-length returns)
+    (tie.spec first-cell-requires add-first-cell first-cell-requires-2 sub-elements elements-requires same-length returns)

@@ -11,29 +11,29 @@ use Rattle.listing.proofs.cells.scalar.Statement.{statement}
 use Rattle.listing.proofs.cells.scalar.Tie as tie
 
 -- the line's pieces
-parted : (c : tie.After-value) →
+parted : (c : tie.After-cell-value) →
     let a = c .before .before .before .before .before .args in
     Left (a .out .now) (a .at) (linesText (lineAt (a .w .now) (scalar (a .n)) (a .n))) (a .out .now) (a .at)
-    (labelText (cellLabel (scalar (a .n))) ∷ endText (c .value .result) ∷ [])
+    (labelText (cellLabel (scalar (a .n))) ∷ endText (c .cell-value .result) ∷ [])
 parted c =
     let a = c .before .before .before .before .before .args in
-    let f = c .before .before .flag in
+    let f = c .before .before .cell-flag in
     pieces-left _ _ _
-    (line-pieces (a .w .now) (a .n) (f .result) (f .ensures) (c .before .if1 .left) (c .value .result) (c .value .ensures) (scalar (a .n)))
+    (line-pieces (a .w .now) (a .n) (f .result) (f .ensures) (c .before .if1 .left) (c .cell-value .result) (c .cell-value .ensures) (scalar (a .n)))
 
-flag-requires : tie.Need-flag-requires
-flag-requires c κs = search needs
+cell-flag-requires : tie.Need-cell-flag-requires
+cell-flag-requires c κs = search needs
 
 returns : tie.Need-returns
 returns c =
     let at-flag = c .before in
     let start = at-flag .before .before .before in
     let a = start .args in
-    none-left (no-line (a .w .now) (a .n) (at-flag .flag .result) (at-flag .flag .ensures) (scalar (a .n)) (c .if1 .taken))
+    none-left (no-line (a .w .now) (a .n) (at-flag .cell-flag .result) (at-flag .cell-flag .ensures) (scalar (a .n)) (c .if1 .taken))
     (all-left (a .out .now) (a .at) (linesText (lineAt (a .w .now) (scalar (a .n)) (a .n))))
 
-value-requires : tie.Need-value-requires
-value-requires c κs = search needs
+cell-value-requires : tie.Need-cell-value-requires
+cell-value-requires c κs = search needs
 
 scalar-name-requires : tie.Need-scalar-name-requires
 scalar-name-requires c κs =
@@ -60,4 +60,4 @@ returns-2 c =
 
 pub scalar-spec : {M : Type 1} → statement M
 scalar-spec =
-    tie.close (tie.spec flag-requires returns value-requires scalar-name-requires ending-requires same-length returns-2)
+    tie.close (tie.spec cell-flag-requires returns cell-value-requires scalar-name-requires ending-requires same-length returns-2)

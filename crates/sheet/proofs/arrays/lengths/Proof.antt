@@ -4,6 +4,7 @@ use mathlib.Core.Path.{refl, _∙_, sym}
 use native.Mathlib.Omega.{arith}
 use Rattle.specification.specs.Bytes.{comma, classNumber}
 use Rattle.text.proofs.Laws.Class.{class-inside}
+use Rattle.tables.specs.Layout.{firstSlot}
 use Rattle.sheet.proofs.ArrayLine.{Reading, turn-long, turn-same, turn-none, turn-refused, turn-few, turn-last, turn-next}
 use borrow.Author.Needs.{needs}
 use Rattle.sheet.proofs.arrays.lengths.Statement.{statement}
@@ -60,7 +61,7 @@ class-at-requires c κs = search needs
 fill-requires : tie.Need-fill-requires Inv-loop μ-loop
 fill-requires c κs =
     let p = c .before .before .before .before .before in
-    omega (arith, turn-long (p .before .before .before .loop .inv) (5184 + (p .before .before .before .loop .n)) (p .before .before .before .loop .end))
+    omega (arith, turn-long (p .before .before .before .loop .inv) (firstSlot (p .before .before .before .loop .n)) (p .before .before .before .loop .end))
 
 same-length-2 : tie.Need-same-length-2 Inv-loop μ-loop
 same-length-2 c =

@@ -5,13 +5,14 @@ use mathlib.Core.Path.{_≡_, _∙_, sym}
 use lib.ListN.{length}
 use Rattle.text.proofs.Laws.Run.{end-ge, end-le}
 use Rattle.specification.specs.Bytes.{inToken}
+use Rattle.tables.specs.Layout.{pathAt}
 use Rattle.sheet.proofs.Scan.{Reading, Taken, May, reading-start, turn-stops, may, turn-stands, taken-last, taken-stops, taken-next, through-start}
 use borrow.Author.Needs.{needs}
 use Rattle.sheet.proofs.formula.scan.Statement.{statement}
 use Rattle.sheet.proofs.formula.scan.Tie as tie
 
 abbrev Inv-loop : tie.InvT-loop
-Inv-loop s from d w₀ n₀ count₀ bound₀ at₀ w n count bound at = Reading s from d w₀ w n count bound at × (6144 ≤ length w₀)
+Inv-loop s from d w₀ n₀ count₀ bound₀ at₀ w n count bound at = Reading s from d w₀ w n count bound at × (pathAt ≤ length w₀)
 
 abbrev μ-loop : tie.MeasureT-loop
 μ-loop s from d w₀ n₀ count₀ bound₀ at₀ w n count bound at = 1024 - count

@@ -2,6 +2,7 @@
 use Prim.Native.Nat.{_+_, _*_}
 use native.Mathlib.Omega.{arith}
 use lib.ListN.{length-set}
+use Rattle.tables.specs.Layout.{cellSlot}
 use borrow.Author.Needs.{needs}
 use Rattle.sheet.proofs.given.put.Statement.{statement}
 use Rattle.sheet.proofs.given.put.Tie as tie
@@ -25,7 +26,7 @@ mul-w-2 : tie.Need-mul-w-2
 mul-w-2 c = search needs
 
 slice-write-w-2 : tie.Need-slice-write-w-2
-slice-write-w-2 c = omega (arith, length-set (c .args .w .now) (4096 + 2 * (c .args .cell)) 1)
+slice-write-w-2 c = omega (arith, length-set (c .args .w .now) (cellSlot (c .args .cell)) 1)
 
 same-length : tie.Need-same-length
 same-length c = search needs

@@ -15,6 +15,7 @@ use Rattle.specification.specs.Value.{Valuation}
 use Rattle.specification.specs.WellFormed.{Scope}
 use Rattle.specification.specs.Closed.{filled, closedFormula, closed}
 use Rattle.specification.specs.Closed as specified
+use Rattle.tables.specs.Layout.{pathAt}
 use Rattle.sheet.specs.Tables.{Words}
 use Rattle.sheet.specs.Held.{Holds}
 use Rattle.terms.specs.Openness.{Standing, Mark, formulaMarks, MarksAt, answered, pass, knownBy, Marked, Met, Known}
@@ -51,7 +52,7 @@ rest-start w from to D α F s =
     }
 
 module _ {w : Words} {i to m : ℕ} {α : Valuation} {F : Formula} (rest : Rest w i to m α F) where
-  pub rest-mark : i < to → 6144 ≤ length w → Marked w i
+  pub rest-mark : i < to → pathAt ≤ length w → Marked w i
   rest-mark l z = go (rest .marks) (rest .at)
     where
       go : (xs : List Mark) → MarksAt w i to xs → Marked w i

@@ -15,6 +15,7 @@ use Rattle.specification.specs.Lines.{cells}
 use Rattle.specification.specs.Place.{Place, cell, local, put}
 use Rattle.specification.specs.Value.{empty, full}
 use Rattle.specification.specs.Closed.{filled}
+use Rattle.tables.specs.Layout.{cellSlot, localSlot}
 use Rattle.sheet.specs.Tables.{Words}
 use Rattle.sheet.specs.Held.{codeAt, operandAt}
 use Rattle.terms.specs.Openness.{Mark, bindMark, askMark, plainMark, MarkAt, learnt, has, knownBy, Filled, Marked, Met, Known}
@@ -88,14 +89,14 @@ module _ (w : Words) (i m : ℕ) where
 
   -- an operand of token i, and the answer for its slot
   module _ (n : ℕ) (operand : n ≡ operandAt w i) where
-    pub known-scalar : {r : Bool} → codeAt w i ≡ 41 → Filled w (4096 + 2 * n) r → Known w i m r
+    pub known-scalar : {r : Bool} → codeAt w i ≡ 41 → Filled w (cellSlot n) r → Known w i m r
     known-scalar e f α (bindMark l) h a = absurd (omega (arith, a .1))
     known-scalar e f α (askMark (cell c)) h a = f (α (cell c)) (rw (operand ∙ a .1) (h .cells c (a .2)))
     known-scalar e f α (askMark (local l)) h a = absurd (omega (arith, a .0))
     known-scalar e f α plainMark h (inl a) = absurd (omega arith)
     known-scalar e f α plainMark h (inr a) = absurd (a .1 e)
 
-    pub known-local : {r : Bool} → codeAt w i ≡ 42 → has m n ≡ false → Filled w (5120 + 2 * n) r → Known w i m r
+    pub known-local : {r : Bool} → codeAt w i ≡ 42 → has m n ≡ false → Filled w (localSlot n) r → Known w i m r
     known-local e o f α (bindMark l) h a = absurd (omega (arith, a .1))
     known-local e o f α (askMark (cell c)) h a = absurd (omega (arith, a .0))
     known-local e o f α (askMark (local l)) h a =

@@ -1,6 +1,7 @@
 -- `evaluation::step` meets its contract: each code goes to the function of its kind. Assumes nothing.
 use Prim.Native.Nat.{_+_, _*_, _<_}
 use native.Mathlib.Omega.{arith}
+use Rattle.tables.specs.Layout.{cellsAt, localsAt, duesAt, cellSlot, localSlot}
 use Rattle.terms.specs.Machine.{Room}
 use Rattle.terms.proofs.Laws.Step.{operation-asked, operation-stepped, array-asked, array-stepped, place-asked, place-stepped}
 use Rattle.terms.proofs.Laws.Step.{constant-asked, constant-stepped}
@@ -12,19 +13,19 @@ use Rattle.terms.proofs.evaluation.step.Tie as tie
 at-local : (c : tie.After-operand) →
     let test = c .before .before .before in
     let s = test .before .before .before .before in
-    (5120 + 2 * c .operand .result < 5200) × Room (s .args .w .now) 5201 (s .args .s .at)
+    (localSlot (c .operand .result) + 1 < duesAt) × Room (s .args .w .now) duesAt (s .args .s .at)
 at-local c =
     let test = c .before .before .before in
     let s = test .before .before .before .before in
     let a = s .args in
     let k = test .if1 .taken in
-    place-asked (a .w .now) (a .s) (a .i) (test .before .code .ensures) (c .operand .ensures) 5120 (omega (arith, k)) (s .pre)
+    place-asked (a .w .now) (a .s) (a .i) (test .before .code .ensures) (c .operand .ensures) localsAt (omega (arith, k)) (s .pre)
 
 at-scalar : (c : tie.After-place-arg) →
     let read = c .before .before .before in
     let code = read .before .before .before .before in
     let s = code .before .before .before in
-    (4096 + 2 * read .operand2 .result < 5200) × Room (s .args .w .now) 5201 (s .args .s .at)
+    (cellSlot (read .operand2 .result) + 1 < duesAt) × Room (s .args .w .now) duesAt (s .args .s .at)
 at-scalar c =
     let test = c .before in
     let read = test .before .before in
@@ -32,7 +33,7 @@ at-scalar c =
     let s = code .before .before .before in
     let a = s .args in
     let k = test .if4 .taken in
-    place-asked (a .w .now) (a .s) (a .i) (code .code .ensures) (read .operand2 .ensures) 4096 (omega (arith, k)) (s .pre)
+    place-asked (a .w .now) (a .s) (a .i) (code .code .ensures) (read .operand2 .ensures) cellsAt (omega (arith, k)) (s .pre)
 
 code-requires : tie.Need-code-requires
 code-requires c κs = search needs
@@ -59,7 +60,7 @@ returns c =
     let test = read .before .before .before in
     let a = test .before .before .before .before .args in
     let k = test .if1 .taken in
-    place-stepped (a .w .now) (a .s) (a .i) (test .before .code .ensures) (read .operand .ensures) 5120 (omega (arith, k))
+    place-stepped (a .w .now) (a .s) (a .i) (test .before .code .ensures) (read .operand .ensures) localsAt (omega (arith, k))
     (done .place .ensures)
 
 operation-requires : tie.Need-operation-requires
@@ -123,7 +124,7 @@ returns-4 c =
     let code = read .before .before .before .before in
     let a = code .before .before .before .args in
     let k = test .if4 .taken in
-    place-stepped (a .w .now) (a .s) (a .i) (code .code .ensures) (read .operand2 .ensures) 4096 (omega (arith, k))
+    place-stepped (a .w .now) (a .s) (a .i) (code .code .ensures) (read .operand2 .ensures) cellsAt (omega (arith, k))
     (done .place2 .ensures)
 
 constant-requires : tie.Need-constant-requires

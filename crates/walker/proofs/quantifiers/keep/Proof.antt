@@ -3,6 +3,7 @@ use borrow.Author.Needs.{needs}
 use native.Mathlib.Omega.{arith}
 use mathlib.Core.Path.{ap}
 use Prim.Native.Nat.{_+_, _*_}
+use Rattle.tables.specs.Layout.{localSlot}
 use Rattle.walker.proofs.quantifiers.keep.Statement.{statement}
 use Rattle.walker.proofs.quantifiers.keep.Tie as tie
 
@@ -60,7 +61,7 @@ returns c =
     record {
       had = _;
       old = _;
-      saves = record { first = ap (λ z. 5120 + 2 * z) (at-operand .operand .ensures); one = (at-word .word .ensures); two = (at-word2 .word2 .ensures) };
+      saves = record { first = ap (λ z. localSlot z) (at-operand .operand .ensures); one = (at-word .word .ensures); two = (at-word2 .word2 .ensures) };
       pushed = (c .before .before .push .ensures);
     }
 
