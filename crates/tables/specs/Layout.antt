@@ -1,11 +1,67 @@
--- Where each table begins in the work words, and the words of each entry. Every other file says these by name; src/lib.rt has the
--- same numbers for the code. Assumes nothing.
+-- The layout of the work words: where each table begins, how many entries it may have, and the words of each entry.
+--
+--   tokens     4 words each: code, operand, the token after its subtree, spare
+--   cells      2 words each, a slot: whether it has a value, and the value's word
+--   locals     2 words each, the same
+--   firsts     the first cell of each array, and the end of the cells after the last
+--   dues       3 words each: what is due while a formula is read; afterwards the results of terms that are being valued
+--   procs      2 words each, room for procedures: the first token and the number of parameters
+--   ranges     2 words each, room for the ranges of scalars and arrays: the lowest and the highest value
+--   spare      up to the path
+--   path       12 words for each node (specs/Node.antt); the results of a call's parameters have room there
+--
+-- Every other file says these by name; src/lib.rt has the same numbers for the code, and proofs/Layout.antt the law that each table ends where
+-- the next begins. Assumes nothing.
 use Prim.Native.Nat.{ℕ, _+_, _*_}
 use mathlib.Core.List.{List}
 use lib.ListN.{getD}
 
 abbrev pub Words : Type 0
 Words = List ℕ
+
+-- ---- document 01's limits: how many entries a table may have
+
+abbrev pub maxTokens : ℕ
+maxTokens = 1024
+
+abbrev pub maxCells : ℕ
+maxCells = 512
+
+abbrev pub maxScalars : ℕ
+maxScalars = 64
+
+abbrev pub maxLocals : ℕ
+maxLocals = 32
+
+abbrev pub maxArrays : ℕ
+maxArrays = 16
+
+abbrev pub maxNesting : ℕ
+maxNesting = 64
+
+-- two more are due at each level of nesting
+abbrev pub maxDues : ℕ
+maxDues = 2 * maxNesting + 1
+
+abbrev pub maxProcs : ℕ
+maxProcs = 16
+
+abbrev pub maxPath : ℕ
+maxPath = 32768
+
+-- ---- the words of an entry
+
+abbrev pub tokenWords : ℕ
+tokenWords = 4
+
+abbrev pub slotWords : ℕ
+slotWords = 2
+
+abbrev pub dueWords : ℕ
+dueWords = 3
+
+abbrev pub nodeWords : ℕ
+nodeWords = 12
 
 -- ---- beginnings
 
@@ -21,41 +77,50 @@ firstsAt = 5184
 abbrev pub duesAt : ℕ
 duesAt = 5201
 
--- the results of terms stand in the words of the dues, from their third on
+-- the last result of a term stands outside the words, so the first that stands in them is the second
 abbrev pub resultsAt : ℕ
 resultsAt = duesAt + 2
 
 abbrev pub duesEnd : ℕ
 duesEnd = 5588
 
+abbrev pub procsAt : ℕ
+procsAt = 5588
+
+abbrev pub rangesAt : ℕ
+rangesAt = 5620
+
+abbrev pub spareAt : ℕ
+spareAt = 5780
+
 abbrev pub pathAt : ℕ
 pathAt = 6144
 
--- ---- entries
+-- ---- the first word of an entry
 
 abbrev pub tokenSlot : ℕ → ℕ
-tokenSlot i = 4 * i
+tokenSlot i = tokenWords * i
 
 abbrev pub cellSlot : ℕ → ℕ
-cellSlot c = cellsAt + 2 * c
+cellSlot c = cellsAt + slotWords * c
 
 abbrev pub localSlot : ℕ → ℕ
-localSlot l = localsAt + 2 * l
+localSlot l = localsAt + slotWords * l
 
 abbrev pub firstSlot : ℕ → ℕ
 firstSlot a = firstsAt + a
 
 abbrev pub dueSlot : ℕ → ℕ
-dueSlot i = duesAt + 3 * i
+dueSlot i = duesAt + dueWords * i
 
 abbrev pub nodeSlot : ℕ → ℕ
-nodeSlot d = pathAt + 12 * d
+nodeSlot d = pathAt + nodeWords * d
 
 -- the word after node d
 abbrev pub nodeEnd : ℕ → ℕ
-nodeEnd d = pathAt + 12 + 12 * d
+nodeEnd d = pathAt + nodeWords + nodeWords * d
 
--- ---- words
+-- ---- the words of tokens, cells and arrays
 
 abbrev pub codeAt : Words → ℕ → ℕ
 codeAt w i = getD w (tokenSlot i) 0

@@ -1,1 +1,5 @@
 pub mod Layout
+pub mod Codes
+pub mod Node
+pub mod Locals
+pub mod Kept

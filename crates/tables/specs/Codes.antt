@@ -1,0 +1,97 @@
+-- The codes of tokens: a number for each word of the notation, in ranges that separate formulas from terms, with gaps for the words of later
+-- editions. src/codes.rt has the same numbers for the code. Assumes nothing.
+use Prim.Native.Nat.{ℕ}
+
+-- ---- formulas
+
+abbrev pub firstFormula : ℕ
+firstFormula = 1
+
+abbrev pub lastFormula : ℕ
+lastFormula = 31
+
+abbrev pub trueCode : ℕ
+trueCode = 1
+
+abbrev pub andCode : ℕ
+andCode = 2
+
+abbrev pub orCode : ℕ
+orCode = 3
+
+abbrev pub impCode : ℕ
+impCode = 4
+
+abbrev pub notCode : ℕ
+notCode = 5
+
+abbrev pub eqCode : ℕ
+eqCode = 6
+
+abbrev pub neCode : ℕ
+neCode = 7
+
+abbrev pub ltCode : ℕ
+ltCode = 8
+
+abbrev pub leCode : ℕ
+leCode = 9
+
+abbrev pub gtCode : ℕ
+gtCode = 10
+
+abbrev pub geCode : ℕ
+geCode = 11
+
+abbrev pub exCode : ℕ
+exCode = 12
+
+abbrev pub someCode : ℕ
+someCode = 13
+
+abbrev pub allCode : ℕ
+allCode = 14
+
+-- ---- terms
+
+abbrev pub firstTerm : ℕ
+firstTerm = 32
+
+abbrev pub lastTerm : ℕ
+lastTerm = 63
+
+abbrev pub addCode : ℕ
+addCode = 32
+
+abbrev pub subCode : ℕ
+subCode = 33
+
+abbrev pub mulCode : ℕ
+mulCode = 34
+
+abbrev pub divCode : ℕ
+divCode = 35
+
+abbrev pub modCode : ℕ
+modCode = 36
+
+-- operations lie below the other terms
+abbrev pub constantCode : ℕ
+constantCode = 40
+
+abbrev pub scalarCode : ℕ
+scalarCode = 41
+
+abbrev pub localCode : ℕ
+localCode = 42
+
+abbrev pub arrayCode : ℕ
+arrayCode = 43
+
+-- ---- no token: bytes that are no word of the set, and a constant in bad form or outside 32 bits
+
+abbrev pub unknownCode : ℕ
+unknownCode = 64
+
+abbrev pub badConstantCode : ℕ
+badConstantCode = 65
