@@ -11,10 +11,10 @@ use Rattle.specification.specs.Number.{natural, integer, in32}
 use Rattle.specification.specs.Parser.{Reader, found, Parser, give, _>>_, next, mark, exactly, taken, finish}
 use Rattle.specification.specs.Lines.{index, count, value, line, Declared, lengths, arraysLine, isDeclared, cellOf}
 use Rattle.specification.specs.Given.{scalarName, elementName, name, item, items, givenLine}
-use Rattle.specification.specs.Formula.{formula}
 use Rattle.specification.specs.Sheet.{Sheet, sheet, opened, read}
 use Rattle.specification.specs.Outcome.{start}
 use Rattle.specification.proofs.Laws.Parser.{Post, refusal, holds, of-found, bind-post, after, require-post, present-post, choose-post, pick-post}
+use Rattle.specification.proofs.Laws.SheetLines.{sheet-by}
 use Rattle.specification.proofs.Laws.ReadSheet.{read-well-formed}
 use Rattle.tables.specs.Layout.{pathAt}
 use Rattle.sheet.specs.Tables.{tables}
@@ -132,20 +132,19 @@ module _ (D : Declared) where
 abbrev pub FromZero : Sheet → Type 0
 FromZero s = Numbered 0 (s .formula) × (formulaSize (s .formula) ≤ 1024)
 
-sheet-counts : (r : Reader) → Fresh r → Post (λ s r′. FromZero s) (sheet r)
-unfolding sheet
-sheet-counts r h =
-    bind-post (line-stays (bytes "edition=") 1 1 r h) λ edition r₁ h₁.
-    bind-post (line-stays (bytes "scalars=") 0 64 r₁ h₁) λ scalars r₂ h₂.
-    bind-post (line-stays (bytes "locals=") 0 32 r₂ h₂) λ locals r₃ h₃.
-    bind-post (arrays-stay scalars r₃ h₃) λ arrays r₄ h₄.
-    let D : Declared = record { edition = edition; scalars = scalars; locals = locals; arrays = arrays } in
-    bind-post (given-stays D r₄ h₄) λ is r₅ h₅.
-    bind-post (exactly-stays 3 (bytes "formula=") r₅ h₅) λ u r₆ h₆.
-    bind-post (formula-counts D 64 [] r₆) λ F r₇ c.
-    after (mark feed r₇) λ u r₈.
-    after (finish r₈) λ u r₉.
-    holds (renumbered F h₆ (c .0), omega (arith, c .1 .tokens, c .1 .few))
+-- it is so if no token was read before the sheet
+abbrev Counts : Parser Sheet → Type 0
+Counts m = (r : Reader) → Fresh r → Post (λ s r′. FromZero s) (m r)
+
+sheet-counts : Counts sheet
+sheet-counts =
+    sheet-by (λ A m. Stays m) Counts (λ A m f h k r i. bind-post (h r i) λ a r₁ i₁. k a r₁ i₁)
+    (record { number = line-stays; arrays = arrays-stay; given = given-stays; start = exactly-stays 3 })
+    (λ D is r h.
+    bind-post (formula-counts D 64 [] r) λ F r₁ c.
+    after (mark feed r₁) λ u r₂.
+    after (finish r₂) λ u r₃.
+    holds (renumbered F h (c .0), omega (arith, c .1 .tokens, c .1 .few)))
 
 pub read-counts : (b : Bytes) (s : Sheet) (r : Reader) → read b ≡ found s r → FromZero s
 unfolding read

@@ -10,6 +10,7 @@ pub mod Cells
 pub mod Scope
 pub mod Elements
 pub mod Parser
+pub mod SheetLines
 pub mod ReadLines
 pub mod ReadGiven
 pub mod Start

@@ -45,13 +45,13 @@ divided (pos zero) c = fault zeroDivisor
 divided (pos (suc n)) c = c
 divided (negsuc n) c = c
 
--- an operation under an edition
-unfoldable pub compute : ℕ → Op → ℤ → ℤ → Computed
-compute edition add x y = fit (x +ℤ y)
-compute edition sub x y = fit (x -ℤ y)
-compute edition mul x y = fit (x *ℤ y)
-compute edition div x y = divided y (fit (quotZ x y))
-compute edition modulo x y = divided y (fit (x -ℤ y *ℤ quotZ x y))
+-- an operation; which word means it is the edition's to say (Words)
+unfoldable pub compute : Op → ℤ → ℤ → Computed
+compute add x y = fit (x +ℤ y)
+compute sub x y = fit (x -ℤ y)
+compute mul x y = fit (x *ℤ y)
+compute div x y = divided y (fit (quotZ x y))
+compute modulo x y = divided y (fit (x -ℤ y *ℤ quotZ x y))
 
 -- ---- comparisons
 

@@ -27,12 +27,12 @@ abbrev pub kept : Computed → Option ℤ
 kept (value z) = just z
 kept (fault κ) = none
 
-module _ (D : Declared) (ρ : Env) where
-  abbrev pub applied : Op → Option ℤ → Option ℤ → Option ℤ
-  applied o (just x) (just y) = kept (compute (D .edition) o x y)
-  applied o (just x) none = none
-  applied o none y = none
+abbrev pub applied : Op → Option ℤ → Option ℤ → Option ℤ
+applied o (just x) (just y) = kept (compute o x y)
+applied o (just x) none = none
+applied o none y = none
 
+module _ (D : Declared) (ρ : Env) where
   abbrev pub elementValue : ℕ → Option ℤ → Option ℤ
   elementValue a (just (pos i)) = pick (ltb i (lengthOf D a)) (just (ρ (cell (firstOf D a + i)))) none
   elementValue a (just (negsuc i)) = none

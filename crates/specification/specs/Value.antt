@@ -45,11 +45,11 @@ abbrev pub sideOf : Computed → Side
 sideOf (value z) = val z
 sideOf (fault κ) = err κ
 
-module _ (D : Declared) (α : Valuation) where
-  abbrev pub operate : Op → Pair → Side
-  operate o (values x y) = sideOf (compute (D .edition) o x y)
-  operate o (faulty κ) = err κ
+abbrev pub operate : Op → Pair → Side
+operate o (values x y) = sideOf (compute o x y)
+operate o (faulty κ) = err κ
 
+module _ (D : Declared) (α : Valuation) where
   abbrev pub inArray : Bool → ℕ → Side
   inArray true c = look (α (cell c)) (cell c)
   inArray false c = err outsideArray

@@ -1,5 +1,5 @@
--- The token words, a closed set, and the word that a token's bytes spell. Which words there are is the edition's to say.
--- Assumes nothing.
+-- The token words, a closed set, and the word that a token's bytes spell. The edition chooses the words and the operation that each
+-- means: nothing after the reading asks for it. Assumes nothing.
 use Prim.Native.Nat.{ℕ}
 use mathlib.Core.List.{List, [], _∷_}
 use mathlib.Core.Option.{Option, none, some as just}

@@ -10,14 +10,13 @@ use borrow.Author.Tests.{leb-true, le-leb, lt-leb}
 use Rattle.specification.specs.declared.Setting.{Setting}
 use Rattle.specification.specs.declared.Outcome.{Outcome}
 use Rattle.specification.specs.declared.Outcome.the-variants as outcomes
-use Rattle.specification.specs.Bytes.{Bytes, bytes, feed, pick, between}
-use Rattle.specification.specs.Parser.{Reader, Read, refused, found, mark, key, finish}
-use Rattle.specification.specs.Lines.{Declared, line, arraysLine}
-use Rattle.specification.specs.Given.{givenLine}
-use Rattle.specification.specs.Sheet.{Sheet, sheet, opened, read}
+use Rattle.specification.specs.Bytes.{Bytes, bytes, pick, between}
+use Rattle.specification.specs.Parser.{Reader, Read, refused, found}
+use Rattle.specification.specs.Sheet.{Sheet, read}
 use Rattle.specification.specs.WellFormed.{nowhere}
 use Rattle.specification.specs.Outcome.{refusal, afterReading, enoughMemory, call, outcome, outputAfter, wordsAfter}
-use Rattle.specification.proofs.Laws.Parser.{Post, holds, of-found, bind-post, after}
+use Rattle.specification.proofs.Laws.Parser.{of-found}
+use Rattle.specification.proofs.Laws.SheetLines.{sheet-lines}
 use Rattle.specification.proofs.Laws.ReadLines.{line-post}
 use Rattle.specification.proofs.Laws.ReadSheet.{read-well-formed}
 use Rattle.sheet.specs.declared.Reading.the-variants as reading
@@ -32,24 +31,12 @@ use Rattle.vodlasim.specs.Answered.{Answered}
 
 -- ---- a sheet that is read has a shallow formula
 
-sheet-shallow : (r : Reader) → Post (λ s r′. Shallow (s .formula)) (sheet r)
-unfolding sheet
-sheet-shallow r =
-    after (line (bytes "edition=") 1 1 r) λ edition r₁.
-    after (line (bytes "scalars=") 0 64 r₁) λ scalars r₂.
-    bind-post (line-post 0 32 (bytes "locals=") r₂) λ locals r₃ l.
-    after (arraysLine scalars r₃) λ arrays r₄.
-    let D : Declared = record { edition = edition; scalars = scalars; locals = locals; arrays = arrays } in
-    after (givenLine D r₄) λ is r₅.
-    after (key (bytes "formula=") r₅) λ u r₆.
-    bind-post (formula-shallow D (l .1) 64 (omega arith) [] r₆) λ F r₇ f.
-    after (mark feed r₇) λ u r₈.
-    after (finish r₈) λ u r₉.
-    holds f
-
 read-shallow : (b : Bytes) (s : Sheet) (r : Reader) → read b ≡ found s r → Shallow (s .formula)
 unfolding read
-read-shallow b s r e = of-found (sheet-shallow (opened b)) e
+read-shallow b s r e =
+    let l = sheet-lines e in
+    let few = of-found (line-post 0 32 (bytes "locals=") (l .scalars .after)) (l .locals .is) .1 in
+    of-found (formula-shallow (s .declared) few 64 (omega arith) [] (l .start .after)) (l .formula .is)
 
 -- ---- the setting's tests
 

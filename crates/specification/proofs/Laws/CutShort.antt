@@ -7,12 +7,12 @@ use native.Mathlib.Nat.{zero-add, add-zero}
 use mathlib.Core.Path.{_≡_, refl, _∙_, ap}
 use mathlib.Core.List.{[], _∷_, _++_}
 use lib.ListN.{length}
-use Rattle.specification.specs.Bytes.{Bytes, bytes, feed}
+use Rattle.specification.specs.Bytes.{Bytes, feed}
 use Rattle.specification.specs.Parser.{Reader, Read, refused, found, Parser, give, _>>_, andThen, mark, finish}
-use Rattle.specification.specs.Lines.{Declared}
 use Rattle.specification.specs.Sheet.{Sheet, sheet, opened, read}
 use Rattle.specification.proofs.Laws.Parser.{Post, refusal as refused-post, holds, of-found, bind-post}
-use Rattle.specification.proofs.Laws.Steady.{Left, withRest, end, extended, Alike, post-map, mark-always, exactly-steady}
+use Rattle.specification.proofs.Laws.SheetLines.{sheet-by}
+use Rattle.specification.proofs.Laws.Steady.{Left, withRest, end, extended, Alike, Steady, post-map, mark-always, exactly-steady}
 use Rattle.specification.proofs.Laws.SteadyLines.{line-steady, arrays-steady, given-steady}
 use Rattle.specification.proofs.Laws.SteadyFormula.{formula-steady}
 
@@ -51,17 +51,15 @@ module _ (q : Bytes) (more : Left q) where
       record { left = s .left; over = ap (andThen (λ u. finish >> give a)) (s .same) ∙ g ∙ ap (refused 5) (s .sheet) }
 
   sheet-over : (r : Reader) → Post (Over q r (sheet (extended q r))) (sheet r)
-  unfolding sheet
-  sheet-over r =
-      bind-over (line-steady (bytes "edition=") 1 1 r) λ edition r₁.
-      bind-over (line-steady (bytes "scalars=") 0 64 r₁) λ scalars r₂.
-      bind-over (line-steady (bytes "locals=") 0 32 r₂) λ locals r₃.
-      bind-over (arrays-steady scalars r₃) λ arrays r₄.
-      let D : Declared = record { edition = edition; scalars = scalars; locals = locals; arrays = arrays } in
-      bind-over (given-steady D r₄) λ given r₅.
-      bind-over (exactly-steady 3 (bytes "formula=") r₅) λ u r₆.
-      bind-over (formula-steady D 64 [] r₆) λ F r₇.
-      end-over _ r₇
+  sheet-over =
+      sheet-by (λ A m. Steady q m) (λ m. (r : Reader) → Post (Over q r (m (extended q r))) (m r)) (λ A m f h k r. bind-over (h r) k)
+      (record {
+        number = line-steady;
+        arrays = arrays-steady;
+        given = given-steady;
+        start = exactly-steady 3;
+      })
+      (λ D is r. bind-over (formula-steady D 64 [] r) λ F r₁. end-over _ r₁)
 
 -- ---- the laws
 

@@ -6,7 +6,7 @@ use mathlib.Core.List.{[], _∷_}
 use lib.ListN.{length}
 use lib.Dec.{leb, ltb}
 use borrow.Author.Tests.{leb-true}
-use Rattle.specification.specs.Bytes.{Bytes, bytes, feed, space, inToken}
+use Rattle.specification.specs.Bytes.{Bytes, feed, space, inToken}
 use Rattle.specification.specs.Parser.{Reader, refused, Parser, give, _>>=_}
 use Rattle.specification.specs.Lines.{Declared}
 use Rattle.specification.specs.Ast.{Term, apply, Formula, and, or, imp, eq, compare, some, all}
@@ -14,6 +14,7 @@ use Rattle.specification.specs.Words.{FormulaWord, trueWord, andWord, or
 use Rattle.specification.specs.Formula.{Token, numbered, token, operand, Locals, has, bind, binderOf, binderWith, binder, termOf, termWith, term, formulaOf, formulaWith, formula}
 use Rattle.specification.specs.Sheet.{sheet, opened, read}
 use Rattle.specification.proofs.Laws.Parser.{and-true, Reading, refusal, holds, of-refused, bind-post, require-post, present-post, pick-post}
+use Rattle.specification.proofs.Laws.SheetLines.{sheet-by}
 use Rattle.specification.proofs.Laws.Bounds.{Inside, Refusal, SafeParser, refused-here, mark-safe, exactly-safe, taken-safe, finish-safe}
 use Rattle.specification.proofs.Laws.BoundsLines.{line-safe, arrays-safe, given-safe}
 
@@ -132,18 +133,18 @@ module _ (N : ℕ) where
   -- ---- the sheet
 
   sheet-safe : SafeParser N sheet
-  unfolding sheet
-  sheet-safe r i =
-      bind-post (line-safe N (bytes "edition=") 1 1 r i) λ edition r₁ i₁.
-      bind-post (line-safe N (bytes "scalars=") 0 64 r₁ i₁) λ scalars r₂ i₂.
-      bind-post (line-safe N (bytes "locals=") 0 32 r₂ i₂) λ locals r₃ i₃.
-      bind-post (arrays-safe N scalars r₃ i₃) λ arrays r₄ i₄.
-      let D : Declared = record { edition = edition; scalars = scalars; locals = locals; arrays = arrays } in
-      bind-post (given-safe N D r₄ i₄) λ is r₅ i₅.
-      bind-post (exactly-safe N r₅ i₅ 3 (bytes "formula=") refl) λ u r₆ i₆.
-      bind-post (formula-safe D 64 [] r₆ i₆) λ F r₇ i₇.
-      bind-post (mark-safe N r₇ i₇ feed) λ u r₈ i₈.
-      bind-post (finish-safe N r₈ i₈) λ u r₉ i₉. holds i₉
+  sheet-safe =
+      sheet-by (λ A m. SafeParser N m) (SafeParser N) (λ A m f h k r i. bind-post (h r i) λ a r₁ i₁. k a r₁ i₁)
+      (record {
+        number = line-safe N;
+        arrays = arrays-safe N;
+        given = given-safe N;
+        start = λ k r i. exactly-safe N r i 3 k refl;
+      })
+      (λ D is r i.
+      bind-post (formula-safe D 64 [] r i) λ F r₁ i₁.
+      bind-post (mark-safe N r₁ i₁ feed) λ u r₂ i₂.
+      bind-post (finish-safe N r₂ i₂) λ u r₃ i₃. holds i₃)
 
 -- the numbers 1 and 2 are the call's, not the reader's
 pub record RefusedWell (b : Bytes) (n p : ℕ) : Type 0 where

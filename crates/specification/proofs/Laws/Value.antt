@@ -53,9 +53,9 @@ module _ (D : Declared) (S : Scope) (ρ : Env) (α : Valuation) (a : Agree D S �
 
   operate-tells :
       (o : Op) (s t : Side) (x y : Option ℤ) → Tells ρ s x → Tells ρ t y →
-      Tells ρ (operate D α o (pairOf s t)) (applied D ρ o x y)
+      Tells ρ (operate o (pairOf s t)) (applied o x y)
   unfolding pairOf
-  operate-tells o (val x) (val y) x′ y′ e f = rw (e, f) (computed-tells ρ (compute (D .edition) o x y))
+  operate-tells o (val x) (val y) x′ y′ e f = rw (e, f) (computed-tells ρ (compute o x y))
   operate-tells o (val x) (bare q) x′ y′ e f = tt
   operate-tells o (val x) (err κ) x′ y′ e f = tt
   operate-tells o (bare p) t x′ y′ e f = tt
@@ -100,18 +100,18 @@ divided-firm (pos zero) c h = tt
 divided-firm (pos (suc n)) c h = h
 divided-firm (negsuc n) c h = h
 
-compute-firm : (e : ℕ) (o : Op) (x y : ℤ) → Firm (sideOf (compute e o x y))
+compute-firm : (o : Op) (x y : ℤ) → Firm (sideOf (compute o x y))
 unfolding compute
-compute-firm e add x y = fit-firm (x +ℤ y)
-compute-firm e sub x y = fit-firm (x -ℤ y)
-compute-firm e mul x y = fit-firm (x *ℤ y)
-compute-firm e div x y = divided-firm y (fit (quotZ x y)) (fit-firm (quotZ x y))
-compute-firm e modulo x y = divided-firm y (fit (x -ℤ y *ℤ quotZ x y)) (fit-firm (x -ℤ y *ℤ quotZ x y))
+compute-firm add x y = fit-firm (x +ℤ y)
+compute-firm sub x y = fit-firm (x -ℤ y)
+compute-firm mul x y = fit-firm (x *ℤ y)
+compute-firm div x y = divided-firm y (fit (quotZ x y)) (fit-firm (quotZ x y))
+compute-firm modulo x y = divided-firm y (fit (x -ℤ y *ℤ quotZ x y)) (fit-firm (x -ℤ y *ℤ quotZ x y))
 
 -- what holds of firm sides holds of operations, and of elements if it holds of the elements inside the array
 module _ (D : Declared) (α : Valuation) (G : Side → Type 0) (firm : (s : Side) → Firm s → G s) where
-  operate-firm : (o : Op) (p : Pair) → G (operate D α o p)
-  operate-firm o (values x y) = firm (sideOf (compute (D .edition) o x y)) (compute-firm (D .edition) o x y)
+  operate-firm : (o : Op) (p : Pair) → G (operate o p)
+  operate-firm o (values x y) = firm (sideOf (compute o x y)) (compute-firm o x y)
   operate-firm o (faulty κ) = firm (err κ) tt
 
   inArray-firm : (b : Bool) (c : ℕ) → (T b → G (look (α (cell c)) (cell c))) → G (inArray D α b c)

@@ -62,18 +62,18 @@ op-of-code div = refl
 op-of-code modulo = refl
 
 module _ (k x y : ℕ) (r : Computed) where
-  pub calculated-as : (o : Op) → k ≡ opCode o → ((e : ℕ) → r ≡ packed (compute e o (signed x) (signed y))) → Calculated k x y r
-  calculated-as o q h e p n =
+  pub calculated-as : (o : Op) → k ≡ opCode o → r ≡ packed (compute o (signed x) (signed y)) → Calculated k x y r
+  calculated-as o q h p n =
       let same : o ≡ p = sym (op-of-code o) ∙ ap opOf (sym q ∙ n) ∙ op-of-code p in
-      h e ∙ ap (λ (p : Op). packed (compute e p (signed x) (signed y))) same
+      h ∙ ap (λ (p : Op). packed (compute p (signed x) (signed y))) same
 
   pub calculated-last : (k ≡ 32 → ⊥) → (k ≡ 33 → ⊥) → (k ≡ 34 → ⊥) → (k ≡ 35 → ⊥) →
-      ((e : ℕ) → r ≡ packed (compute e modulo (signed x) (signed y))) → Calculated k x y r
-  calculated-last a s m d h e add n = absurd (a n)
-  calculated-last a s m d h e sub n = absurd (s n)
-  calculated-last a s m d h e mul n = absurd (m n)
-  calculated-last a s m d h e div n = absurd (d n)
-  calculated-last a s m d h e modulo n = h e
+      r ≡ packed (compute modulo (signed x) (signed y)) → Calculated k x y r
+  calculated-last a s m d h add n = absurd (a n)
+  calculated-last a s m d h sub n = absurd (s n)
+  calculated-last a s m d h mul n = absurd (m n)
+  calculated-last a s m d h div n = absurd (d n)
+  calculated-last a s m d h modulo n = h
 
 module _ (c : Computed) (at : ℕ) where
   pub packs-value : (v : ℕ) → c ≡ Value v → Packs c at (record { at = at; tag = 0; value = v })
@@ -89,7 +89,7 @@ module _ (c : Computed) (at : ℕ) where
 -- an operation on two results, given by their tags and words
 abbrev pub Operated : ℕ → ℕ → ℕ → ℕ → ℕ → ℕ → Stack → Type 0
 Operated k ltag left rtag right at r = (D : Declared) (α : Valuation) (o : Op) (x y : Side) → k ≡ opCode o →
-    ltag ≡ tagOf x → left ≡ wordOf x → rtag ≡ tagOf y → right ≡ wordOf y → In32 x → In32 y → r ≡ stackOf at (operate D α o (pairOf x y))
+    ltag ≡ tagOf x → left ≡ wordOf x → rtag ≡ tagOf y → right ≡ wordOf y → In32 x → In32 y → r ≡ stackOf at (operate o (pairOf x y))
 
 module _ (k ltag left rtag right at : ℕ) {r : Stack} where
   pub operated-left : (ltag ≡ 0 → ⊥) → Raised ltag left at r → Operated k ltag left rtag right at r
@@ -112,7 +112,7 @@ module _ (k ltag left rtag right at : ℕ) {r : Stack} where
   operated-both {c} z n h g D α o (val a) (val b) q e v f u s t =
       let x : signed left ≡ a = ap signed v ∙ signed-biased a s in
       let y : signed right ≡ b = ap signed u ∙ signed-biased b t in
-      g (compute (D .edition) o a b) (h (D .edition) o q ∙ ap₂ (λ (x y : ℤ). packed (compute (D .edition) o x y)) x y)
+      g (compute o a b) (h o q ∙ ap₂ (λ (x y : ℤ). packed (compute o x y)) x y)
   operated-both z n h g D α o (val a) (bare p) q e v f u s t = absurd (omega (arith, n, f))
   operated-both z n h g D α o (val a) (err κ) q e v f u s t = absurd (omega (arith, n, f))
   operated-both z n h g D α o (bare p) y q e v f u s t = absurd (omega (arith, z, e))

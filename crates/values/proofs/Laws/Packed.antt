@@ -60,41 +60,41 @@ divided-value (negsuc n) c z e = e
 
 -- ---- the operations of a sheet
 
-pub compute-in32 : (edition : ℕ) (op : Op) (x y z : ℤ) → compute edition op x y ≡ value z → T (in32 z)
+pub compute-in32 : (op : Op) (x y z : ℤ) → compute op x y ≡ value z → T (in32 z)
 unfolding compute
-compute-in32 edition add x y z e = fit-value (x +ℤ y) z e
-compute-in32 edition sub x y z e = fit-value (x -ℤ y) z e
-compute-in32 edition mul x y z e = fit-value (x *ℤ y) z e
-compute-in32 edition div x y z e = fit-value (quotZ x y) z (divided-value y (fit (quotZ x y)) z e)
-compute-in32 edition modulo x y z e =
+compute-in32 add x y z e = fit-value (x +ℤ y) z e
+compute-in32 sub x y z e = fit-value (x -ℤ y) z e
+compute-in32 mul x y z e = fit-value (x *ℤ y) z e
+compute-in32 div x y z e = fit-value (quotZ x y) z (divided-value y (fit (quotZ x y)) z e)
+compute-in32 modulo x y z e =
     fit-value (x -ℤ y *ℤ quotZ x y) z (divided-value y (fit (x -ℤ y *ℤ quotZ x y)) z e)
 
 -- what the functions of this crate ensure is what `compute` says
-pub compute-add : (edition : ℕ) (x y : ℤ) → compute edition add x y ≡ fit (x +ℤ y)
+pub compute-add : (x y : ℤ) → compute add x y ≡ fit (x +ℤ y)
 unfolding compute
-compute-add edition x y = refl
+compute-add x y = refl
 
-pub compute-sub : (edition : ℕ) (x y : ℤ) → compute edition sub x y ≡ fit (x -ℤ y)
+pub compute-sub : (x y : ℤ) → compute sub x y ≡ fit (x -ℤ y)
 unfolding compute
-compute-sub edition x y = refl
+compute-sub x y = refl
 
-pub compute-mul : (edition : ℕ) (x y : ℤ) → compute edition mul x y ≡ fit (x *ℤ y)
+pub compute-mul : (x y : ℤ) → compute mul x y ≡ fit (x *ℤ y)
 unfolding compute
-compute-mul edition x y = refl
+compute-mul x y = refl
 
-pub compute-div : (edition : ℕ) (x y : ℤ) → compute edition div x y ≡ divided y (fit (quotZ x y))
+pub compute-div : (x y : ℤ) → compute div x y ≡ divided y (fit (quotZ x y))
 unfolding compute
-compute-div edition x y = refl
+compute-div x y = refl
 
-pub compute-modulo : (edition : ℕ) (x y : ℤ) → compute edition modulo x y ≡ divided y (fit (x -ℤ y *ℤ quotZ x y))
+pub compute-modulo : (x y : ℤ) → compute modulo x y ≡ divided y (fit (x -ℤ y *ℤ quotZ x y))
 unfolding compute
-compute-modulo edition x y = refl
+compute-modulo x y = refl
 
 -- the one quotient outside 32 bits leaves 0
-pub least-div : (edition : ℕ) → compute edition div least (negsuc 0) ≡ fault outside32
+pub least-div : compute div least (negsuc 0) ≡ fault outside32
 unfolding compute fit
-least-div edition = refl
+least-div = refl
 
-pub least-modulo : (edition : ℕ) → compute edition modulo least (negsuc 0) ≡ value (pos 0)
+pub least-modulo : compute modulo least (negsuc 0) ≡ value (pos 0)
 unfolding compute fit
-least-modulo edition = refl
+least-modulo = refl

@@ -28,32 +28,32 @@ returns : tie.Need-returns
 returns c =
     let a = c .before .before .args in
     calculated-as (a .code) (a .x) (a .y) _ add (c .before .match .keys1)
-    (λ e. c .add .ensures ∙ ap packed (sym (compute-add e (signed (a .x)) (signed (a .y)))))
+    (c .add .ensures ∙ ap packed (sym (compute-add (signed (a .x)) (signed (a .y)))))
 
 returns-2 : tie.Need-returns-2
 returns-2 c =
     let a = c .before .before .args in
     calculated-as (a .code) (a .x) (a .y) _ sub (c .before .match .keys2)
-    (λ e. c .sub .ensures ∙ ap packed (sym (compute-sub e (signed (a .x)) (signed (a .y)))))
+    (c .sub .ensures ∙ ap packed (sym (compute-sub (signed (a .x)) (signed (a .y)))))
 
 returns-3 : tie.Need-returns-3
 returns-3 c =
     let a = c .before .before .args in
     calculated-as (a .code) (a .x) (a .y) _ mul (c .before .match .keys3)
-    (λ e. c .mul .ensures ∙ ap packed (sym (compute-mul e (signed (a .x)) (signed (a .y)))))
+    (c .mul .ensures ∙ ap packed (sym (compute-mul (signed (a .x)) (signed (a .y)))))
 
 returns-4 : tie.Need-returns-4
 returns-4 c =
     let a = c .before .before .args in
     calculated-as (a .code) (a .x) (a .y) _ div (c .before .match .keys4)
-    (λ e. c .quotient .ensures ∙ ap packed (sym (compute-div e (signed (a .x)) (signed (a .y)))))
+    (c .quotient .ensures ∙ ap packed (sym (compute-div (signed (a .x)) (signed (a .y)))))
 
 returns-5 : tie.Need-returns-5
 returns-5 c =
     let a = c .before .before .args in
     let others = c .before .match .rest in
     calculated-last (a .code) (a .x) (a .y) _ (others .0 .0 .0 .1) (others .0 .0 .1) (others .0 .1) (others .1)
-    (λ e. c .remainder .ensures ∙ ap packed (sym (compute-modulo e (signed (a .x)) (signed (a .y)))))
+    (c .remainder .ensures ∙ ap packed (sym (compute-modulo (signed (a .x)) (signed (a .y)))))
 
 pub calculated-spec : {M : Type 1} → statement M
 calculated-spec =
