@@ -38,3 +38,4 @@ pub mod Subtrees
 pub mod FormulaRest
 -- the six lines in order
 pub mod SixLines
+pub mod Carried

@@ -3,7 +3,8 @@ use Prim.Native.Nat.{ℕ, _≤_, _<_}
 use mathlib.Core.Path.{_≡_}
 use mathlib.Core.List.{List, []}
 use lib.ListN.{length, getD, replicate}
-use Rattle.specification.specs.Bytes.{Bytes, bytes, feed}
+use lib.Dec.{eqb}
+use Rattle.specification.specs.Bytes.{Bytes, bytes, feed, pick}
 use Rattle.specification.specs.Parser.{Reader, Read, refused, found, Parser, give, _>>=_, _>>_, mark, key, finish}
 use Rattle.specification.specs.Lines.{line, Declared}
 use Rattle.specification.specs.Given.{Item, givenLine}
@@ -53,6 +54,32 @@ abbrev pub headingRead : Bytes → Heading → Read Declared
 headingRead s (heading.Refused k p) = refused k p
 headingRead s (heading.Is edition scalars locals e) =
     found (record { edition = edition; scalars = scalars; locals = locals; arrays = [] }) (lineAt s e)
+
+-- the place where reading goes on, or that of the refusal
+abbrev pub placeOf : Heading → ℕ
+placeOf (heading.Refused k p) = p
+placeOf (heading.Is edition scalars locals e) = e
+
+-- a line after what was read before it
+abbrev pub onward : Heading → (Declared → Read Declared) → Read Declared
+onward (heading.Refused k p) f = refused k p
+onward (heading.Is edition scalars locals e) f = f (record { edition = edition; scalars = scalars; locals = locals; arrays = [] })
+
+-- the line with one number that comes k-th, and what is declared with it
+abbrev pub numberOf : ℕ → Parser ℕ
+numberOf k =
+    pick (eqb k 0) (line (bytes "edition=") 1 1)
+    (pick (eqb k 1) (line (bytes "scalars=") 0 64)
+    (line (bytes "locals=") 0 32))
+
+abbrev pub withNumber : ℕ → Declared → ℕ → Declared
+withNumber k D n =
+    pick (eqb k 0) (record { edition = n; scalars = D .scalars; locals = D .locals; arrays = [] })
+    (pick (eqb k 1) (record { edition = D .edition; scalars = n; locals = D .locals; arrays = [] })
+    (record { edition = D .edition; scalars = D .scalars; locals = n; arrays = [] }))
+
+abbrev pub numberLine : ℕ → Declared → Parser Declared
+numberLine k D = numberOf k >>= λ n. give (withNumber k D n)
 
 -- ---- from the given values on
 

@@ -10,7 +10,6 @@ ghost use Rattle.sheet.specs.Answers.{mapped};
 ghost use Rattle.sheet.specs.Firsts.{laidOn, tabled, arraysValue, arraysRead, ArraysDone};
 use crate::lines;
 use crate::lines::Count;
-use crate::reader;
 
 pub(crate) enum Arrays {
     // a refusal's number and place
@@ -54,7 +53,7 @@ fn lengths(s: &[u8], from: usize, scalars: u32, w: &mut [u32]) -> Arrays
                 w[FIRSTS + n as usize] = end;
                 n += 1;
                 end += m;
-                if reader::class_at(s, e) != text::COMMA {
+                if text::class_at(s, e) != text::COMMA {
                     fill(w, n, end);
                     return Arrays::Read(n, end, e);
                 }
@@ -71,7 +70,7 @@ fn contents(s: &[u8], from: usize, scalars: u32, w: &mut [u32]) -> Arrays
     ensures { λ r. ⌜ arraysRead (now (s .entry)) r (now (w .exit))
         ≡ mapped (tabled 0 scalars (now (w .entry))) (arraysValue scalars (lineAt (now (s .entry)) from)) ⌝ }
 {
-    if reader::class_at(lines::value(s, from), 0) == text::FEED {
+    if text::class_at(lines::value(s, from), 0) == text::FEED {
         fill(w, 0, scalars);
         return Arrays::Read(0, scalars, from);
     }
@@ -89,7 +88,7 @@ pub(crate) fn arrays_line(s: &[u8], at: usize, scalars: u32, w: &mut [u32]) -> A
     match contents(s, at + 7, scalars, w) {
         Arrays::Refused(k, p) => Arrays::Refused(k, p),
         Arrays::Read(n, end, e) => {
-            if reader::class_at(s, e) != text::FEED {
+            if text::class_at(s, e) != text::FEED {
                 return Arrays::Refused(5, e);
             }
             Arrays::Read(n, end, e + 1)

@@ -13,7 +13,6 @@ ghost use Rattle.sheet.specs.FormulaLine.{Small, Counts, counted, Refuse
 use crate::Token;
 use crate::ends;
 use crate::lines;
-use crate::reader;
 use crate::stack;
 use crate::stack::Entry;
 use crate::words;
@@ -171,7 +170,7 @@ fn scan(s: &[u8], from: usize, d: Limits, w: &mut [u32]) -> Scanned
     let mut at = from;
     loop {
         let due = stack::get(w, n - 1);
-        let e = reader::run_end(s, at, text::TOKEN);
+        let e = text::run_end(s, at, text::TOKEN);
         let t = words::lex(&s[at..e], d.edition);
         let k = refusal(d, due, bound, count, t);
         if k != 0 {
@@ -184,7 +183,7 @@ fn scan(s: &[u8], from: usize, d: Limits, w: &mut [u32]) -> Scanned
         if n == 0 {
             return Scanned::Read(count, e);
         }
-        if reader::class_at(s, e) != text::SPACE {
+        if text::class_at(s, e) != text::SPACE {
             return Scanned::Refused(5, e);
         }
         at = e + 1;
@@ -204,7 +203,7 @@ pub(crate) fn formula_line(s: &[u8], at: usize, d: Limits, w: &mut [u32]) -> Par
     match scan(s, at + 8, d, w) {
         Scanned::Refused(k, p) => Parsed::Refused(k, p),
         Scanned::Read(n, e) => {
-            if reader::class_at(s, e) != text::FEED {
+            if text::class_at(s, e) != text::FEED {
                 return Parsed::Refused(5, e);
             }
             if e + 1 < s.len() {

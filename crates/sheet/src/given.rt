@@ -10,7 +10,6 @@ ghost use Rattle.sheet.specs.Items.{heldNames, elementAfter, nameRead, s
 use crate::lines;
 use crate::lines::Index;
 use crate::lines::Integer;
-use crate::reader;
 
 pub(crate) enum Given {
     // a refusal's number and place
@@ -61,7 +60,7 @@ fn scalar_name(s: &[u8], at: usize) -> Name
 fn element_of(s: &[u8], a: u32, at: usize) -> Name
     ensures { λ r. ⌜ nameRead (now (s .entry)) r ≡ elementAfter a (lineAt (now (s .entry)) at) ⌝ }
 {
-    if reader::class_at(s, at) != text::POINT {
+    if text::class_at(s, at) != text::POINT {
         return Name::Refused(5, at);
     }
     match lines::index_at(s, at + 1) {
@@ -130,7 +129,7 @@ fn element_cell(a: u32, i: u32, arrays: u32, w: &[u32]) -> Cell
 fn valued(s: &[u8], at: usize, e: usize, floor: u32, c: Cell) -> Entry
     ensures { λ r. ⌜ entryRead (now (s .entry)) r ≡ afterName at floor c (lineAt (now (s .entry)) e) ⌝ }
 {
-    if reader::class_at(s, e) != text::COLON {
+    if text::class_at(s, e) != text::COLON {
         return Entry::Refused(5, e);
     }
     match lines::integer_at(s, e + 1) {
@@ -186,7 +185,7 @@ fn items_at(s: &[u8], from: usize, scalars: u32, arrays: u32, w: &mut [u32]) -> 
             }
             Entry::Is(cell, word, e) => {
                 put(w, cell, word);
-                if reader::class_at(s, e) != text::COMMA {
+                if text::class_at(s, e) != text::COMMA {
                     return Given::Read(e);
                 }
                 at = e + 1;
@@ -202,7 +201,7 @@ fn contents(s: &[u8], from: usize, scalars: u32, arrays: u32, w: &mut [u32]) -> 
     ensures { λ r. ⌜ ((D : Declared) → Declares D scalars arrays (now (w .entry))
         → givenRead (now (s .entry)) r (now (w .exit)) ≡ laidItems (now (w .entry)) (givenValue D (lineAt (now (s .entry)) from))) ⌝ }
 {
-    if reader::class_at(lines::value(s, from), 0) == text::FEED {
+    if text::class_at(lines::value(s, from), 0) == text::FEED {
         return Given::Read(from);
     }
     items_at(s, from, scalars, arrays, w)
@@ -220,7 +219,7 @@ pub(crate) fn given_line(s: &[u8], at: usize, scalars: u32, arrays: u32, w: &mut
     match contents(s, at + 6, scalars, arrays, w) {
         Given::Refused(k, p) => Given::Refused(k, p),
         Given::Read(e) => {
-            if reader::class_at(s, e) != text::FEED {
+            if text::class_at(s, e) != text::FEED {
                 return Given::Refused(5, e);
             }
             Given::Read(e + 1)

@@ -6,7 +6,6 @@ ghost use Rattle.specification.specs.Bytes.{run, inNumber, begins};
 ghost use Rattle.specification.specs.Lines.{index, count, value, line};
 ghost use Rattle.sheet.specs.Reader.{lineAt};
 ghost use Rattle.sheet.specs.Answers.{heldIndex, indexRead, integerRead, countRead};
-use crate::reader;
 use text::Decimal;
 use text::Word;
 
@@ -67,7 +66,7 @@ fn numeral(s: &[u8], at: usize) -> &[u8]
     ensures { λ r. ⌜ now r ≡ run inNumber (drop at (now (s .entry))) ⌝ }
 {
     let v = value(s, at);
-    let e = reader::run_end(v, 0, text::NUMBER);
+    let e = text::run_end(v, 0, text::NUMBER);
     &v[..e]
 }
 
@@ -126,7 +125,7 @@ pub(crate) fn count_line(s: &[u8], at: usize, key: &[u8], lo: u32, hi: u32) -> C
     match count_at(s, at + key.len(), lo, hi) {
         Count::Refused(k, p) => Count::Refused(k, p),
         Count::Is(n, e) => {
-            if reader::class_at(s, e) != text::FEED {
+            if text::class_at(s, e) != text::FEED {
                 return Count::Refused(5, e);
             }
             Count::Is(n, e + 1)
