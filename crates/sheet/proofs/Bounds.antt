@@ -10,12 +10,13 @@ use Rattle.specification.specs.Bytes.{pick, between}
 use Rattle.specification.specs.Parser.{Reader}
 use Rattle.specification.specs.Lines.{Declared}
 use Rattle.specification.specs.Formula.{Locals}
+use Rattle.tables.specs.Layout.{maxTokens, maxNesting, maxDues}
 use Rattle.sheet.specs.declared.Token.{Token}
 use Rattle.sheet.specs.Dues.{Due, dueFormula, dueTerm, dueEx, dueRange}
 use Rattle.sheet.specs.Turn.{room, operandsOf, opens, faultOf, tokenAt, faultAt, weight, weights, Fits}
 
 -- the whole formula
-pub fits-start : Fits (dueFormula 64 [] ∷ [])
+pub fits-start : Fits (dueFormula maxNesting [] ∷ [])
 unfolding Fits weights
 fits-start = (omega arith, tt)
 
@@ -25,7 +26,7 @@ pick-fits : (b : Bool) (xs ys ds : List Due) → Fits (xs ++ ds) → Fits (ys ++
 pick-fits true xs ys ds h k = h
 pick-fits false xs ys ds h k = k
 
-module _ (k : ℕ) (S : Locals) (ds : List Due) (h : weights ds + 2 * k ≤ 126) (f : Fits ds) where
+module _ (k : ℕ) (S : Locals) (ds : List Due) (h : weights ds + 2 * k + 3 ≤ maxDues) (f : Fits ds) where
   operands-fit : (c : ℕ) → Fits (operandsOf k S c ++ ds)
   unfolding operandsOf Fits weights
   operands-fit c =
@@ -50,7 +51,7 @@ fits-turn (dueRange k S) ds t n f = (omega arith, (omega arith, (omega arith, f 
 -- a token stands only where nesting may go deeper
 pub room-left : (D : Declared) (d : Due) (r : Reader) → faultAt D d r ≡ 0 → 1 ≤ room d
 unfolding faultAt
-room-left D d r e = go (room d) (pick (ltb (r .tokens) 1024) (faultOf D d (r .bound) (tokenAt D r)) 9) e
+room-left D d r e = go (room d) (pick (ltb (r .tokens) maxTokens) (faultOf D d (r .bound) (tokenAt D r)) 9) e
   where
     go : (k n : ℕ) → pick (eqb k 0) 9 n ≡ 0 → 1 ≤ k
     go zero n e = absurd (omega arith)
@@ -69,7 +70,7 @@ unfolding weights
 length-weights [] = omega arith
 length-weights (d ∷ ds) = omega (arith, some-weight d, length-weights ds)
 
-pub fits-length : (ds : List Due) → Fits ds → length ds ≤ 129
+pub fits-length : (ds : List Due) → Fits ds → length ds ≤ maxDues
 unfolding Fits
 fits-length [] f = omega arith
 fits-length (d ∷ ds) f = omega (arith, length-weights (d ∷ ds))

@@ -12,6 +12,7 @@ use Rattle.specification.specs.Ast.{Term}
 use Rattle.specification.specs.Words.{TermWord, constantWord, scalarWord, localWord, arrayWord, opWord, Word, formulaWord, termWord, unknown, wordOf}
 use Rattle.specification.specs.Formula.{Token, token, operand, Locals, has, binderOf, binderWith, binder, termOf, termWith, term}
 use Rattle.specification.proofs.Laws.Parser.{Post, refusal, holds, bind-post, require-post, present-post, pick-post}
+use Rattle.tables.specs.Layout.{maxTokens}
 use Rattle.sheet.specs.Codes.{termTokens}
 use Rattle.sheet.specs.Numbered.{termSize}
 
@@ -20,7 +21,7 @@ use Rattle.sheet.specs.Numbered.{termSize}
 -- of m tokens, n were read before and so many since
 pub record Counted (n size m : ℕ) : Type 0 where
   pub tokens : m ≡ n + size
-  pub few : m ≤ 1024
+  pub few : m ≤ maxTokens
 
 module _ {A : Type 0} (size : A → ℕ) (P : ℕ → A → Type 0) where
   -- what is read from token n on has the property
@@ -43,8 +44,8 @@ pub token-counts : (edition : ℕ) (r : Reader) → Post (Next (r .tokens)) (tok
 unfolding token taken
 token-counts edition r =
     bind-post {P = λ n r₁. (n ≡ r .tokens) × Counted (r .tokens) 1 (r₁ .tokens)}
-    (pick-post (ltb (r .tokens) 1024) _ _
-    (λ e. holds (refl, record { tokens = omega arith; few = ltb-true (r .tokens) 1024 e })) (λ e. refusal tt)) λ n r₁ h.
+    (pick-post (ltb (r .tokens) maxTokens) _ _
+    (λ e. holds (refl, record { tokens = omega arith; few = ltb-true (r .tokens) maxTokens e })) (λ e. refusal tt)) λ n r₁ h.
     bind-post (present-post 4 (r .place) (wordOf edition (run inToken (r₁ .rest))) _ tt (λ w e. h)) λ w r₂ h₂.
     holds h₂
 

@@ -5,7 +5,7 @@ use mathlib.Core.Path.{_≡_, refl, _∙_}
 use mathlib.Core.List.{List, [], _∷_}
 use lib.ListN.{length, getD, set, length-set}
 use lib.Seq.{getD-set-same, getD-set-other}
-use Rattle.tables.specs.Layout.{dueSlot, duesAt}
+use Rattle.tables.specs.Layout.{maxDues, dueSlot, duesAt}
 use Rattle.sheet.specs.declared.stack.Entry.{Entry}
 use Rattle.sheet.specs.Dues.{Due}
 use Rattle.sheet.specs.Tables.{Words}
@@ -78,7 +78,7 @@ beside-then p q = record {
   above = λ j h. q .above j h ∙ p .above j h;
 }
 
-pub beside-put : (w : Words) (n : ℕ) (e : Entry) → n < 129 → Beside w (entered w n e)
+pub beside-put : (w : Words) (n : ℕ) (e : Entry) → n < maxDues → Beside w (entered w n e)
 beside-put w n e h = record {
   long = entered-length w n e;
   below = λ j l. entered-other w n e j (λ r. omega arith) (λ r. omega arith) (λ r. omega arith);

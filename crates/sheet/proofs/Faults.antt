@@ -10,6 +10,7 @@ use borrow.Author.Tests.{eqb-true, ltb-true}
 use Rattle.specification.specs.Bytes.{pick, between}
 use Rattle.specification.specs.Lines.{Declared}
 use Rattle.specification.specs.Formula.{Locals, has}
+use Rattle.tables.specs.Layout.{maxTokens}
 use Rattle.sheet.specs.declared.Token.{Token}
 use Rattle.sheet.specs.declared.formula.Limits.{Limits}
 use Rattle.sheet.specs.Dues.{Due, dueFormula, dueTerm, dueEx, dueRange}
@@ -81,14 +82,14 @@ some-room (suc k) e = omega arith
 
 pub record Stands (l : Limits) (d : Due) (n : ℕ) (t : Token) : Type 0 where
   pub room : 0 < room d
-  pub number : n < 1024
+  pub number : n < maxTokens
   pub index : 1 < sortOf d → t .operand < l .locals
 
 pub stands : (l : Limits) (d : Due) (B : Locals) (n : ℕ) (t : Token) → refusalOf l d B n t ≡ 0 → Stands l d n t
 unfolding faultOf
 stands l d B n t e =
     let a : (eqb (room d) 0 ≡ false) × _ = past _ _ _ (omega arith) e in
-    let b : (ltb n 1024 ≡ true) × _ = kept _ _ _ (omega arith) (a .1) in
+    let b : (ltb n maxTokens ≡ true) × _ = kept _ _ _ (omega arith) (a .1) in
     let c : (eqb (t .code) 65 ≡ false) × _ = past _ _ _ (omega arith) (b .1) in
     let s : (suits d (t .code) ≡ true) × _ = kept _ _ _ (omega arith) (c .1) in
     let v : (declared (counted l) t ≡ true) × _ = kept _ _ _ (omega arith) (s .1) in

@@ -13,7 +13,7 @@ use Rattle.specification.specs.Ast.{Formula}
 use Rattle.specification.specs.Formula.{Locals, formula}
 use Rattle.text.specs.Class.{classAt}
 use Rattle.text.proofs.Laws.Class.{class-next, class-not-next}
-use Rattle.tables.specs.Layout.{pathAt}
+use Rattle.tables.specs.Layout.{maxNesting, pathAt}
 use Rattle.sheet.specs.declared.Token.{Token}
 use Rattle.sheet.specs.declared.formula.Limits.{Limits}
 use Rattle.sheet.specs.declared.formula.Scanned.{Scanned}
@@ -55,18 +55,18 @@ module _ (s : Bytes) (at : ℕ) (D : Declared) where
   line-no-key e = rw e
 
   module _ (e : begins (bytes "formula=") (drop at s) ≡ true) where
-    line-key : formulaRest D (lineAt s at) ≡ andThen closing (formula D 64 [] (readerAt s (at + 8) 0 []))
+    line-key : formulaRest D (lineAt s at) ≡ andThen closing (formula D maxNesting [] (readerAt s (at + 8) 0 []))
     unfolding formulaRest exactly closing
     line-key = rw (e, drop-drop)
 
     pub line-refused : (k p : ℕ) → whole s (at + 8) D ≡ refused k p → formulaRest D (lineAt s at) ≡ refused k p
     line-refused k p h =
-        let x = formula D 64 [] (readerAt s (at + 8) 0 []) in
+        let x = formula D maxNesting [] (readerAt s (at + 8) 0 []) in
         line-key ∙ ap (andThen closing) (refused-back x k p (left-formula D (readerAt s (at + 8) 0 []) ∙ h))
 
     module _ (ts : List Token) (c n : ℕ) (B : Locals) (h : whole s (at + 8) D ≡ found ts (readerAt s c n B)) where
-      read : Whole (formula D 64 [] (readerAt s (at + 8) 0 [])) ts (readerAt s c n B)
-      read = found-back (formula D 64 [] (readerAt s (at + 8) 0 [])) ts (readerAt s c n B) (left-formula D (readerAt s (at + 8) 0 []) ∙ h)
+      read : Whole (formula D maxNesting [] (readerAt s (at + 8) 0 [])) ts (readerAt s c n B)
+      read = found-back (formula D maxNesting [] (readerAt s (at + 8) 0 [])) ts (readerAt s c n B) (left-formula D (readerAt s (at + 8) 0 []) ∙ h)
 
       line-read : formulaRest D (lineAt s at) ≡ closing (read .formula) (readerAt s c n B)
       line-read = line-key ∙ ap (andThen closing) (read .is)

@@ -6,6 +6,7 @@ use mathlib.Core.List.{List, [], _∷_, _++_, append-assoc}
 use lib.ListN.{length, length-append}
 use Rattle.specification.specs.Ast.{Term, constant, scalarAt, localAt, elementAt, apply, Formula, truth, and, or, imp, neg, eq, compare, ex, some, all}
 use Rattle.values.specs.Word.{biased}
+use Rattle.tables.specs.Layout.{maxTokens}
 use Rattle.sheet.specs.declared.Token.{Token}
 use Rattle.sheet.specs.Codes.{token, opCode, relCode, termTokens, formulaTokens}
 use Rattle.sheet.specs.Tables.{Words}
@@ -23,18 +24,18 @@ module _ (w : Words) where
 
   -- its subtree has so many tokens
   token-at : (t : Token) (xs rest : List Token) (i e : ℕ) →
-      Subtrees 1 (t ∷ xs) → Laid i (t ∷ xs ++ rest) → e ≡ i + suc (length xs) → e ≤ 1024 → TokenAt w i (t .code) e
+      Subtrees 1 (t ∷ xs) → Laid i (t ∷ xs ++ rest) → e ≡ i + suc (length xs) → e ≤ maxTokens → TokenAt w i (t .code) e
   unfolding Along
   token-at t xs rest i e s a f h =
       record { code = a .0 .code; end = subtree w (t ∷ xs) rest i s a .0 ∙ sym f; after = omega arith; inside = h }
 
-  leaf : (t : Token) (rest : List Token) (i : ℕ) → Subtrees 1 (t ∷ []) → Laid i (t ∷ rest) → i + 1 ≤ 1024 →
+  leaf : (t : Token) (rest : List Token) (i : ℕ) → Subtrees 1 (t ∷ []) → Laid i (t ∷ rest) → i + 1 ≤ maxTokens →
       TokenAt w i (t .code) (suc i) × (operandAt w i ≡ t .operand)
   unfolding Along
   leaf t rest i s a h = (token-at t [] rest i (suc i) s a (omega arith) (omega arith), a .0 .operand)
 
   one-operand : (t : Token) (xs rest : List Token) (i : ℕ) → Subtrees 1 (t ∷ xs) → Subtrees 1 xs →
-      Laid i (t ∷ xs ++ rest) → i + suc (length xs) ≤ 1024 → TokenAt w i (t .code) (endAt w (suc i))
+      Laid i (t ∷ xs ++ rest) → i + suc (length xs) ≤ maxTokens → TokenAt w i (t .code) (endAt w (suc i))
   unfolding Along
   one-operand t xs rest i s x a h =
       let e = subtree w xs rest (suc i) x (a .1) .0 in
@@ -46,11 +47,11 @@ module _ (w : Words) where
     middle : suc i + length xs ≡ endAt w (suc i)
     first : Laid (suc i) (xs ++ (ys ++ rest))
     second : Laid (endAt w (suc i)) (ys ++ rest)
-    few : suc i + length xs ≤ 1024
-    fewer : endAt w (suc i) + length ys ≤ 1024
+    few : suc i + length xs ≤ maxTokens
+    fewer : endAt w (suc i) + length ys ≤ maxTokens
 
   two-operands : (t : Token) (xs ys rest : List Token) (i : ℕ) → Subtrees 1 (t ∷ (xs ++ ys)) → Subtrees 1 xs → Subtrees 1 ys →
-      Laid i (t ∷ (xs ++ ys) ++ rest) → i + suc (length (xs ++ ys)) ≤ 1024 → Operands i (t .code) xs ys rest
+      Laid i (t ∷ (xs ++ ys) ++ rest) → i + suc (length (xs ++ ys)) ≤ maxTokens → Operands i (t .code) xs ys rest
   unfolding Along
   two-operands t xs ys rest i s x y a h =
       let b : Laid (suc i) (xs ++ (ys ++ rest)) = rw (append-assoc xs ys rest) at (a .1) in
@@ -69,7 +70,7 @@ module _ (w : Words) where
 
   -- ---- terms
 
-  pub term-at : (t : Term) (rest : List Token) (i : ℕ) → Laid i (termTokens t ++ rest) → i + termSize t ≤ 1024 → TermAt w i t
+  pub term-at : (t : Term) (rest : List Token) (i : ℕ) → Laid i (termTokens t ++ rest) → i + termSize t ≤ maxTokens → TermAt w i t
   unfolding termTokens Along
   term-at (constant z) rest i a h = leaf (token 40 (biased z)) rest i (term-subtree (constant z)) a h
   term-at (scalarAt c) rest i a h = leaf (token 41 c) rest i (term-subtree (scalarAt c)) a h
@@ -87,12 +88,12 @@ module _ (w : Words) where
   -- ---- formulas
 
   two-formulas : (t : Token) (F G : Formula) (rest : List Token) (i : ℕ) → Subtrees 1 (t ∷ (formulaTokens F ++ formulaTokens G)) →
-      Laid i (t ∷ (formulaTokens F ++ formulaTokens G) ++ rest) → i + suc (length (formulaTokens F ++ formulaTokens G)) ≤ 1024 →
+      Laid i (t ∷ (formulaTokens F ++ formulaTokens G) ++ rest) → i + suc (length (formulaTokens F ++ formulaTokens G)) ≤ maxTokens →
       Operands i (t .code) (formulaTokens F) (formulaTokens G) rest
   two-formulas t F G rest i s a h = two-operands t (formulaTokens F) (formulaTokens G) rest i s (formula-subtree F) (formula-subtree G) a h
 
   two-terms : (t : Token) (x y : Term) (rest : List Token) (i : ℕ) → Subtrees 1 (t ∷ (termTokens x ++ termTokens y)) →
-      Laid i (t ∷ (termTokens x ++ termTokens y) ++ rest) → i + suc (length (termTokens x ++ termTokens y)) ≤ 1024 →
+      Laid i (t ∷ (termTokens x ++ termTokens y) ++ rest) → i + suc (length (termTokens x ++ termTokens y)) ≤ maxTokens →
       TokenAt w i (t .code) (endAt w (endAt w (suc i))) × TermsAt w (suc i) (endAt w i) x y
   two-terms t x y rest i s a h =
       let p = two-operands t (termTokens x) (termTokens y) rest i s (term-subtree x) (term-subtree y) a h in (
@@ -115,12 +116,12 @@ module _ (w : Words) where
     bounds : TermsAt w (suc (suc i)) (endAt w (endAt w (suc (suc i)))) x y
     start : suc (suc i) + termSize x + termSize y ≡ endAt w (endAt w (suc (suc i)))
     body : Laid (endAt w (endAt w (suc (suc i)))) (xs ++ rest)
-    few : endAt w (endAt w (suc (suc i))) + length xs ≤ 1024
+    few : endAt w (endAt w (suc (suc i))) + length xs ≤ maxTokens
 
   range : (c l : ℕ) (x y : Term) (xs rest : List Token) (i : ℕ) →
       Subtrees 1 (token c 0 ∷ token 42 l ∷ (termTokens x ++ (termTokens y ++ xs))) → Subtrees 1 xs →
       Laid i (token c 0 ∷ token 42 l ∷ (termTokens x ++ (termTokens y ++ xs)) ++ rest) →
-      i + suc (suc (length (termTokens x ++ (termTokens y ++ xs)))) ≤ 1024 →
+      i + suc (suc (length (termTokens x ++ (termTokens y ++ xs)))) ≤ maxTokens →
       Range i c l x y xs rest
   unfolding Along
   range c l x y xs rest i s z a h =
@@ -146,7 +147,7 @@ module _ (w : Words) where
       }
 
   pub formula-at : (F : Formula) (rest : List Token) (i : ℕ) → Laid i (formulaTokens F ++ rest) → Numbered i F →
-      i + formulaSize F ≤ 1024 → FormulaAt w i F
+      i + formulaSize F ≤ maxTokens → FormulaAt w i F
   unfolding formulaTokens Along Numbered
   formula-at truth rest i a n h = leaf (token 1 0) rest i (formula-subtree truth) a h .0
   formula-at (and F G) rest i a n h =

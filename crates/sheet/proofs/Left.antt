@@ -9,6 +9,7 @@ use Rattle.specification.specs.Parser.{Reader, Read, refused, found, Parser, gi
 use Rattle.specification.specs.Lines.{Declared}
 use Rattle.specification.specs.Ast.{Formula}
 use Rattle.specification.specs.Formula.{operand, formula}
+use Rattle.tables.specs.Layout.{maxNesting}
 use Rattle.sheet.specs.declared.Token.{Token}
 use Rattle.sheet.specs.Codes.{formulaTokens}
 use Rattle.sheet.specs.Dues.{Due, dueFormula, parse, parseAll}
@@ -78,9 +79,9 @@ module _ (D : Declared) where
     left-no-space e = left-cons d ds ts r ∙ rw e
 
   -- the formula, at its first byte
-  pub left-formula : (r : Reader) → (formula D 64 [] >>= λ F. give (formulaTokens F)) r ≡ leftHere D (dueFormula 64 []) [] [] r
+  pub left-formula : (r : Reader) → (formula D maxNesting [] >>= λ F. give (formulaTokens F)) r ≡ leftHere D (dueFormula maxNesting []) [] [] r
   unfolding leftHere parse
-  left-formula r = let x = parse D (dueFormula 64 []) r in sym (then-same left-none x ∙ then-give x)
+  left-formula r = let x = parse D (dueFormula maxNesting []) r in sym (then-same left-none x ∙ then-give x)
 
   -- ---- two lists of what is due
 

@@ -11,7 +11,7 @@ use lib.Bits.{bitOr}
 use borrow.Author.Tests.{ne-eqb}
 use Rattle.specification.specs.Bytes.{pick, between}
 use Rattle.specification.specs.Formula.{Locals}
-use Rattle.tables.specs.Layout.{pathAt}
+use Rattle.tables.specs.Layout.{maxDues, pathAt}
 use Rattle.sheet.specs.declared.Token.{Token}
 use Rattle.sheet.specs.declared.stack.Entry.{Entry}
 use Rattle.sheet.specs.declared.stack.Operands.{Operands}
@@ -159,7 +159,7 @@ opens-operands (dueRange k S) t h = absurd (omega arith)
 
 -- ---- put on the stack
 
-module _ (w : Words) (n : ℕ) (e : Entry) (t : Token) (h : n ≤ 126) (l : pathAt ≤ length w) where
+module _ (w : Words) (n : ℕ) (e : Entry) (t : Token) (h : n + 3 ≤ maxDues) (l : pathAt ≤ length w) where
   module _ (o : Operands) (q : o ≡ operandsBy (t .code)) (f : e .sort ≤ 1) where
     first : (d : Due) → Means e d → opens d t ≡ made o (pred (room d)) (scopeOf d)
     first d m = opens-operands d t (omega (arith, m .sort)) ∙ operands-made (pred (room d)) (scopeOf d) (t .code) ∙ rw q

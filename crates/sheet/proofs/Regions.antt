@@ -20,7 +20,7 @@ use Rattle.specification.specs.Outcome.{start}
 use Rattle.specification.proofs.Laws.Lists.{each-map}
 use Rattle.specification.proofs.Laws.ReadGiven.{rising-above}
 use Rattle.values.specs.Word.{biased}
-use Rattle.tables.specs.Layout.{cellSlot, firstSlot, localsAt}
+use Rattle.tables.specs.Layout.{maxCells, cellSlot, firstSlot, localsAt}
 use Rattle.sheet.specs.Tables.{Words, laidFirsts, laidGiven}
 
 pub zeros : (n j : ℕ) → _≡_ {A = ℕ} (getD (replicate n 0) j 0) 0
@@ -103,7 +103,7 @@ module _ (c : ℕ) where
   abbrev pub CellWords : Words → Slot → Type 0
   CellWords w s = (getD w (cellSlot c) 0 ≡ isFull s) × (getD w (cellSlot c + 1) 0 ≡ wordOf s)
 
-  gave-at : (i : Item) (w : Words) → c ≡ i .cell → c < 512 → localsAt ≤ length w → CellWords (gave i w) (full (i .value))
+  gave-at : (i : Item) (w : Words) → c ≡ i .cell → c < maxCells → localsAt ≤ length w → CellWords (gave i w) (full (i .value))
   gave-at i w e l h = rw e
       (let k = cellSlot (i .cell) in (
         getD-set-other (set w k 1) (k + 1) k (biased (i .value)) 0 (omega arith) ∙ getD-set-same w k 1 0 (omega arith),
@@ -111,7 +111,7 @@ module _ (c : ℕ) where
       ))
 
   -- the words of each cell, where each is given once and had no words before
-  pub given-at : (floor : ℕ) (is : List Item) (w : Words) → Rising floor is → c < 512 → localsAt ≤ length w → CellWords w empty →
+  pub given-at : (floor : ℕ) (is : List Item) (w : Words) → Rising floor is → c < maxCells → localsAt ≤ length w → CellWords w empty →
       CellWords (laidGiven is w) (start is (cell c))
   unfolding laidGiven start put Rising
   given-at floor [] w r l h x = x

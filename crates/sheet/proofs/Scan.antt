@@ -15,7 +15,7 @@ use Rattle.specification.specs.Formula.{Locals}
 use Rattle.text.specs.Class.{classAt}
 use Rattle.text.proofs.Laws.Class.{class-next, class-not-next, class-inside}
 use Rattle.text.proofs.Laws.Run.{end-le, end-part}
-use Rattle.tables.specs.Layout.{tokenSlot, duesAt, pathAt}
+use Rattle.tables.specs.Layout.{maxTokens, maxLocals, maxNesting, maxDues, tokenSlot, duesAt, pathAt}
 use Rattle.sheet.specs.declared.Token.{Token}
 use Rattle.sheet.specs.declared.stack.Entry.{Entry}
 use Rattle.sheet.specs.declared.formula.Limits.{Limits}
@@ -46,8 +46,8 @@ module _ (s : Bytes) (from : ℕ) (l : Limits) (w₀ w : Words) (n count bound a
     pub read : List Token
     pub depth : n ≡ suc (length dues)
     pub number : length read ≡ count
-    pub low : n ≤ 129
-    pub few : count ≤ 1024
+    pub low : n ≤ maxDues
+    pub few : count ≤ maxTokens
     pub within : at ≤ length s
     pub long : length w ≡ length w₀
     pub set : Bits bound locals
@@ -63,7 +63,7 @@ module _ (s : Bytes) (from : ℕ) (l : Limits) (w₀ w : Words) (n count bound a
     pub read : List Token
     pub depth : n ≡ length dues
     pub number : length read ≡ count
-    pub few : count ≤ 1024
+    pub few : count ≤ maxTokens
     pub within : at ≤ length s
     pub long : length w ≡ length w₀
     pub set : Bits bound locals
@@ -75,11 +75,11 @@ module _ (s : Bytes) (from : ℕ) (l : Limits) (w₀ w : Words) (n count bound a
 -- ---- the start
 
 pub reading-start : (s : Bytes) (from : ℕ) (l : Limits) (w : Words) → from ≤ length s → pathAt ≤ length w →
-    Reading s from l (entered w 0 (entry 0 64 0)) (entered w 0 (entry 0 64 0)) 1 0 0 from
+    Reading s from l (entered w 0 (entry 0 maxNesting 0)) (entered w 0 (entry 0 maxNesting 0)) 1 0 0 from
 unfolding laidTokens Stacked
 reading-start s from l w h k = record {
   locals = [];
-  due = dueFormula 64 [];
+  due = dueFormula maxNesting [];
   dues = [];
   read = [];
   depth = refl;
@@ -90,7 +90,7 @@ reading-start s from l w h k = record {
   long = refl;
   set = bits-none;
   fits = fits-start;
-  stack = stacked-put w (dueFormula 64 []) [] 0 (entry 0 64 0) refl (omega arith) (record { sort = refl; room = refl; scope = bits-none }) tt;
+  stack = stacked-put w (dueFormula maxNesting []) [] 0 (entry 0 maxNesting 0) refl (omega arith) (record { sort = refl; room = refl; scope = bits-none }) tt;
   table = beside-self _;
   rest = λ D g. refl;
 }
@@ -98,11 +98,11 @@ reading-start s from l w h k = record {
 -- ---- one token
 
 -- room for three more entries where nesting may go deeper
-three : (ds : List Due) → weights ds ≤ 126 → Fits ds → length ds ≤ 126
+three : (ds : List Due) → weights ds + 3 ≤ maxDues → Fits ds → length ds + 3 ≤ maxDues
 unfolding Fits weights
 three ds h f = let x = dueFormula 0 [] in omega (arith, fits-length (x ∷ x ∷ x ∷ ds) (omega arith, (omega arith, (omega arith, f))))
 
-fits-three : (d : Due) (ds : List Due) → 1 ≤ room d → Fits (d ∷ ds) → length ds ≤ 126
+fits-three : (d : Due) (ds : List Due) → 1 ≤ room d → Fits (d ∷ ds) → length ds + 3 ≤ maxDues
 unfolding Fits weights
 fits-three (dueFormula k S) ds h f = three ds (omega arith) (f .1)
 fits-three (dueTerm k S) ds h f = three ds (omega arith) (f .1)
@@ -116,9 +116,9 @@ stacked-rest w d ds s = s .1
 -- what a token shows that may stand after so many others, with n entries on the stack
 pub record May (e : Entry) (t : Token) (n count : ℕ) : Type 0 where
   pub room : 0 < e .room
-  pub low : n - 1 ≤ 126
-  pub number : count < 1024
-  pub index : 1 < e .sort → t .operand < 32
+  pub low : n - 1 + 3 ≤ maxDues
+  pub number : count < maxTokens
+  pub index : 1 < e .sort → t .operand < maxLocals
 
 -- the token at a place, with k its refusal
 module _ {s : Bytes} {from : ℕ} {l : Limits} {w₀ w : Words} {n count bound at : ℕ} (i : Reading s from l w₀ w n count bound at)
@@ -169,7 +169,7 @@ module _ {s : Bytes} {from : ℕ} {l : Limits} {w₀ w : Words} {n count bound a
           let d = i .due in
           let ds = i .dues in
           let q : length ds ≡ n - 1 = omega (arith, i .depth) in
-          let c : count < 1024 = standing .number in
+          let c : count < maxTokens = standing .number in
           let wide′ : pathAt ≤ length w = omega (arith, i .long) in
           let laid : tokenSlot count + 1 < length (laidTokens 0 (i .read) w₀) = rw tokens-length (omega arith) in
           record {
@@ -247,10 +247,10 @@ module _ {s : Bytes} {from : ℕ} {l : Limits} {w₀ w : Words} {n count bound e
         }
 
 -- the words before the first entry was put
-pub through-start : {s : Bytes} {from : ℕ} {l : Limits} {w₀ w w′ : Words} {n e : ℕ} → w₀ ≡ entered w 0 (entry 0 64 0) → pathAt ≤ length w →
+pub through-start : {s : Bytes} {from : ℕ} {l : Limits} {w₀ w w′ : Words} {n e : ℕ} → w₀ ≡ entered w 0 (entry 0 maxNesting 0) → pathAt ≤ length w →
     Through s from l w₀ w′ n e → Through s from l w w′ n e
 through-start {w = w} q h p =
-    let b = beside-put w 0 (entry 0 64 0) (omega arith) in
+    let b = beside-put w 0 (entry 0 maxNesting 0) (omega arith) in
     record {
       tokens = p .tokens;
       locals = p .locals;

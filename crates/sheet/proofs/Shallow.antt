@@ -12,6 +12,7 @@ use Rattle.specification.specs.Ast.{Term, Formula, and, or, imp, eq, compare, s
 use Rattle.specification.specs.Words.{FormulaWord, trueWord, andWord, orWord, impWord, notWord, eqWord, exWord, someWord, allWord, relWord, TermWord, constantWord, scalarWord, localWord, arrayWord, opWord, Word, formulaWord, termWord, unknown}
 use Rattle.specification.specs.Formula.{Token, token, operand, Locals, has, binderOf, binderWith, binder, termOf, termWith, term, formulaOf, formulaWith, formula}
 use Rattle.specification.proofs.Laws.Parser.{Post, refusal, holds, bind-post, after, require-post, pick-post}
+use Rattle.tables.specs.Layout.{maxNesting, maxLocals}
 use Rattle.sheet.specs.Held.{height, Shallow}
 
 module _ {A : Type 0} {P : A → Reader → Type 0} (p : Parser A) (h : (r : Reader) → Post P (p r)) where
@@ -80,7 +81,7 @@ module _ (D : Declared) where
   abbrev Flat : Formula → Reader → Type 0
   Flat F r = Shallow F
 
-  module _ (few : D .locals ≤ 32) (k : ℕ) (deep : k ≤ 64) (ih : (S : Locals) (r : Reader) → Post Flat (formula D k S r)) (S : Locals) where
+  module _ (few : D .locals ≤ maxLocals) (k : ℕ) (deep : k ≤ maxNesting) (ih : (S : Locals) (r : Reader) → Post Flat (formula D k S r)) (S : Locals) where
     abbrev sub : Locals → Parser Formula
     sub S′ r = formula D k S′ r
 
@@ -96,14 +97,14 @@ module _ (D : Declared) where
         bind-post (operand-post (sub S) (ih S) r) λ f r₁ h₁.
         bind-post (operand-post (sub S) (ih S) r₁) λ h r₂ h₂. holds (ok f h h₁ h₂)
 
-    two-terms : (g : Term → Term → Formula) → ((s t : Term) → height s ≤ 64 → height t ≤ 64 → Shallow (g s t)) → (r : Reader) →
+    two-terms : (g : Term → Term → Formula) → ((s t : Term) → height s ≤ maxNesting → height t ≤ maxNesting → Shallow (g s t)) → (r : Reader) →
         Post Flat ((operand side >>= λ s. operand side >>= λ t. give (g s t)) r)
     two-terms g ok r =
         bind-post (operand-post side (term-low k S) r) λ s r₁ h₁.
         bind-post (operand-post side (term-low k S) r₁) λ t r₂ h₂. holds (ok s t (omega (arith, h₁)) (omega (arith, h₂)))
 
     quantified : (g : ℕ → Term → Term → Formula → Formula) →
-        ((l : ℕ) (a b : Term) (F : Formula) → height a ≤ 64 → height b ≤ 64 → l < 32 → Shallow F → Shallow (g l a b F)) → (r : Reader) →
+        ((l : ℕ) (a b : Term) (F : Formula) → height a ≤ maxNesting → height b ≤ maxNesting → l < maxLocals → Shallow F → Shallow (g l a b F)) → (r : Reader) →
         Post Flat ((operand local >>= λ l. operand side >>= λ a. operand side >>= λ b. operand (sub (l ∷ S)) >>= λ f. give (g l a b f)) r)
     quantified g ok r =
         bind-post (operand-post local (binder-small k) r) λ l r₁ h₁.
@@ -131,7 +132,7 @@ module _ (D : Declared) where
     formula-with t (termWord w) r = refusal tt
     formula-with t unknown r = refusal tt
 
-  pub formula-shallow : D .locals ≤ 32 → (k : ℕ) → k ≤ 64 → (S : Locals) (r : Reader) → Post Flat (formula D k S r)
+  pub formula-shallow : D .locals ≤ maxLocals → (k : ℕ) → k ≤ maxNesting → (S : Locals) (r : Reader) → Post Flat (formula D k S r)
   unfolding formula
   formula-shallow few zero deep S r = refusal tt
   formula-shallow few (suc k) deep S r =

@@ -11,7 +11,7 @@ use lib.Seq.{drop-cons, drop-drop, getD-set-same, getD-set-other, set-comm}
 use lib.Dec.{ltb}
 use borrow.Author.Tests.{ne-eqb, ltb-true, ltb-false}
 use Rattle.specification.specs.Bytes.{pick}
-use Rattle.tables.specs.Layout.{tokenSlot, pathAt}
+use Rattle.tables.specs.Layout.{maxTokens, tokenSlot, pathAt}
 use Rattle.sheet.specs.declared.Token.{Token}
 use Rattle.sheet.specs.Codes.{token, arity}
 use Rattle.sheet.specs.Tables.{Words, laidTokens, after, laidEnds}
@@ -101,7 +101,7 @@ laid-tokens-in (t ∷ ts) i w h =
     rw (a, b, laid-tokens-in ts (suc i) v (simp length-set (omega arith)))
 
 -- also with the stack beside them
-pub beside-tokens-in : (ts : List Token) (w w′ : Words) → length ts ≤ 1024 → pathAt ≤ length w → Beside (laidTokens 0 ts w) w′ → tokensIn w′ 0 (length ts) ≡ ts
+pub beside-tokens-in : (ts : List Token) (w w′ : Words) → length ts ≤ maxTokens → pathAt ≤ length w → Beside (laidTokens 0 ts w) w′ → tokensIn w′ 0 (length ts) ≡ ts
 beside-tokens-in ts w w′ h l b =
     tokens-in-same (laidTokens 0 ts w) w′ 0 (length ts) (λ j p q. (b .below (tokenSlot j) (omega arith), b .below (tokenSlot j + 1) (omega arith))) ∙
     laid-tokens-in ts 0 w (omega arith)
@@ -243,7 +243,7 @@ module _ (w : Words) (n i : ℕ) (w′ : Words) (is : w′ ≡ laidFrom w n i) (
   same-tokens : tokensIn w′ 0 n ≡ all
   same-tokens = ap (λ x. tokensIn x 0 n) is ∙ ends-in i (drop i all) w n
 
-  pub from-ends : n ≤ 1024 → pathAt ≤ length w → EndsAfter w′ n (i - 1)
+  pub from-ends : n ≤ maxTokens → pathAt ≤ length w → EndsAfter w′ n (i - 1)
   unfolding endIn
   from-ends h l j p q =
       let d : length (drop i all) ≡ n - i = length-drop i all ∙ rw tokens-in-length in

@@ -14,7 +14,7 @@ use Rattle.specification.specs.WellFormed.{WellFormed}
 use Rattle.specification.specs.Outcome.{start}
 use Rattle.specification.proofs.Laws.Lists.{each-map}
 use Rattle.specification.proofs.Laws.Start.{start-local}
-use Rattle.tables.specs.Layout.{cellSlot, localSlot, firstSlot, tokenSlot, cellsAt, localsAt, firstsAt, duesAt, pathAt}
+use Rattle.tables.specs.Layout.{maxTokens, maxCells, maxArrays, cellSlot, localSlot, firstSlot, tokenSlot, cellsAt, localsAt, firstsAt, duesAt, pathAt}
 use Rattle.sheet.specs.Codes.{formulaTokens}
 use Rattle.sheet.specs.Tables.{Words, laidArrays, laidGiven, laidTokens, tables}
 use Rattle.sheet.specs.Held.{FormulaAt, SlotAt, Holds, ArraysAt}
@@ -23,7 +23,7 @@ use Rattle.sheet.proofs.Laid.{tokens-other, ends-other, tokens-length, 
 use Rattle.sheet.proofs.Held.{formula-at}
 use Rattle.sheet.proofs.Regions.{zeros, firsts-length, firsts-other, firsts-at, given-length, given-other, isFull, wordOf, CellWords, given-at}
 
-module _ (s : Sheet) (n : ℕ) (enough : pathAt ≤ n) (few : formulaSize (s .formula) ≤ 1024) where
+module _ (s : Sheet) (n : ℕ) (enough : pathAt ≤ n) (few : formulaSize (s .formula) ≤ maxTokens) where
   -- arrays and given values, without tokens
   abbrev under : Words
   under = laidArrays (s .declared) (replicate n 0)
@@ -33,7 +33,7 @@ module _ (s : Sheet) (n : ℕ) (enough : pathAt ≤ n) (few : formulaSize (s .fo
 
   under-length : length under ≡ n
   unfolding laidArrays
-  under-length = firsts-length (s .declared) 0 17 (replicate n 0) ∙ length-replicate n 0
+  under-length = firsts-length (s .declared) 0 (suc maxArrays) (replicate n 0) ∙ length-replicate n 0
 
   base-length : length base ≡ n
   base-length = given-length (s .given) under ∙ under-length
@@ -69,12 +69,12 @@ module _ (s : Sheet) (n : ℕ) (enough : pathAt ≤ n) (few : formulaSize (s .fo
 
   module _ (ok : WellFormed s) where
     -- a word that holds neither a given value nor an array
-    zero-base : (j : ℕ) → ((c : ℕ) → c < 512 → (j ≢ cellSlot c) × (j ≢ cellSlot c + 1)) →
-        ((m : ℕ) → m < 17 → j ≢ firstSlot m) → getD base j 0 ≡ 0
+    zero-base : (j : ℕ) → ((c : ℕ) → c < maxCells → (j ≢ cellSlot c) × (j ≢ cellSlot c + 1)) →
+        ((m : ℕ) → m ≤ maxArrays → j ≢ firstSlot m) → getD base j 0 ≡ 0
     unfolding laidArrays
     zero-base j c a =
         given-other j (s .given) under (each-map (λ i h. c (i .cell) (omega (arith, ok .limits .cells))) (s .given) (ok .declared)) ∙
-        firsts-other (s .declared) j 0 17 (replicate n 0) (λ m x y. a m (omega arith)) ∙ zeros n j
+        firsts-other (s .declared) j 0 (suc maxArrays) (replicate n 0) (λ m x y. a m (omega arith)) ∙ zeros n j
 
     pub arrays-held : ArraysAt (tables s n) (s .declared)
     unfolding laidArrays
@@ -82,15 +82,15 @@ module _ (s : Sheet) (n : ℕ) (enough : pathAt ≤ n) (few : formulaSize (s .fo
         above (firstSlot a) (omega arith) ∙
         given-other (firstSlot a) (s .given) under
         (each-map (λ i k. (omega (arith, ok .limits .cells), omega (arith, ok .limits .cells))) (s .given) (ok .declared)) ∙
-        firsts-at (s .declared) a 0 17 (replicate n 0) (omega arith) (omega arith) (rw length-replicate (omega arith))
+        firsts-at (s .declared) a 0 (suc maxArrays) (replicate n 0) (omega arith) (omega arith) (rw length-replicate (omega arith))
 
     -- both words of each cell
-    pub cells-held : (c : ℕ) → c < 512 → CellWords c (tables s n) (start (s .given) (cell c))
+    pub cells-held : (c : ℕ) → c < maxCells → CellWords c (tables s n) (start (s .given) (cell c))
     unfolding laidArrays
     cells-held c h =
         let g = given-at c 0 (s .given) under (ok .rising) h (omega (arith, under-length)) (
-          firsts-other (s .declared) (cellSlot c) 0 17 (replicate n 0) (λ m x y. omega arith) ∙ zeros n (cellSlot c),
-          firsts-other (s .declared) (cellSlot c + 1) 0 17 (replicate n 0) (λ m x y. omega arith) ∙ zeros n (cellSlot c + 1),
+          firsts-other (s .declared) (cellSlot c) 0 (suc maxArrays) (replicate n 0) (λ m x y. omega arith) ∙ zeros n (cellSlot c),
+          firsts-other (s .declared) (cellSlot c + 1) 0 (suc maxArrays) (replicate n 0) (λ m x y. omega arith) ∙ zeros n (cellSlot c + 1),
         ) in
         (above (cellSlot c) (omega arith) ∙ g .0, above (cellSlot c + 1) (omega arith) ∙ g .1)
 

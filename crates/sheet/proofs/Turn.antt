@@ -13,6 +13,7 @@ use Rattle.specification.specs.Lines.{Declared}
 use Rattle.specification.specs.Words.{Word, wordOf}
 use Rattle.specification.specs.Formula.{Token as WordToken, Locals, token, binder, term, formula}
 use Rattle.specification.specs.WellFormed.{Limits}
+use Rattle.tables.specs.Layout.{maxTokens}
 use Rattle.sheet.specs.declared.Token.{Token}
 use Rattle.sheet.specs.Codes.{tokenOf}
 use Rattle.sheet.specs.Dues.{Due, dueFormula, dueTerm, dueEx, dueRange, parse}
@@ -54,9 +55,9 @@ module _ (D : Declared) (d : Due) (r : Reader) where
   taking t = left D (opens d t) (t ∷ []) (passed (binds d t (r .bound)))
 
   token-turn : (token (D .edition) >>= admits D d) r ≡
-      judged (pick (ltb (r .tokens) 1024) (faultOf D d (r .bound) (tokenAt D r)) 9) (r .place) (taking (tokenAt D r))
+      judged (pick (ltb (r .tokens) maxTokens) (faultOf D d (r .bound) (tokenAt D r)) 9) (r .place) (taking (tokenAt D r))
   unfolding token taken admitted tokenOf faultOf tokenAt
-  token-turn = by-count (ltb (r .tokens) 1024)
+  token-turn = by-count (ltb (r .tokens) maxTokens)
     where
       counted : Reader
       counted = record { place = r .place; rest = r .rest; tokens = suc (r .tokens); bound = r .bound }

@@ -10,6 +10,7 @@ use Rattle.specification.specs.Parser.{Reader, Read, refused, found, Parser, gi
 use Rattle.specification.specs.Lines.{Declared}
 use Rattle.specification.specs.Ast.{Formula}
 use Rattle.specification.specs.Formula.{Locals, formula}
+use Rattle.tables.specs.Layout.{maxTokens, maxScalars, maxLocals, maxArrays, maxNesting}
 use Rattle.sheet.specs.declared.Token.{Token}
 use Rattle.sheet.specs.declared.stack.Entry.{Entry}
 use Rattle.sheet.specs.declared.formula.Limits.{Limits}
@@ -26,15 +27,15 @@ use Rattle.sheet.specs.Stack.{Bits, Means, Beside}
 
 -- the sheet from the formula's line on
 unfoldable pub formulaRest : Declared → Parser Formula
-formulaRest D = key (bytes "formula=") >> (formula D 64 [] >>= λ F. mark feed >> (finish >> give F))
+formulaRest D = key (bytes "formula=") >> (formula D maxNesting [] >>= λ F. mark feed >> (finish >> give F))
 
 -- ---- what is declared, by its numbers
 
 -- within document 01's limits
 pub record Small (d : Limits) : Type 0 where
-  pub scalars : d .scalars ≤ 64
-  pub locals : d .locals ≤ 32
-  pub arrays : d .arrays ≤ 16
+  pub scalars : d .scalars ≤ maxScalars
+  pub locals : d .locals ≤ maxLocals
+  pub arrays : d .arrays ≤ maxArrays
 
 -- the numbers are those of what is declared
 pub record Counts (d : Limits) (D : Declared) : Type 0 where
@@ -52,7 +53,7 @@ counted d = record { edition = d .edition; scalars = d .scalars; locals = d .loc
 
 -- its refusal where d is due: 9 where it nests too deep or is the 1,025th, then its own
 abbrev pub refusalOf : Limits → Due → Locals → ℕ → Token → ℕ
-refusalOf l d B n t = pick (eqb (room d) 0) 9 (pick (ltb n 1024) (faultOf (counted l) d B t) 9)
+refusalOf l d B n t = pick (eqb (room d) 0) 9 (pick (ltb n maxTokens) (faultOf (counted l) d B t) 9)
 
 -- k is its refusal where the entry is due, and the set of locals have a binder
 abbrev pub Refuses : Limits → Entry → ℕ → ℕ → Token → ℕ → Type 0
@@ -66,14 +67,14 @@ Binds e t m m′ = (d : Due) (B : Locals) → Means e d → Bits m B → Bits m�
 
 -- the reading of the formula from a place on
 abbrev pub whole : Bytes → ℕ → Declared → Read (List Token)
-whole s from D = leftHere D (dueFormula 64 []) [] [] (readerAt s from 0 [])
+whole s from D = leftHere D (dueFormula maxNesting []) [] [] (readerAt s from 0 [])
 
 -- n tokens were read, up to the place e
 pub record Through (s : Bytes) (from : ℕ) (l : Limits) (w w′ : Words) (n e : ℕ) : Type 0 where
   pub tokens : List Token
   pub locals : Locals
   pub count : length tokens ≡ n
-  pub few : n ≤ 1024
+  pub few : n ≤ maxTokens
   pub within : e ≤ length s
   pub words : Beside (laidTokens 0 tokens w) w′
   pub all : (D : Declared) → Counts l D → whole s from D ≡ found tokens (readerAt s e n locals)
@@ -90,7 +91,7 @@ pub record Laid (s : Bytes) (at : ℕ) (D : Declared) (w w′ : Words) (n : ℕ)
   pub after : Reader
   pub is : formulaRest D (lineAt s at) ≡ found formula after
   pub count : length (formulaTokens formula) ≡ n
-  pub few : n ≤ 1024
+  pub few : n ≤ maxTokens
   pub long : length w′ ≡ length w
   pub words : Beside (laidEnds 0 (formulaTokens formula) (laidTokens 0 (formulaTokens formula) w)) w′
 

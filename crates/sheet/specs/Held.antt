@@ -8,7 +8,7 @@ use Rattle.specification.specs.Ast.{Term, constant, scalarAt, localAt, elementA
 use Rattle.specification.specs.Place.{Place, cell, local}
 use Rattle.specification.specs.Value.{Slot, empty, full, Valuation}
 use Rattle.values.specs.Word.{biased}
-use Rattle.tables.specs.Layout.{cellSlot, localSlot, firstSlot}
+use Rattle.tables.specs.Layout.{maxTokens, maxCells, maxLocals, maxArrays, maxNesting, cellSlot, localSlot, firstSlot}
 pub use Rattle.tables.specs.Layout.{codeAt, operandAt, endAt}
 use Rattle.sheet.specs.Codes.{relCode, opCode}
 use Rattle.sheet.specs.Tables.{Words}
@@ -20,7 +20,7 @@ pub record TokenAt (w : Words) (i k e : ℕ) : Type 0 where
   pub code : codeAt w i ≡ k
   pub end : endAt w i ≡ e
   pub after : i < e
-  pub inside : e ≤ 1024
+  pub inside : e ≤ maxTokens
 
 -- the term t stands from token i on
 abbrev pub TermAt : Words → ℕ → Term → Type 0
@@ -77,11 +77,11 @@ Shallow (and F G) = Shallow F × Shallow G
 Shallow (or F G) = Shallow F × Shallow G
 Shallow (imp n F G) = Shallow F × Shallow G
 Shallow (neg n F) = Shallow F
-Shallow (eq n s t) = (height s ≤ 64) × (height t ≤ 64)
-Shallow (compare n r s t) = (height s ≤ 64) × (height t ≤ 64)
-Shallow (ex l F) = (l < 32) × Shallow F
-Shallow (some n l a b F) = (height a ≤ 64) × (height b ≤ 64) × (l < 32) × Shallow F
-Shallow (all n l a b F) = (height a ≤ 64) × (height b ≤ 64) × (l < 32) × Shallow F
+Shallow (eq n s t) = (height s ≤ maxNesting) × (height t ≤ maxNesting)
+Shallow (compare n r s t) = (height s ≤ maxNesting) × (height t ≤ maxNesting)
+Shallow (ex l F) = (l < maxLocals) × Shallow F
+Shallow (some n l a b F) = (height a ≤ maxNesting) × (height b ≤ maxNesting) × (l < maxLocals) × Shallow F
+Shallow (all n l a b F) = (height a ≤ maxNesting) × (height b ≤ maxNesting) × (l < maxLocals) × Shallow F
 
 -- ---- values
 
@@ -97,9 +97,9 @@ slotOf (local l) = localSlot l
 
 -- the words hold the valuation
 pub record Holds (w : Words) (α : Valuation) : Type 0 where
-  pub cells : (c : ℕ) → c < 512 → SlotAt w (cellSlot c) (α (cell c))
-  pub locals : (l : ℕ) → l < 32 → SlotAt w (localSlot l) (α (local l))
+  pub cells : (c : ℕ) → c < maxCells → SlotAt w (cellSlot c) (α (cell c))
+  pub locals : (l : ℕ) → l < maxLocals → SlotAt w (localSlot l) (α (local l))
 
 -- the words hold the arrays' first cells, and the end of the cells after them
 abbrev pub ArraysAt : Words → Declared → Type 0
-ArraysAt w D = (a : ℕ) → a ≤ 16 → getD w (firstSlot a) 0 ≡ firstOf D a
+ArraysAt w D = (a : ℕ) → a ≤ maxArrays → getD w (firstSlot a) 0 ≡ firstOf D a

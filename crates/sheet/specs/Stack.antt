@@ -1,14 +1,14 @@
 -- What is due, as it stands in the work words: three words an entry, the topmost last; a set of locals is a number, with a bit for each.
 -- Assumes nothing.
-use Prim.Native.Nat.{ℕ, _+_, _*_, _/_, _%_, _^_, _<_, _≤_}
+use Prim.Native.Nat.{ℕ, _+_, _<_, _≤_}
 use mathlib.Core.Path.{_≡_}
-use mathlib.Core.Bool.{Bool}
 use mathlib.Core.List.{List, [], _∷_, _++_}
 use lib.ListN.{length, getD, set}
 use lib.Dec.{eqb}
 use Rattle.specification.specs.Bytes.{pick, between}
 use Rattle.specification.specs.Formula.{Locals, has}
-use Rattle.tables.specs.Layout.{dueSlot, duesAt, duesEnd}
+use Rattle.tables.specs.Layout.{maxLocals, dueSlot, duesAt, duesEnd}
+use Rattle.tables.specs.Locals.{inSet}
 use Rattle.sheet.specs.declared.Token.{Token}
 use Rattle.sheet.specs.declared.stack.Entry.{Entry}
 use Rattle.sheet.specs.declared.stack.Operands.{Operands}
@@ -18,13 +18,9 @@ use Rattle.sheet.specs.Tables.{Words}
 
 -- ---- sets of locals
 
--- the local l is in the set m
-unfoldable pub bit : ℕ → ℕ → Bool
-bit m l = eqb (m / 2 ^ l % 2) 1
-
 -- the set m stands for the list S
 pub record Bits (m : ℕ) (S : Locals) : Type 0 where
-  pub at : (l : ℕ) → l < 32 → bit m l ≡ has l S
+  pub at : (l : ℕ) → l < maxLocals → inSet m l ≡ has l S
 
 -- ---- entries
 

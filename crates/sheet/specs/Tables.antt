@@ -13,7 +13,7 @@ use Rattle.specification.specs.Lines.{Declared, firstOf}
 use Rattle.specification.specs.Given.{Item}
 use Rattle.specification.specs.Sheet.{Sheet}
 use Rattle.values.specs.Word.{biased}
-use Rattle.tables.specs.Layout.{cellSlot, firstSlot, tokenSlot}
+use Rattle.tables.specs.Layout.{maxArrays, cellSlot, firstSlot, tokenSlot}
 pub use Rattle.tables.specs.Layout.{Words}
 use Rattle.sheet.specs.declared.Token.{Token}
 use Rattle.sheet.specs.Codes.{arity, formulaTokens}
@@ -26,7 +26,7 @@ laidFirsts D a zero w = w
 laidFirsts D a (suc n) w = laidFirsts D (suc a) n (set w (firstSlot a) (firstOf D a))
 
 unfoldable pub laidArrays : Declared → Words → Words
-laidArrays D w = laidFirsts D 0 17 w
+laidArrays D w = laidFirsts D 0 (suc maxArrays) w
 
 -- ---- given values
 

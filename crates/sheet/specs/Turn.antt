@@ -10,15 +10,16 @@ use Rattle.specification.specs.Parser.{Reader, Parser, give, _>>=_}
 use Rattle.specification.specs.Lines.{Declared}
 use Rattle.specification.specs.Words.{wordOf}
 use Rattle.specification.specs.Formula.{Locals, has}
+use Rattle.tables.specs.Layout.{maxTokens, maxScalars, maxLocals, maxArrays, maxDues}
 use Rattle.sheet.specs.declared.Token.{Token}
 use Rattle.sheet.specs.Codes.{tokenOf}
 use Rattle.sheet.specs.Dues.{Due, dueFormula, dueTerm, dueEx, dueRange, parse, parseAll}
 
 -- document 01's limits on what is declared
 pub record Limited (D : Declared) : Type 0 where
-  pub scalars : D .scalars ≤ 64
-  pub locals : D .locals ≤ 32
-  pub arrays : length (D .arrays) ≤ 16
+  pub scalars : D .scalars ≤ maxScalars
+  pub locals : D .locals ≤ maxLocals
+  pub arrays : length (D .arrays) ≤ maxArrays
 
 -- ---- whether a token may stand where something is due
 
@@ -97,7 +98,7 @@ tokenAt D r = tokenOf (wordOf (D .edition) (spelling r))
 unfoldable pub faultAt : Declared → Due → Reader → ℕ
 faultAt D d r =
     pick (eqb (room d) 0) 9
-    (pick (ltb (r .tokens) 1024) (faultOf D d (r .bound) (tokenAt D r)) 9)
+    (pick (ltb (r .tokens) maxTokens) (faultOf D d (r .bound) (tokenAt D r)) 9)
 
 -- the reader behind it
 abbrev pub behind : Declared → Due → Reader → Reader
@@ -135,4 +136,4 @@ weights (d ∷ ds) = weight d + weights ds
 -- each, with those after it, leaves two for each nesting that may still come
 unfoldable pub Fits : List Due → Type 0
 Fits [] = Unit {0}
-Fits (d ∷ ds) = (weights (d ∷ ds) + 2 * room d ≤ 129) × Fits ds
+Fits (d ∷ ds) = (weights (d ∷ ds) + 2 * room d ≤ maxDues) × Fits ds

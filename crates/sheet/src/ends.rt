@@ -2,10 +2,9 @@
 ghost use mathlib.Core.Path.{_≡_};
 ghost use Prim.Native.Nat.{_≤_, _<_};
 ghost use lib.ListN.{length};
-ghost use Rattle.tables.specs.Layout.{pathAt};
+ghost use Rattle.tables.specs.Layout.{maxTokens, pathAt};
 ghost use Rattle.sheet.specs.Codes.{arity};
 ghost use Rattle.sheet.specs.Tables.{laidEnds};
-ghost use Rattle.sheet.specs.Held.{codeAt};
 ghost use Rattle.sheet.specs.Ends.{tokensIn, endIn, EndsAfter, endFrom};
 
 // How many operands a code has; a binder's local is one of them.
@@ -22,31 +21,24 @@ fn arity(code: u32) -> u32
     }
 }
 
-fn code(w: &[u32], i: u32) -> u32
-    requires { ⌜ (i < 1024) × (pathAt ≤ length (now w)) ⌝ }
-    ensures { λ r. ⌜ r ≡ codeAt (now (w .entry)) i ⌝ }
-{
-    w[4 * (i as usize)]
-}
-
 // The end of token e's subtree from the table of n tokens, n behind the last.
 fn end(w: &[u32], n: u32, e: u32) -> u32
-    requires { ⌜ (n ≤ 1024) × (pathAt ≤ length (now w)) ⌝ }
+    requires { ⌜ (n ≤ maxTokens) × (pathAt ≤ length (now w)) ⌝ }
     ensures { λ r. ⌜ r ≡ endFrom (now (w .entry)) n e ⌝ }
 {
     if n <= e {
         return n;
     }
-    w[4 * (e as usize) + 2]
+    tables::end(w, e)
 }
 
 // The end of token i's subtree, where those of the tokens after it are in the table: past each operand.
 fn subtree(w: &[u32], n: u32, i: u32) -> u32
-    requires { ⌜ (i < n) × (n ≤ 1024) × (pathAt ≤ length (now w)) × EndsAfter (now w) n i ⌝ }
+    requires { ⌜ (i < n) × (n ≤ maxTokens) × (pathAt ≤ length (now w)) × EndsAfter (now w) n i ⌝ }
     ensures { λ r. ⌜ r ≡ endIn (tokensIn (now (w .entry)) 0 n) i ⌝ }
 {
     let mut e = i + 1;
-    let mut k = arity(code(w, i));
+    let mut k = arity(tables::code(w, i));
     while 0 < k {
         e = end(w, n, e);
         k -= 1;
@@ -56,13 +48,13 @@ fn subtree(w: &[u32], n: u32, i: u32) -> u32
 
 // The ends of the subtrees of n tokens, into the table.
 pub(crate) fn ends(w: &mut [u32], n: u32)
-    requires { ⌜ (n ≤ 1024) × (pathAt ≤ length (now w)) ⌝ }
+    requires { ⌜ (n ≤ maxTokens) × (pathAt ≤ length (now w)) ⌝ }
     ensures { λ r. ⌜ now (w .exit) ≡ laidEnds 0 (tokensIn (now (w .entry)) 0 n) (now (w .entry)) ⌝ }
 {
     let mut i = n;
     while 0 < i {
         i -= 1;
         let e = subtree(w, n, i);
-        w[4 * (i as usize) + 2] = e;
+        tables::set_end(w, i, e);
     }
 }

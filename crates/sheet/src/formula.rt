@@ -1,11 +1,11 @@
 // The formula's line: its tokens into the table, one token a turn. What is due stands on the stack.
 ghost use mathlib.Core.Path.{_≡_};
-ghost use Prim.Native.Nat.{_+_, _*_, _≤_, _<_};
-ghost use lib.ListN.{length, set};
+ghost use Prim.Native.Nat.{_≤_, _<_};
+ghost use lib.ListN.{length};
 ghost use Rattle.specification.specs.Bytes.{between};
 ghost use Rattle.specification.specs.Lines.{Declared};
 ghost use Rattle.specification.specs.Formula.{Locals};
-ghost use Rattle.tables.specs.Layout.{tokenSlot, pathAt};
+ghost use Rattle.tables.specs.Layout.{maxLocals, pathAt};
 ghost use Rattle.sheet.specs.Dues.{Due};
 ghost use Rattle.sheet.specs.Turn.{suits, declared, placed, faultOf};
 ghost use Rattle.sheet.specs.Stack.{Bits, sortOf, Means};
@@ -36,12 +36,6 @@ pub(crate) enum Scanned {
     Refused(u32, usize),
     Read(u32, usize),
 }
-
-// How many tokens there may be.
-const TOKENS: u32 = 1024;
-
-// How deep they may nest.
-const NESTING: u32 = 64;
 
 // ---- one token
 
@@ -79,20 +73,20 @@ fn is_declared(d: Limits, t: Token) -> bool
 
 // Whether a local as a term is in scope, or at its binder has no binder yet.
 fn in_place(e: Entry, bound: u32, l: u32) -> bool
-    requires { ⌜ l < 32 ⌝ }
+    requires { ⌜ l < maxLocals ⌝ }
     ensures { λ r. ⌜ ((d : Due) (B : Locals) → Means e d → Bits bound B → r ≡ placed d B l) ⌝ }
 {
     let sort = e.sort;
     match sort {
         0 => true,
-        1 => stack::has(e.scope, l),
-        _ => !stack::has(bound, l),
+        1 => tables::locals::has(e.scope, l),
+        _ => !tables::locals::has(bound, l),
     }
 }
 
 // The number of a token's refusal by its word, 0 where it may stand.
 fn fault(d: Limits, e: Entry, bound: u32, t: Token) -> u32
-    requires { ⌜ d .locals ≤ 32 ⌝ }
+    requires { ⌜ d .locals ≤ maxLocals ⌝ }
     ensures { λ r. ⌜ ((du : Due) (B : Locals) → Means e du → Bits bound B → r ≡ faultOf (counted d) du B t) ⌝ }
 {
     if t.code == 65 {
@@ -115,13 +109,13 @@ fn fault(d: Limits, e: Entry, bound: u32, t: Token) -> u32
 
 // The number of the refusal of a token after so many others, 0 where it may stand.
 fn refusal(d: Limits, e: Entry, bound: u32, count: u32, t: Token) -> u32
-    requires { ⌜ d .locals ≤ 32 ⌝ }
+    requires { ⌜ d .locals ≤ maxLocals ⌝ }
     ensures { λ r. ⌜ Refuses d e bound count t r ⌝ }
 {
     if e.room == 0 {
         return 9;
     }
-    if TOKENS <= count {
+    if tables::MAX_TOKENS <= count {
         return 9;
     }
     fault(d, e, bound, t)
@@ -129,23 +123,13 @@ fn refusal(d: Limits, e: Entry, bound: u32, count: u32, t: Token) -> u32
 
 // The locals that have a binder after a token.
 fn bound_after(e: Entry, t: Token, bound: u32) -> u32
-    requires { ⌜ (1 < e .sort → t .operand < 32) ⌝ }
+    requires { ⌜ (1 < e .sort → t .operand < maxLocals) ⌝ }
     ensures { λ r. ⌜ Binds e t bound r ⌝ }
 {
     if e.sort <= 1 {
         return bound;
     }
-    stack::with(bound, t.operand)
-}
-
-// A token into the table.
-fn store(w: &mut [u32], i: u32, t: Token)
-    requires { ⌜ (i < 1024) × (pathAt ≤ length (now w)) ⌝ }
-    ensures { λ r. ⌜ now (w .exit) ≡ set (set (now (w .entry)) (tokenSlot i) (t .code)) (tokenSlot i + 1) (t .operand) ⌝ }
-{
-    let at = 4 * (i as usize);
-    w[at] = t.code;
-    w[at + 1] = t.operand;
+    tables::locals::with(bound, t.operand)
 }
 
 // ---- the tokens
@@ -160,7 +144,7 @@ fn scan(s: &[u8], from: usize, d: Limits, w: &mut [u32]) -> Scanned
         0,
         Entry {
             sort: 0,
-            room: NESTING,
+            room: tables::MAX_NESTING,
             scope: 0,
         },
     );
@@ -176,7 +160,7 @@ fn scan(s: &[u8], from: usize, d: Limits, w: &mut [u32]) -> Scanned
         if k != 0 {
             return Scanned::Refused(k, at);
         }
-        store(w, count, t);
+        tables::set_token(w, count, t.code, t.operand);
         count += 1;
         bound = bound_after(due, t, bound);
         n = stack::push(w, n - 1, due, t);

@@ -1,10 +1,9 @@
 // What is due while the formula is read: a stack in the work words, three words an entry.
 ghost use mathlib.Core.Path.{_≡_};
-ghost use Prim.Native.Nat.{_≤_, _<_, _^_};
+ghost use Prim.Native.Nat.{_+_, _≤_, _<_};
 ghost use lib.ListN.{length};
-ghost use lib.Bits.{bitOr};
-ghost use Rattle.tables.specs.Layout.{pathAt};
-ghost use Rattle.sheet.specs.Stack.{bit, entryAt, entered, operandsBy, Opened};
+ghost use Rattle.tables.specs.Layout.{maxLocals, maxDues, pathAt};
+ghost use Rattle.sheet.specs.Stack.{entryAt, entered, operandsBy, Opened};
 use crate::Token;
 
 // What is due: its sort (0 a formula, 1 a term, 2 the local of `ex`, 3 the local of `some` or `all`), how much deeper nesting may go, and
@@ -21,41 +20,14 @@ pub(crate) struct Operands {
     pub count: u32,
 }
 
-// The first word of the stack.
-const STACK: usize = tables::DUES;
-
-// ---- sets of locals
-
-fn only(l: u32) -> u32
-    requires { ⌜ l < 32 ⌝ }
-    ensures { λ r. ⌜ r ≡ 2 ^ l ⌝ }
-{
-    1u32 << l
-}
-
-pub(crate) fn has(m: u32, l: u32) -> bool
-    requires { ⌜ l < 32 ⌝ }
-    ensures { λ r. ⌜ r ≡ bit m l ⌝ }
-{
-    let p = only(l);
-    m / p % 2 == 1
-}
-
-pub(crate) fn with(m: u32, l: u32) -> u32
-    requires { ⌜ l < 32 ⌝ }
-    ensures { λ r. ⌜ r ≡ bitOr m (2 ^ l) ⌝ }
-{
-    m | only(l)
-}
-
 // ---- the stack
 
 // The i-th entry from the bottom.
 pub(crate) fn get(w: &[u32], i: usize) -> Entry
-    requires { ⌜ (i < 129) × (pathAt ≤ length (now w)) ⌝ }
+    requires { ⌜ (i < maxDues) × (pathAt ≤ length (now w)) ⌝ }
     ensures { λ r. ⌜ r ≡ entryAt (now (w .entry)) i ⌝ }
 {
-    let at = STACK + 3 * i;
+    let at = tables::DUES + tables::DUE_WORDS * i;
     Entry {
         sort: w[at],
         room: w[at + 1],
@@ -64,10 +36,10 @@ pub(crate) fn get(w: &[u32], i: usize) -> Entry
 }
 
 pub(crate) fn put(w: &mut [u32], i: usize, e: Entry)
-    requires { ⌜ (i < 129) × (pathAt ≤ length (now w)) ⌝ }
+    requires { ⌜ (i < maxDues) × (pathAt ≤ length (now w)) ⌝ }
     ensures { λ r. ⌜ now (w .exit) ≡ entered (now (w .entry)) i e ⌝ }
 {
-    let at = STACK + 3 * i;
+    let at = tables::DUES + tables::DUE_WORDS * i;
     w[at] = e.sort;
     w[at + 1] = e.room;
     w[at + 2] = e.scope;
@@ -92,7 +64,7 @@ fn operands_of(code: u32) -> Operands
 
 // The operands of a token where a formula or a term is due, put above n entries: how many there are then.
 fn push_operands(w: &mut [u32], n: usize, e: Entry, t: Token) -> usize
-    requires { ⌜ (n ≤ 126) × (pathAt ≤ length (now w)) × (0 < e .room) × (e .sort ≤ 1) ⌝ }
+    requires { ⌜ (n + 3 ≤ maxDues) × (pathAt ≤ length (now w)) × (0 < e .room) × (e .sort ≤ 1) ⌝ }
     ensures { λ r. ⌜ Opened (now (w .entry)) (now (w .exit)) n e t r ⌝ }
 {
     let o = operands_of(t.code);
@@ -114,7 +86,7 @@ fn push_operands(w: &mut [u32], n: usize, e: Entry, t: Token) -> usize
 
 // What a token makes due where an entry was due, put above n entries: how many there are then. A binder's formula lies below its bounds.
 pub(crate) fn push(w: &mut [u32], n: usize, e: Entry, t: Token) -> usize
-    requires { ⌜ (n ≤ 126) × (pathAt ≤ length (now w)) × (0 < e .room) × (1 < e .sort → t .operand < 32) ⌝ }
+    requires { ⌜ (n + 3 ≤ maxDues) × (pathAt ≤ length (now w)) × (0 < e .room) × (1 < e .sort → t .operand < maxLocals) ⌝ }
     ensures { λ r. ⌜ Opened (now (w .entry)) (now (w .exit)) n e t r ⌝ }
 {
     if e.sort <= 1 {
@@ -123,7 +95,7 @@ pub(crate) fn push(w: &mut [u32], n: usize, e: Entry, t: Token) -> usize
     let f = Entry {
         sort: 0,
         room: e.room,
-        scope: with(e.scope, t.operand),
+        scope: tables::locals::with(e.scope, t.operand),
     };
     put(w, n, f);
     if e.sort == 2 {

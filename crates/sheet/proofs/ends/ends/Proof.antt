@@ -2,7 +2,7 @@
 use Prim.Native.Nat.{_≤_}
 use native.Mathlib.Omega.{arith}
 use mathlib.Core.Path.{_≡_, refl, _∙_}
-use lib.ListN.{length, length-set}
+use lib.ListN.{length}
 use Rattle.sheet.proofs.Subtrees.{laidFrom, from-none, from-ends, from-more}
 use borrow.Author.Needs.{needs}
 use Rattle.sheet.proofs.ends.ends.Statement.{statement}
@@ -23,26 +23,20 @@ sub-i c = search needs
 subtree-requires : tie.Need-subtree-requires Inv-loop μ-loop
 subtree-requires c κs = (omega arith, (c .before .before .before .before .pre .0), omega (arith, (c .before .before .loop .inv .2), (c .before .before .before .before .pre .1)), from-ends (c .before .before .before .before .args .w .now) (c .before .before .before .before .args .n) (c .before .before .loop .i) _ (c .before .before .loop .inv .1) (c .before .loop-test .taken) (c .before .before .loop .inv .0) (c .before .before .before .before .pre .0) (c .before .before .before .before .pre .1))
 
-cast-w : tie.Need-cast-w Inv-loop μ-loop
-cast-w c = search needs
-
-mul-w : tie.Need-mul-w Inv-loop μ-loop
-mul-w c = search needs
-
-add-w : tie.Need-add-w Inv-loop μ-loop
-add-w c = search needs
-
-mul-w-2 : tie.Need-mul-w-2 Inv-loop μ-loop
-mul-w-2 c = search needs
-
-slice-write-w : tie.Need-slice-write-w Inv-loop μ-loop
-slice-write-w c = search needs
+set-end-requires : tie.Need-set-end-requires Inv-loop μ-loop
+set-end-requires c κs = omega (arith, (c .before .before .before .before .loop .inv .0), (c .before .before .before .before .loop .inv .2), (c .before .before .before .before .before .before .pre .0), (c .before .before .before .before .before .before .pre .1), (c .before .before .before .loop-test .taken))
 
 loop-less : tie.Need-loop-less Inv-loop μ-loop
 loop-less c = search needs
 
 loop-again : tie.Need-loop-again Inv-loop μ-loop
-loop-again c = (omega arith, from-more (c .before .before .before .before .before .args .w .now) (c .before .before .before .before .before .args .n) (c .before .before .before .loop .i) _ (c .before .before .before .loop .inv .1) (c .before .before .loop-test .taken) (c .before .before .before .loop .inv .0) _ (c .subtree .ensures), simp length-set (c .before .before .before .loop .inv .2))
+loop-again c =
+    let i = (c .before .before .before .before .before .before .before) in
+    let s = (c .before .before .before .before .before .before .before .before .before) in (
+      omega arith,
+      (c .before .before .set-end .ensures) ∙ from-more (s .args .w .now) (s .args .n) (i .loop .i) _ (i .loop .inv .1) (c .before .before .before .before .before .before .loop-test .taken) (i .loop .inv .0) _ (c .before .before .before .before .subtree .ensures),
+      (c .before .before .set-end .kept .0) ∙ i .loop .inv .2,
+    )
 
 same-length : tie.Need-same-length Inv-loop μ-loop
 same-length c = (c .before .loop .inv .2)
@@ -59,11 +53,7 @@ ends-spec =
     loop-holds
     sub-i
     subtree-requires
-    cast-w
-    mul-w
-    add-w
-    mul-w-2
-    slice-write-w
+    set-end-requires
     loop-less
     loop-again
     same-length

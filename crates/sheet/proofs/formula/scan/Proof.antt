@@ -5,7 +5,7 @@ use mathlib.Core.Path.{_≡_, _∙_, sym}
 use lib.ListN.{length}
 use Rattle.text.proofs.Laws.Run.{end-ge, end-le}
 use Rattle.specification.specs.Bytes.{inToken}
-use Rattle.tables.specs.Layout.{pathAt}
+use Rattle.tables.specs.Layout.{maxTokens, pathAt}
 use Rattle.sheet.proofs.Scan.{Reading, Taken, May, reading-start, turn-stops, may, turn-stands, taken-last, taken-stops, taken-next, through-start}
 use borrow.Author.Needs.{needs}
 use Rattle.sheet.proofs.formula.scan.Statement.{statement}
@@ -15,7 +15,7 @@ abbrev Inv-loop : tie.InvT-loop
 Inv-loop s from d w₀ n₀ count₀ bound₀ at₀ w n count bound at = Reading s from d w₀ w n count bound at × (pathAt ≤ length w₀)
 
 abbrev μ-loop : tie.MeasureT-loop
-μ-loop s from d w₀ n₀ count₀ bound₀ at₀ w n count bound at = 1024 - count
+μ-loop s from d w₀ n₀ count₀ bound₀ at₀ w n count bound at = maxTokens - count
 
 -- ---- places: the first entry is put, the loop's head, the entry that is due, and the token that may stand
 
@@ -60,7 +60,7 @@ taken-here c =
     let lexed = q .before .before in
     turn-stands (h .loop .inv .0) (start h .pre .1) (h .loop .inv .1)
     _ (lexed .before .before .run-end .ensures) _ (got (q .before) .get .ensures) _ (lexed .lex .ensures) _ (q .before .refusal .ensures) (q .if1 .left)
-    _ _ _ _ (marked c .before .before .store .ensures) (c .before .before .push .ensures) (c .before .before .before .before .bound-after .ensures)
+    _ _ _ _ (marked c .before .before .set-token .ensures) (c .before .before .push .ensures) (c .before .before .before .before .bound-after .ensures)
 
 -- the words are as many as before
 long-here : (c : tie.After-slice-known4 Inv-loop μ-loop) → length (c .before .before .push .last .0) ≡ length (start (behind c) .args .w .now)
@@ -119,10 +119,10 @@ returns c =
           _ (lexed .before .before .run-end .ensures) _ (got (c .before) .get .ensures) _ (lexed .lex .ensures) _ (c .before .refusal .ensures) (c .if1 .taken),
     )
 
-store-requires : tie.Need-store-requires Inv-loop μ-loop
-store-requires c κs =
+set-token-requires : tie.Need-set-token-requires Inv-loop μ-loop
+set-token-requires c κs =
     let i = head (c .before .before) .loop .inv in
-    (may-here (c .before) .number, omega (arith, i .0 .long, i .1))
+    omega (arith, may-here (c .before) .number, i .0 .long, i .1)
 
 add-count : tie.Need-add-count Inv-loop μ-loop
 add-count c = omega (arith, may-here (stood c) .number)
@@ -138,7 +138,7 @@ push-requires c κs =
     let q = stood (c .before .before) in
     let i = head (q .before) .loop .inv in
     let m = may-here q in
-    (m .low, omega (arith, c .before .before .before .before .store .kept .0, i .0 .long, i .1), m .room, m .index)
+    (m .low, omega (arith, c .before .before .before .before .set-token .kept .0, i .0 .long, i .1), m .room, m .index)
 
 same-length-2 : tie.Need-same-length-2 Inv-loop μ-loop
 same-length-2 c = long-here (c .before)
@@ -188,7 +188,7 @@ scan-spec =
     refusal-requires
     same-length
     returns
-    store-requires
+    set-token-requires
     add-count
     bound-after-requires
     sub-push
