@@ -108,7 +108,7 @@ module _ {c : World} {o : Bytes} {w : Words} {r : Regs} (i : In c o w r) where
   -- the next values of a `some`
   pub down-range : {w' : Words} {low high : ℕ} (l : ℕ) (x : ℤ) (n : ℕ) (F : Formula) (is : List Item) →
       Alters w w' r (r .due .head) (i .α) (local l) (full (x +ℤ pos 0)) 3 low high →
-      tree c (i .fr) (i .x) (i .α) ≡ fan (suc n) (λ j. treeItems (c .declared) (innerIn (i .fr)) (form F ∷ is) (put (i .α) (local l) (full (x +ℤ pos j)))) →
+      tree c (i .fr) (i .x) (i .α) ≡ fan x (suc n) (λ j. treeItems (c .declared) (innerIn (i .fr)) (form F ∷ is) (put (i .α) (local l) (full (x +ℤ pos j)))) →
       Binds (c .declared) (c .tables) (r .due .head) l F → LeftAfter low high n (x +ℤ pos 1) → signed low ≡ x +ℤ pos 0 → Pend c w (r .depth) (r .due .rest) is →
       {d : Due} → Job c w' (r .depth + 1) d (the (form F ∷ is)) →
       Down c o w' (dueRegs r (r .depth + 1) d (r .inner) (r .bad))

@@ -152,7 +152,7 @@ pub record Opens (w : Words) (r : Regs) (low high : ℕ) : Type 0 where
   pub sons :
       (c : World) (o : Bytes) (i : In c o w r) →
       (l : ℕ) × (F : Formula) × (n : ℕ) × (x : ℤ) × (is : List Item)
-      × (tree c (i .fr) (i .x) (i .α) ≡ fan (suc n) (λ j. treeItems (c .declared) (innerIn (i .fr)) (form F ∷ is) (put (i .α) (local l) (full (x +ℤ pos j)))))
+      × (tree c (i .fr) (i .x) (i .α) ≡ fan x (suc n) (λ j. treeItems (c .declared) (innerIn (i .fr)) (form F ∷ is) (put (i .α) (local l) (full (x +ℤ pos j)))))
       × Binds (c .declared) (c .tables) (r .due .head) l F
       × LeftAfter low high n (x +ℤ pos 1)
       × (signed low ≡ x)

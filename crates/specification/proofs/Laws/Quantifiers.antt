@@ -106,8 +106,8 @@ module _ (D : Declared) (tok l : ℕ) (a b : Term) (F : Formula) where
   unfolding grow Every Ok Truth
   some-sound sF S (oa, ob, fresh, oF) m k α v P go =
       bounded-every P tok (side D α a) (side D α b)
-      (λ x y β. sons (count x y) (λ i. grow D m F k (put β (local l) (full (x +ℤ pos i))))) α (λ x y e f.
-      sons-every P (count x y) (λ i. grow D m F k (put α (local l) (full (x +ℤ pos i)))) (λ i h.
+      (λ x y β. sons x (count x y) (λ i. grow D m F k (put β (local l) (full (x +ℤ pos i))))) α (λ x y e f.
+      sons-every P x (count x y) (λ i. grow D m F k (put α (local l) (full (x +ℤ pos i)))) (λ i h.
       let z = x +ℤ pos i in
       let r = range-in x y i h in
       entered-sound D S l fresh F oF m sF P k α v z (between S oa ob α v x y e f z (r .0) (r .1)) (λ β w vb t.
@@ -119,11 +119,11 @@ module _ (D : Declared) (tok l : ℕ) (a b : Term) (F : Formula) where
   unfolding grow Any Ok Truth
   some-complete cF S (oa, ob, fresh, oF) m k α v ρ g (x′, y′, ha, hb, t) Q q go =
       bounded-any Q tok (side D α a) (side D α b)
-      (λ x y β. sons (count x y) (λ i. grow D m F k (put β (local l) (full (x +ℤ pos i))))) α (q α g) (λ x y e f.
+      (λ x y β. sons x (count x y) (λ i. grow D m F k (put β (local l) (full (x +ℤ pos i))))) α (q α g) (λ x y e f.
       let u : SomeFrom x y (With D l F ρ) = rw (same-val D S ρ α g a oa x x′ e ha, same-val D S ρ α g b ob y y′ f hb) at t in
       let (z, p, r, w) = u in
       let (i, h, c) = range-at x y z p r in
-      sons-any Q (count x y) (λ j. grow D m F k (put α (local l) (full (x +ℤ pos j)))) i h
+      sons-any Q x (count x y) (λ j. grow D m F k (put α (local l) (full (x +ℤ pos j)))) i h
       (entered-complete D S l fresh F oF m cF ρ Q q k α v g (full (x +ℤ pos i)) (rw c at (between S oa ob α v x y e f z p r)) z (λ w′ d. (cc)) w go))
 
   pub all-sound : Sound D F → Sound D (all tok l a b F)
