@@ -13,7 +13,7 @@ use Rattle.specification.specs.Number.{in32}
 use Rattle.specification.specs.Ast.{Rel, Formula}
 use Rattle.specification.specs.Arithmetic.{test}
 use Rattle.specification.specs.Place.{Place, local, put}
-use Rattle.specification.specs.Value.{empty, full}
+use Rattle.specification.specs.Value.{empty, full, allowed}
 use Rattle.specification.specs.Tree.{step, fan, check, assign}
 use Rattle.values.specs.Word.{biased, signed}
 use Rattle.tables.specs.Layout.{cellSlot, nodeSlot, localsAt, firstsAt}
@@ -135,7 +135,7 @@ pub record Sets (w : Words) (r : Regs) (slot value : ℕ) : Type 0 where
       × (value ≡ biased v)
       × InTable p
       × (i .α p ≡ empty)
-      × T (in32 v)
+      × T (allowed (c .declared) p v)
 
 -- the node's one son is the rest where a test holds, else a failure leaf
 pub record Tested (w : Words) (r : Regs) (holds : Bool) : Type 0 where
