@@ -3,13 +3,10 @@ use Prim.Native.Nat.{ℕ, _<_, _≤_}
 use mathlib.Core.Path.{_≡_}
 use mathlib.Core.List.{_++_}
 use lib.ListN.{length, drop}
-use lib.Dec.{T}
-use lib.IntN.{ℤ}
 use Rattle.specification.specs.Bytes.{Bytes}
-use Rattle.specification.specs.Number.{in32}
 use Rattle.specification.specs.Lines.{Declared, cells}
-use Rattle.specification.specs.Place.{Place}
-use Rattle.specification.specs.Value.{Valuation, full}
+use Rattle.specification.specs.Value.{Valuation}
+use Rattle.specification.specs.WellFormed.{Valid}
 use Rattle.specification.specs.Listing.{blockOf, blockText}
 use Rattle.sheet.specs.Tables.{Words}
 use Rattle.sheet.specs.Held.{Holds, ArraysAt}
@@ -27,7 +24,7 @@ pub record Shows (w : Words) (scalars arrays : ℕ) (D : Declared) (β : Valuati
   pub limit : cells D ≤ 512
   pub firsts : ArraysAt w D
   pub holds : Holds w β
-  pub valid : (p : Place) (v : ℤ) → β p ≡ full v → T (in32 v)
+  pub valid : Valid D β
 
 -- for some declarations and valuation
 pub record Ready (w : Words) (scalars arrays : ℕ) : Type 0 where

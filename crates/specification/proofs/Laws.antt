@@ -9,6 +9,7 @@ pub mod Cells
 -- of the reading
 pub mod Scope
 pub mod Elements
+pub mod Allowed
 pub mod Parser
 pub mod SheetLines
 pub mod ReadLines

@@ -26,7 +26,7 @@ leaves failureLeaf = fail ∷ []
 leaves (errorLeaf κ t β) = error κ t β ∷ []
 leaves (step T) = leaves T
 leaves (fork T U) = leaves T ++ leaves U
-leaves (fan n f) = sonLeaves n 0 (λ i. leaves (f i))
+leaves (fan x n f) = sonLeaves n 0 (λ i. leaves (f i))
 leaves (ask I T) = leaves T
 
 -- ---- how many there are of each

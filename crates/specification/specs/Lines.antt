@@ -101,3 +101,7 @@ module _ (D : Declared) where
   unfoldable pub cellOf : CellName → ℕ
   cellOf (scalar n) = n
   cellOf (element a e) = firstOf a + e
+
+  -- the values that a cell may have: all of 32 bits
+  unfoldable pub inRange : ℕ → ℤ → Bool
+  inRange c z = in32 z

@@ -10,7 +10,7 @@ use lib.IntN.{ℤ, pos, negsuc}
 use lib.Signed.{_≤ℤ_}
 use Rattle.specification.specs.Bytes.{pick}
 use Rattle.specification.specs.Number.{in32}
-use Rattle.specification.specs.Lines.{Declared, cells, firstOf, lengthOf}
+use Rattle.specification.specs.Lines.{Declared, cells, firstOf, lengthOf, inRange}
 use Rattle.specification.specs.Given.{Item}
 use Rattle.specification.specs.Ast.{Op, Term, constant, scalarAt, localAt, elementAt, apply, Formula, truth, and, or, imp, neg, eq, compare, ex, some, all}
 use Rattle.specification.specs.Sheet.{Sheet}
@@ -85,9 +85,9 @@ abbrev pub env : Filling → Env
 env φ (cell c) = φ c
 env φ (local l) = pos 0
 
--- every cell has a signed 32-bit integer
+-- every cell has a value of its range
 unfoldable pub Fills : Declared → Filling → Type 0
-Fills D φ = (c : ℕ) → c < cells D → T (in32 (φ c))
+Fills D φ = (c : ℕ) → c < cells D → T (inRange D c (φ c))
 
 -- each given cell has its given value
 unfoldable pub Keeps : List Item → Filling → Type 0

@@ -20,10 +20,11 @@ pub data Tree : Type 0 where
   successLeaf : Valuation → Tree
   failureLeaf : Tree
   errorLeaf : ℕ → ℕ → Valuation → Tree
-  -- a node with one son, with two, with n by their numbers; a node of `not` or `imp`, with its inner tree and its son
+  -- a node with one son, with two; a node of `some`, with its lowest value and n sons by their numbers, one for each value from there on;
+  -- a node of `not` or `imp`, with its inner tree and its son
   step : Tree → Tree
   fork : Tree → Tree → Tree
-  fan : ℕ → (ℕ → Tree) → Tree
+  fan : ℤ → ℕ → (ℕ → Tree) → Tree
   ask : Tree → Tree → Tree
 
 -- ---- the verdict on an inner tree: a success leaf in it; failure leaves only; otherwise
@@ -50,7 +51,7 @@ verdict failureLeaf = fails
 verdict (errorLeaf κ t β) = undecided
 verdict (step T) = verdict T
 verdict (fork T U) = let w = verdict U in join (verdict T) w
-verdict (fan n f) = joined n 0 (λ i. verdict (f i))
+verdict (fan x n f) = joined n 0 (λ i. verdict (f i))
 verdict (ask I T) = verdict T
 
 -- ---- what a node leads to
@@ -101,10 +102,10 @@ unfoldable pub bounded : ℕ → Pair → (ℤ → ℤ → Rest) → Rest
 bounded tok (values x y) k α = k x y α
 bounded tok (faulty κ) k α = step (errorLeaf κ tok α)
 
--- `some`: a son for each of n values; an empty range gives a failure leaf
-unfoldable pub sons : ℕ → (ℕ → Tree) → Tree
-sons zero f = step failureLeaf
-sons (suc n) f = fan (suc n) f
+-- `some`: a son for each of n values, the lowest x; an empty range gives a failure leaf
+unfoldable pub sons : ℤ → ℕ → (ℕ → Tree) → Tree
+sons x zero f = step failureLeaf
+sons x (suc n) f = fan x (suc n) f
 
 -- `all` with n values left, the lowest v: a son that begins with F for v, then the same `all` over the values left, then the rest
 unfoldable pub rounds : (Rest → Rest) → ℕ → Rest → ℕ → ℤ → Rest
@@ -149,7 +150,7 @@ module _ (D : Declared) where
   grow m (ex l F) k α = let T = grow m F k (put α (local l) empty) in step T
   grow m (some tok l a b F) k α =
       bounded tok (pairOf (side D α a) (side D α b))
-      (λ x y β. sons (count x y) (λ i. grow m F k (put β (local l) (full (x +ℤ pos i))))) α
+      (λ x y β. sons x (count x y) (λ i. grow m F k (put β (local l) (full (x +ℤ pos i))))) α
   grow m (all tok l a b F) k α =
       bounded tok (pairOf (side D α a) (side D α b)) (λ x y. rounds (λ k′ β. grow m F k′ β) l k (count x y) x) α
 

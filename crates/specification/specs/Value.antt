@@ -4,7 +4,8 @@ use Prim.Native.Nat.{ℕ, _+_}
 use mathlib.Core.Bool.{Bool, true, false}
 use lib.Dec.{ltb}
 use lib.IntN.{ℤ, pos, negsuc}
-use Rattle.specification.specs.Lines.{Declared, firstOf, lengthOf}
+use Rattle.specification.specs.Number.{in32}
+use Rattle.specification.specs.Lines.{Declared, firstOf, lengthOf, inRange}
 use Rattle.specification.specs.Ast.{Op, Term, constant, scalarAt, localAt, elementAt, apply}
 use Rattle.specification.specs.Place.{Place, cell, local}
 use Rattle.specification.specs.Arithmetic.{noValue, outsideArray, Computed, value, fault, compute}
@@ -17,6 +18,11 @@ pub data Slot : Type 0 where
 
 abbrev pub Valuation : Type 0
 Valuation = Place → Slot
+
+-- the values that a place may have: a cell's range, and for a local all of 32 bits
+abbrev pub allowed : Declared → Place → ℤ → Bool
+allowed D (cell c) z = inRange D c z
+allowed D (local l) z = in32 z
 
 -- ---- terms
 

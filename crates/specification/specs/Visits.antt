@@ -45,5 +45,5 @@ visits d failureLeaf = at d (leaf fail) ∷ []
 visits d (errorLeaf κ t β) = at d (leaf (error κ t β)) ∷ []
 visits d (step T) = let r = visits (suc d) T in at d node ∷ r
 visits d (fork T U) = let u = visits (suc d) U in let r = visits (suc d) T then u in at d node ∷ r
-visits d (fan n f) = let r = each n 0 (λ i. visits (suc d) (f i)) in at d node ∷ r
+visits d (fan x n f) = let r = each n 0 (λ i. visits (suc d) (f i)) in at d node ∷ r
 visits d (ask I T) = let u = visits (suc d) T in let r = inside (visits (suc d) I) then u in at d node ∷ r

@@ -10,12 +10,12 @@ use lib.IntN.{ℤ}
 use Rattle.specification.specs.Lists.{Each}
 use Rattle.specification.specs.Bytes.{pick}
 use Rattle.specification.specs.Number.{in32}
-use Rattle.specification.specs.Lines.{Declared, cells}
+use Rattle.specification.specs.Lines.{Declared, cells, inRange}
 use Rattle.specification.specs.Given.{Item}
 use Rattle.specification.specs.Ast.{Term, constant, scalarAt, localAt, elementAt, apply, Formula, truth, and, or, imp, neg, eq, compare, ex, some, all}
 use Rattle.specification.specs.Sheet.{Sheet}
 use Rattle.specification.specs.Place.{Place}
-use Rattle.specification.specs.Value.{full, Valuation}
+use Rattle.specification.specs.Value.{full, Valuation, allowed}
 
 -- ---- what is declared: document 01's limits
 
@@ -74,14 +74,14 @@ module _ (D : Declared) where
 
 pub record WellFormed (s : Sheet) : Type 0 where
   pub limits : Limits (s .declared)
-  -- each given value lies in 32 bits, each given cell is declared, and the cells rise strictly
-  pub values : Each (λ i. T (in32 (i .value))) (s .given)
+  -- each given value is of its cell's range, each given cell is declared, and the cells rise strictly
+  pub values : Each (λ i. T (inRange (s .declared) (i .cell) (i .value))) (s .given)
   pub declared : Each (λ i. i .cell < cells (s .declared)) (s .given)
   pub rising : Rising 0 (s .given)
   pub formula : Ok (s .declared) nowhere (s .formula)
 
 -- ---- valuations
 
--- every value lies in 32 bits
-abbrev pub Valid : Valuation → Type 0
-Valid α = (p : Place) (v : ℤ) → α p ≡ full v → T (in32 v)
+-- every value is one that its place may have
+abbrev pub Valid : Declared → Valuation → Type 0
+Valid D α = (p : Place) (v : ℤ) → α p ≡ full v → T (allowed D p v)

@@ -43,7 +43,7 @@ pub record Given (w : Words) (from to : ℕ) (D : Declared) (α : Valuation) (s 
   pub terms : TermsAt w from to s t
   pub holds : Holds w α
   pub arrays : ArraysAt w D
-  pub valid : Valid α
+  pub valid : Valid D α
   pub cells : cells D ≤ 512
   pub few : length (D .arrays) ≤ 16
   pub scope : Scope

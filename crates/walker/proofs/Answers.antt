@@ -94,5 +94,5 @@ answered-visits failureLeaf d = refl
 answered-visits (errorLeaf κ t β) d = refl
 answered-visits (step T) d = answered-visits T (suc d)
 answered-visits (fork T U) d = rw (answered-then, answered-visits T (suc d), answered-visits U (suc d), success-join)
-answered-visits (fan n f) d = answered-each n 0 (λ i. visits (suc d) (f i)) (λ i. verdict (f i)) (λ j. answered-visits (f j) (suc d))
+answered-visits (fan x n f) d = answered-each n 0 (λ i. visits (suc d) (f i)) (λ i. verdict (f i)) (λ j. answered-visits (f j) (suc d))
 answered-visits (ask I T) d = answered-inside (visits (suc d) T) (visits (suc d) I) ∙ answered-visits T (suc d)

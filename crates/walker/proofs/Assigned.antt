@@ -13,6 +13,7 @@ use Rattle.specification.specs.Lines.{sum, cells, firstOf}
 use Rattle.specification.specs.Place.{Place, cell, local}
 use Rattle.specification.specs.Value.{full}
 use Rattle.specification.specs.Tree.{step, isElement, assign}
+use Rattle.specification.proofs.Laws.Allowed.{in32-allowed}
 use Rattle.tables.specs.Layout.{cellSlot, nodeEnd, localsAt, firstsAt, pathAt}
 use Rattle.sheet.specs.Tables.{Words}
 use Rattle.sheet.specs.Held.{slotOf}
@@ -56,7 +57,7 @@ module _ {w : Words} {r : Regs} {slot value : ℕ} (x : Assigns w r slot value) 
     at = x .at;
     son = λ c o i.
         let (is, p, v, tree, rest, place, word, inside, none, good) = x .son c o i in
-        (is, p, v, tree ∙ rw (f c o i p place inside), rest, place, word, inside, none, good);
+        (is, p, v, tree ∙ rw (f c o i p place inside), rest, place, word, inside, none, in32-allowed (c .declared) p v good);
   }
 
   -- the scalars come first among the cells
@@ -141,7 +142,7 @@ module _ {w : Words} {r : Regs} {slot value : ℕ} (x : Assigns w r slot value) 
 
 module _ {w mid w1 w' : Words} {r : Regs} {slot old value : ℕ} (x : Sets w r slot value) (g : Pushed w mid r (r .due .head) 2 slot 0 old 0 0)
     (e1 : w1 ≡ set mid slot 1) (e2 : w' ≡ set w1 (slot + 1) value) where
-  set-alters : (c : World) (o : Bytes) (i : In c o w r) → let q = x .son c o i in Alters w w' r (r .due .head) (i .α) (q .1) (full (q .2)) 2 0 0
+  set-alters : (c : World) (o : Bytes) (i : In c o w r) → let q = x .son c o i in Alters (c .declared) w w' r (r .due .head) (i .α) (q .1) (full (q .2)) 2 0 0
   set-alters c o i =
       let (is, p, v, tree, rest, place, word, inside, none, good) = x .son c o i in
       record {

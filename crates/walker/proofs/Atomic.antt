@@ -39,7 +39,7 @@ use Rattle.walker.proofs.Heads.{at-form, form-tree, in-spare, visited-s
 use Rattle.walker.proofs.Sided.{Terms, Errs, back, forth, left-side, right-side, sides-are, left-value, right-value}
 
 -- the value of a side by its word
-value-is : (D : Declared) (S : scopes.Scope) (α : Valuation) → scopes.Valid α → (t : Term) → scopes.OkTerm D S t → (w : ℕ) (z : ℤ) → side D α t ≡ val z → w ≡ biased z → signed w ≡ z
+value-is : (D : Declared) (S : scopes.Scope) (α : Valuation) → scopes.Valid D α → (t : Term) → scopes.OkTerm D S t → (w : ℕ) (z : ℤ) → side D α t ≡ val z → w ≡ biased z → signed w ≡ z
 value-is D S α v t ok w z e h = ap signed h ∙ signed-biased z (sane-val D S α v t ok z e)
 
 -- ---- the atoms that compare

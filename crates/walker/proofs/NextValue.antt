@@ -169,7 +169,7 @@ module _ {c : World} {w w' : Words} {r : Regs} {h p : ℕ} (g : Follows w w' r h
       path-top P next-kept (range l x (suc i) m F is β) refl next-frame
       (holds-again altered (a .1 .inside) β (full (x +ℤ pos i))
       (holds-keep (word-slots (nodeSlot (len fr) + 6) (g .v) (omega arith) current-is) (subst (Holds w) (P .chain .0) (P .holds))))
-      (valid-put β (local l) (full (x +ℤ pos (suc i))) (P .chain .1) (next-in x i (a .3) more-here))
+      (valid-put (c .declared) β (local l) (full (x +ℤ pos (suc i))) (P .chain .1) (next-in x i (a .3) more-here))
 
   -- the formula under the quantifier
   body-is : {e n : ℕ} → e ≡ endAt w (h + 2) → n ≡ endAt w e → n ≡ bodyOf (c .tables) (headAt w (len fr))

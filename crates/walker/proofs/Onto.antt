@@ -66,7 +66,7 @@ module _ {c : World} {o : Bytes} {w : Words} {r : Regs} (i : In c o w r) where
       path-onto (i .path) f (i .room) (marked-kept g) e′ q (rw e (holds-keep (marked-slots g) (i .path .holds))) (rw e (i .path .valid))
 
   -- a frame that changes one
-  changed : {w' : Words} {h todo current last : ℕ} (p : Place) (s : Slot) (a : Alters w w' r h (i .α) p s todo current last) (f : Frame) →
+  changed : {w' : Words} {h todo current last : ℕ} (p : Place) (s : Slot) (a : Alters (c .declared) w w' r h (i .α) p s todo current last) (f : Frame) →
       below f ≡ put (i .α) p s → here f ≡ i .α → (Changed (a .mid) (r .depth) p (i .α) → FrameAt c (a .mid) (r .depth) (innerIn (i .fr)) f) →
       Path c w' (r .depth + 1) (below f) (f ∷ i .fr)
   changed {w'} p s a f e e′ q =
@@ -75,7 +75,7 @@ module _ {c : World} {o : Bytes} {w : Words} {r : Regs} (i : In c o w r) where
       let ch : Changed (a .mid) (r .depth) p (i .α) = record { slot = g .place ∙ a .place; inside = a .inside; saved = rw (g .saved, g .value) (a .saved) } in
       path-onto (i .path) f (i .room) (alters-kept a) e′ (frame-keep c (a .mid) w' (r .depth) (innerIn (i .fr)) f (k .nodes) (q ch))
       (rw e (holds-put (a .altered) (a .inside) (holds-keep (marked-slots (g .linked .marked)) (i .path .holds))))
-      (rw e (valid-put (i .α) p s (i .path .valid) (a .good)))
+      (rw e (valid-put (c .declared) (i .α) p s (i .path .valid) (a .good)))
 
   -- nothing is left to do
   pub down-pass : {w' : Words} → Marked w w' (r .depth) 0 → (x : What) →
@@ -85,7 +85,7 @@ module _ {c : World} {o : Bytes} {w : Words} {r : Regs} (i : In c o w r) where
   down-pass g x e j = onto (pass (i .α)) x (i .e) (plain g (pass (i .α)) refl refl (g .left)) (i .inner) (i .bad) j (rw add-one (rw e at (i .result)))
 
   -- a slot to put back
-  pub down-undo : {w' : Words} {h current last : ℕ} (p : Place) (s : Slot) → Alters w w' r h (i .α) p s 2 current last → (x : What) →
+  pub down-undo : {w' : Words} {h current last : ℕ} (p : Place) (s : Slot) → Alters (c .declared) w w' r h (i .α) p s 2 current last → (x : What) →
       tree c (i .fr) (i .x) (i .α) ≡ step (tree c (i .fr) x (put (i .α) p s)) → {d : Due} → Job c w' (r .depth + 1) d x →
       Down c o w' (dueRegs r (r .depth + 1) d (r .inner) (r .bad))
   unfolding within
@@ -107,8 +107,8 @@ module _ {c : World} {o : Bytes} {w : Words} {r : Regs} (i : In c o w r) where
 
   -- the next values of a `some`
   pub down-range : {w' : Words} {low high : ℕ} (l : ℕ) (x : ℤ) (n : ℕ) (F : Formula) (is : List Item) →
-      Alters w w' r (r .due .head) (i .α) (local l) (full (x +ℤ pos 0)) 3 low high →
-      tree c (i .fr) (i .x) (i .α) ≡ fan (suc n) (λ j. treeItems (c .declared) (innerIn (i .fr)) (form F ∷ is) (put (i .α) (local l) (full (x +ℤ pos j)))) →
+      Alters (c .declared) w w' r (r .due .head) (i .α) (local l) (full (x +ℤ pos 0)) 3 low high →
+      tree c (i .fr) (i .x) (i .α) ≡ fan x (suc n) (λ j. treeItems (c .declared) (innerIn (i .fr)) (form F ∷ is) (put (i .α) (local l) (full (x +ℤ pos j)))) →
       Binds (c .declared) (c .tables) (r .due .head) l F → LeftAfter low high n (x +ℤ pos 1) → signed low ≡ x +ℤ pos 0 → Pend c w (r .depth) (r .due .rest) is →
       {d : Due} → Job c w' (r .depth + 1) d (the (form F ∷ is)) →
       Down c o w' (dueRegs r (r .depth + 1) d (r .inner) (r .bad))

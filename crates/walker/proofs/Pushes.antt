@@ -7,6 +7,7 @@ use mathlib.Core.Path.{_≡_, _∙_}
 use mathlib.Core.List.{List, _∷_}
 use lib.IntN.{ℤ}
 use Rattle.specification.specs.Bytes.{Bytes}
+use Rattle.specification.specs.Lines.{Declared}
 use Rattle.specification.specs.Ast.{Formula}
 use Rattle.specification.specs.Place.{Place}
 use Rattle.specification.specs.Value.{Slot, Valuation}
@@ -26,7 +27,7 @@ use Rattle.walker.proofs.Slots.{Altered}
 use Rattle.walker.proofs.Whole.{Kept, kept-both, marked-kept, altered-kept}
 
 -- the node goes onto the path, and p has the slot s in place of the one that the node saves
-pub record Alters (w w' : Words) (r : Regs) (h : ℕ) (α : Valuation) (p : Place) (s : Slot) (todo current last : ℕ) : Type 0 where
+pub record Alters (D : Declared) (w w' : Words) (r : Regs) (h : ℕ) (α : Valuation) (p : Place) (s : Slot) (todo current last : ℕ) : Type 0 where
   pub mid : Words
   pub slot : ℕ
   pub had : ℕ
@@ -35,11 +36,11 @@ pub record Alters (w w' : Words) (r : Regs) (h : ℕ) (α : Valuation) (p : Plac
   pub place : slot ≡ slotOf p
   pub inside : InTable p
   pub saved : Saved had old (α p)
-  pub good : SlotIn s
+  pub good : SlotIn D p s
   pub altered : Altered mid w' p s
 
-pub alters-kept : {w w' : Words} {r : Regs} {h : ℕ} {α : Valuation} {p : Place} {s : Slot} {todo current last : ℕ} →
-    Alters w w' r h α p s todo current last → Kept (r .depth) w w'
+pub alters-kept : {D : Declared} {w w' : Words} {r : Regs} {h : ℕ} {α : Valuation} {p : Place} {s : Slot} {todo current last : ℕ} →
+    Alters D w w' r h α p s todo current last → Kept (r .depth) w w'
 alters-kept {r = r} a = kept-both (marked-kept (a .pushed .linked .marked)) (altered-kept (r .depth) (a .inside) (a .altered))
 
 -- a formula of the tables is due
@@ -83,7 +84,7 @@ module _ {c : World} {o : Bytes} {w : Words} {r : Regs} (i : In c o w r) where
   )
 
   -- of an `all`: the same over the values left
-  pub cons-again : {w' : Words} {h todo current last : ℕ} {α : Valuation} {p : Place} {s : Slot} → Alters w w' r h α p s todo current last →
+  pub cons-again : {w' : Words} {h todo current last : ℕ} {α : Valuation} {p : Place} {s : Slot} → Alters (c .declared) w w' r h α p s todo current last →
       (l : ℕ) (F : Formula) (n : ℕ) (v : ℤ) (is : List Item) → codeAt (c .tables) h ≡ 14 → Binds (c .declared) (c .tables) h l F →
       LeftAfter current last n v → Pend c w (r .depth) (r .due .rest) is → Pend c w' (r .depth + 1) (r .depth + 1) (again l F n v ∷ is)
   cons-again {w'} a l F n v is code bi le q =

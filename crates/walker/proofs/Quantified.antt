@@ -40,8 +40,8 @@ module _ {c : World} {o : Bytes} {w : Words} {r : Regs} (i : In c o w r) (h l : 
   slot-is s = s .first ∙ rw (add-one h, is)
 
   -- the push, and the slot s in the place of the one that it saves
-  alters : {mid w' : Words} {slot todo current last : ℕ} (s : Slot) → Keeps w mid r h todo slot current last → SlotIn s → Altered mid w' (local l) s →
-      Alters w w' r h (i .α) (local l) s todo current last
+  alters : {mid w' : Words} {slot todo current last : ℕ} (s : Slot) → Keeps w mid r h todo slot current last → SlotIn (c .declared) (local l) s → Altered mid w' (local l) s →
+      Alters (c .declared) w w' r h (i .α) (local l) s todo current last
   alters {mid} {slot = slot} s k good a = record {
     mid = mid;
     slot = slot;
@@ -57,14 +57,14 @@ module _ {c : World} {o : Bytes} {w : Words} {r : Regs} (i : In c o w r) (h l : 
 
   -- a value's word in the slot
   pub alters-value : {w' : Words} {value last todo b : ℕ} → Takes w w' r h todo value last b → (v : ℤ) → value ≡ biased v → T (in32 v) →
-      Alters w w' r h (i .α) (local l) (full v) todo value last
+      Alters (c .declared) w w' r h (i .α) (local l) (full v) todo value last
   alters-value {value = value} g v b good =
       let k = g .keeps in
       alters (full v) k good
       (alter-two (local l) (slot-is (k .saves)) small (omega (arith, k .pushed .linked .marked .size, i .path .size)) (full v) 1 value (refl, b) refl (g .words))
 
   pub alters-none : {mid w' : Words} {slot todo current last : ℕ} → Keeps w mid r h todo slot current last → w' ≡ set mid slot 0 →
-      Alters w w' r h (i .α) (local l) empty todo current last
+      Alters (c .declared) w w' r h (i .α) (local l) empty todo current last
   alters-none k e = alters empty k tt (alter-none (local l) (slot-is (k .saves)) small (omega (arith, k .pushed .linked .marked .size, i .path .size)) e)
 
 -- ---- the steps

@@ -144,7 +144,7 @@ module _
 -- ---- `some`
 
 abbrev pub someOf : Declared → Bool → ℕ → Formula → Rest → ℤ → ℤ → Rest
-someOf D m l F k x y β = sons (count x y) (λ i. grow D m F k (put β (local l) (full (x +ℤ pos i))))
+someOf D m l F k x y β = sons x (count x y) (λ i. grow D m F k (put β (local l) (full (x +ℤ pos i))))
 
 pub some-grows : (D : Declared) (m : Bool) (tok l : ℕ) (a b : Term) (F : Formula) (k : Rest) (α : Valuation) →
     grow D m (some tok l a b F) k α ≡ bounded tok (pairOf (side D α a) (side D α b)) (someOf D m l F k) α

@@ -54,7 +54,7 @@ module _ {w : Words} {o : Bytes} {S : Setting} {scalars arrays : ℕ} (s : Sheet
       stack = tt;
       chain = tt;
       holds = a .holds;
-      valid = start-valid (s .given) (a .well .values);
+      valid = start-valid (s .declared) (s .given) (a .well .values);
     };
     inner = refl;
     bad = refl;

@@ -65,8 +65,8 @@ module _ (D : Declared) (S : Setting) (size : ℕ) where
       (scans m T (suc d) y second e ∙
       through-both D S size m (verdict T) (verdict U) (visits (suc d) T) (visits (suc d) U) y k second e (answered-visits T (suc d))
       (scans m U (suc d) y k))
-  scans m (fan n f) d y k e =
-      scans-node m d (within D S size m d (fan n f) y k e) (after m (verdict (fan n f)) y k e) (each n 0 (λ i. visits (suc d) (f i)))
+  scans m (fan x n f) d y k e =
+      scans-node m d (within D S size m d (fan x n f) y k e) (after m (verdict (fan x n f)) y k e) (each n 0 (λ i. visits (suc d) (f i)))
       (scans-sons m (suc d) f (λ j. scans m (f j) (suc d)) n 0 y k e)
   scans m (ask I T) d y k e =
       scans-node m d (within D S size m d (ask I T) y k e) (after m (verdict T) y k e) (inside (visits (suc d) I) then visits (suc d) T)

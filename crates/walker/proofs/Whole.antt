@@ -87,8 +87,8 @@ module _ (w w' : Words) (u : (k : ℕ) → (k < duesAt) ⊎ (duesEnd ≤ k) → 
 
 module _ {c : World} {w w' : Words} {d : ℕ} {α : Valuation} {fr : List Frame} (P : Path c w d α fr) where
   -- other frames in the words w'
-  with-frames : {n d' : ℕ} (β : Valuation) (fr′ : List Frame) → Kept n w w' → d' ≡ len fr′ → d' ≤ c .setting .path → Stack c w' fr′ → Chain β fr′ →
-      Holds w' β → Valid β → Path c w' d' β fr′
+  with-frames : {n d' : ℕ} (β : Valuation) (fr′ : List Frame) → Kept n w w' → d' ≡ len fr′ → d' ≤ c .setting .path → Stack c w' fr′ → Chain (c .declared) β fr′ →
+      Holds w' β → Valid (c .declared) β → Path c w' d' β fr′
   with-frames β fr′ k e i s q h v = record {
     size = rw (k .size) (P .size);
     limit = P .limit;
@@ -110,7 +110,7 @@ module _ {c : World} {w w' : Words} {d : ℕ} {α : Valuation} {fr : List Frame}
       with-frames α fr k (P .deep) (P .inside) (stack-keep c w w' fr (rw (P .deep) at (k .nodes)) (P .stack)) (P .chain) h (P .valid)
 
   -- a frame more
-  pub path-onto : (f : Frame) → d < c .setting .path → Kept d w w' → here f ≡ α → FrameAt c w' d (innerIn fr) f → Holds w' (below f) → Valid (below f) →
+  pub path-onto : (f : Frame) → d < c .setting .path → Kept d w w' → here f ≡ α → FrameAt c w' d (innerIn fr) f → Holds w' (below f) → Valid (c .declared) (below f) →
       Path c w' (d + 1) (below f) (f ∷ fr)
   path-onto f room k e q h v =
       let deep = P .deep in
@@ -120,7 +120,7 @@ module _ {c : World} {w w' : Words} {d : ℕ} {α : Valuation} {fr : List Frame}
 
 module _ {c : World} {w w' : Words} {d : ℕ} {α : Valuation} {f : Frame} {fr : List Frame} (P : Path c w d α (f ∷ fr)) (k : Kept (len fr) w w') where
   -- another frame on top
-  pub path-top : (g : Frame) → here g ≡ here f → FrameAt c w' (len fr) (innerIn fr) g → Holds w' (below g) → Valid (below g) → Path c w' d (below g) (g ∷ fr)
+  pub path-top : (g : Frame) → here g ≡ here f → FrameAt c w' (len fr) (innerIn fr) g → Holds w' (below g) → Valid (c .declared) (below g) → Path c w' d (below g) (g ∷ fr)
   path-top g e q h v =
       with-frames P (below g) (g ∷ fr) k (P .deep) (P .inside) (q, stack-keep c w w' fr (k .nodes) (P .stack .1))
       (refl, rw e (P .chain .1), rw e (P .chain .2)) h v

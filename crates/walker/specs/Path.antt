@@ -137,9 +137,9 @@ Stack c w [] = Unit {0}
 Stack c w (f ∷ fr) = FrameAt c w (len fr) (innerIn fr) f × Stack c w fr
 
 -- α is the valuation below the topmost frame, and so on down
-abbrev pub Chain : Valuation → List Frame → Type 0
-Chain α [] = Unit {0}
-Chain α (f ∷ fr) = (α ≡ below f) × Valid (here f) × Chain (here f) fr
+abbrev pub Chain : Declared → Valuation → List Frame → Type 0
+Chain D α [] = Unit {0}
+Chain D α (f ∷ fr) = (α ≡ below f) × Valid D (here f) × Chain D (here f) fr
 
 -- ---- the path as a whole
 
@@ -158,9 +158,9 @@ pub record Path (c : World) (w : Words) (d : ℕ) (α : Valuation) (fr : List Fr
   pub deep : d ≡ len fr
   pub inside : d ≤ c .setting .path
   pub stack : Stack c w fr
-  pub chain : Chain α fr
+  pub chain : Chain (c .declared) α fr
   pub holds : Holds w α
-  pub valid : Valid α
+  pub valid : Valid (c .declared) α
 
 -- the output o holds the n bytes b written, and beyond them what it held
 pub record Output (c : World) (o : Bytes) (n : ℕ) (b : Bytes) : Type 0 where

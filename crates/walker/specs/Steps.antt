@@ -13,7 +13,7 @@ use Rattle.specification.specs.Number.{in32}
 use Rattle.specification.specs.Ast.{Rel, Formula}
 use Rattle.specification.specs.Arithmetic.{test}
 use Rattle.specification.specs.Place.{Place, local, put}
-use Rattle.specification.specs.Value.{empty, full}
+use Rattle.specification.specs.Value.{empty, full, allowed}
 use Rattle.specification.specs.Tree.{step, fan, check, assign}
 use Rattle.values.specs.Word.{biased, signed}
 use Rattle.tables.specs.Layout.{cellSlot, nodeSlot, localsAt, firstsAt}
@@ -135,7 +135,7 @@ pub record Sets (w : Words) (r : Regs) (slot value : ℕ) : Type 0 where
       × (value ≡ biased v)
       × InTable p
       × (i .α p ≡ empty)
-      × T (in32 v)
+      × T (allowed (c .declared) p v)
 
 -- the node's one son is the rest where a test holds, else a failure leaf
 pub record Tested (w : Words) (r : Regs) (holds : Bool) : Type 0 where
@@ -152,7 +152,7 @@ pub record Opens (w : Words) (r : Regs) (low high : ℕ) : Type 0 where
   pub sons :
       (c : World) (o : Bytes) (i : In c o w r) →
       (l : ℕ) × (F : Formula) × (n : ℕ) × (x : ℤ) × (is : List Item)
-      × (tree c (i .fr) (i .x) (i .α) ≡ fan (suc n) (λ j. treeItems (c .declared) (innerIn (i .fr)) (form F ∷ is) (put (i .α) (local l) (full (x +ℤ pos j)))))
+      × (tree c (i .fr) (i .x) (i .α) ≡ fan x (suc n) (λ j. treeItems (c .declared) (innerIn (i .fr)) (form F ∷ is) (put (i .α) (local l) (full (x +ℤ pos j)))))
       × Binds (c .declared) (c .tables) (r .due .head) l F
       × LeftAfter low high n (x +ℤ pos 1)
       × (signed low ≡ x)

@@ -52,7 +52,7 @@ module _ (D : Declared) (S : Setting) (size : ℕ) where
   within false d (errorLeaf κ tok β) y k e t w = leaf (error κ tok β) (k e) t w
   within m d (step T) y k e t w = gated (suc d) (within m (suc d) T y k e) t w
   within m d (fork T U) y k e t w = gated (suc d) (within m (suc d) T y (λ e′. gated (suc d) (within m (suc d) U y k e′)) e) t w
-  within m d (fan n f) y k e t w = sonsFrom n 0 (λ i k′ e′. gated (suc d) (within m (suc d) (f i) y k′ e′)) k e t w
+  within m d (fan x n f) y k e t w = sonsFrom n 0 (λ i k′ e′. gated (suc d) (within m (suc d) (f i) y k′ e′)) k e t w
   within m d (ask I T) y k e t w =
       gated (suc d)
       (within true (suc d) I (gated (suc d) (within m (suc d) T y k e)) (λ e′. gated (suc d) (within m (suc d) T y k e)) false)

@@ -15,6 +15,7 @@ use Rattle.specification.specs.Place.{cell}
 use Rattle.specification.specs.Value.{Slot, empty, full, Valuation}
 use Rattle.specification.specs.Listing.{Named, namedIf, valued, scalarNames, elementNames, arrayNames, cellNames, blockOf}
 use Rattle.specification.specs.Listing.{cellLabel, _is_, headLines, cellLines, blockLines, linesText, blockText}
+use Rattle.specification.proofs.Laws.Allowed.{inRange-in32}
 use Rattle.specification.proofs.Laws.Blocks.{linesText-++}
 use Rattle.values.specs.Word.{signed}
 use Rattle.values.proofs.Laws.Word.{signed-biased}
@@ -65,7 +66,7 @@ module _ {w : Words} {scalars arrays : ℕ} {D : Declared} {β : Valuation} (s :
       go (full z) e k =
           let v = ap (λ j. getD w j 0) {x = cellSlot (cellOf D n) + 1} {y = suc (cellSlot (cellOf D n))} (omega arith) ∙ k .1 in
           rw (ne-eqb (flagAt w (cellOf D n)) 0 (λ q. omega (arith, k .0)))
-          (ap (λ y. (cellLabel n is y) ∷ cellLines ns) (sym (ap signed v ∙ signed-biased z (s .valid (cell (cellOf D n)) z e))))
+          (ap (λ y. (cellLabel n is y) ∷ cellLines ns) (sym (ap signed v ∙ signed-biased z (inRange-in32 D (cellOf D n) z (s .valid (cell (cellOf D n)) z e)))))
 
   scalar-lines : (i n : ℕ) → i + n ≤ 512 → cellLines (valued D β (scalarNames i n)) ≡ eachLine (scalarLine w) i n
   unfolding scalarNames valued cellLines eachLine cellOf

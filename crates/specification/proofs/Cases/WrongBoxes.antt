@@ -23,6 +23,7 @@ use Rattle.specification.specs.Listing.{Block, answerHead, listingText}
 use Rattle.specification.specs.Plain.{Filling, valueOf, Truth, Fills, Keeps, True}
 use Rattle.specification.specs.Run.{tallies}
 use Rattle.specification.specs.Outcome.{ran, call}
+use Rattle.specification.proofs.Laws.Allowed.{in32-inRange}
 use Rattle.specification.proofs.Cases.Case.{sheetOf}
 use Rattle.specification.specs.Demand3.{Agrees, Such, Agreement, Demand3}
 use Rattle.specification.proofs.Cases.Bundles.{read-defs, tree-defs, run-defs}
@@ -49,7 +50,7 @@ filled n c = pos n
 
 filled-such : (F : Formula) (n : ℕ) → T (in32 (pos n)) → Such (sheetWith F) (filled n)
 unfolding Fills Keeps
-filled-such F n h = ((λ c k. h), tt)
+filled-such F n h = ((λ c k. in32-inRange (sheetWith F .declared) c (pos n) h), tt)
 
 -- the block `answer=i`, `v0=n`
 abbrev answer : ℕ → ℕ → Block

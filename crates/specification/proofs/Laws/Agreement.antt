@@ -6,8 +6,7 @@ use mathlib.Core.List.{List, [], _∷_}
 use lib.Dec.{T, T-not}
 use lib.IntN.{ℤ, pos}
 use Rattle.specification.specs.Lists.{Each, Some}
-use Rattle.specification.specs.Number.{in32}
-use Rattle.specification.specs.Lines.{Declared, cells, cellOf}
+use Rattle.specification.specs.Lines.{Declared, cells, cellOf, inRange}
 use Rattle.specification.specs.Sheet.{Sheet}
 use Rattle.specification.specs.Place.{cell}
 use Rattle.specification.specs.Value.{Slot, empty, full, Valuation}
@@ -18,6 +17,7 @@ use Rattle.specification.specs.Leaves.{leaves, blocks}
 use Rattle.specification.specs.Outcome.{start, rootOf}
 use Rattle.specification.specs.Plain.{Filling, Fills, Keeps, True}
 use Rattle.specification.specs.Demand3.{headsAnswer, IsAnswer, IsError, Names, Agrees, Such, Right, Agreement}
+use Rattle.specification.proofs.Laws.Allowed.{in32-inRange}
 use Rattle.specification.proofs.Laws.Lists.{each-map, each-both, each-some, some-map, some-and-each}
 use Rattle.specification.proofs.Laws.Cells.{agrees-matches, matches-agrees, names-valued}
 use Rattle.specification.proofs.Laws.Start.{start-has, start-only, start-valid, keeps-matches, matches-keeps}
@@ -36,11 +36,11 @@ filling β c = slotValue (β (cell c))
 filling-at : (β : Valuation) (c : ℕ) (v : ℤ) → β (cell c) ≡ full v → filling β c ≡ v
 filling-at β c v e = ap slotValue e
 
-filling-fits : (β : Valuation) → Valid β → (c : ℕ) → T (in32 (filling β c))
-filling-fits β h c = go (β (cell c)) refl
+filling-fits : (D : Declared) (β : Valuation) → Valid D β → (c : ℕ) → T (inRange D c (filling β c))
+filling-fits D β h c = go (β (cell c)) refl
   where
-    go : (s : Slot) → β (cell c) ≡ s → T (in32 (slotValue s))
-    go empty e = tt
+    go : (s : Slot) → β (cell c) ≡ s → T (inRange D c (slotValue s))
+    go empty e = in32-inRange D c (pos 0) tt
     go (full v) e = h (cell c) v e
 
 -- ---- the demand, of the blocks of a well-formed sheet's tree
@@ -56,8 +56,8 @@ module _ (s : Sheet) (wf : WellFormed s) where
   abbrev pub allBlocks : List Block
   allBlocks = blocks D 0 0 (leaves (rootOf s))
 
-  valid : Valid α
-  valid = start-valid (s .given) (wf .values)
+  valid : Valid D α
+  valid = start-valid D (s .given) (wf .values)
 
   answers : Each (λ b. IsAnswer b → CellsOf D (Answer D (s .formula) α) b) allBlocks
   unfolding rootOf
@@ -100,7 +100,7 @@ module _ (s : Sheet) (wf : WellFormed s) where
   answer-such : (β : Valuation) → Answer D (s .formula) α β → Such s (filling β)
   unfolding Fills
   answer-such β answer = (
-    (λ c h. filling-fits β (answer .valid) c),
+    (λ c h. filling-fits D β (answer .valid) c),
     matches-keeps 0 (s .given) (filling β) (wf .rising) (λ c v e. filling-at β c v (answer .keeps c (given-declared c v e) v e)),
   )
 

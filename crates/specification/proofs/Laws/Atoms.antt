@@ -12,6 +12,7 @@ use Rattle.specification.specs.Value.{full, Valuation, Side, val, bare, 
 use Rattle.specification.specs.WellFormed.{Scope, OkTerm, Ok, Valid}
 use Rattle.specification.specs.Tree.{Rest, assign, equate, grow}
 use Rattle.specification.specs.Plain.{Env, Has, Truth}
+use Rattle.specification.proofs.Laws.Allowed.{in32-allowed}
 use Rattle.specification.proofs.Laws.Scope.{Every, Any, Agree, Ext}
 use Rattle.specification.proofs.Laws.Place.{put-same, valid-put, ext-refl, agree-ext, ext-put, agree-put}
 use Rattle.specification.proofs.Laws.Range.{eqZ-eq, eqZ-refl}
@@ -21,26 +22,26 @@ use Rattle.specification.proofs.Laws.Correct.{Sound, Complete}
 
 -- ---- `eq`
 
-module _ (D : Declared) (S : Scope) (m : Bool) (tok : ℕ) (k : Rest) (α : Valuation) (v : Valid α) where
+module _ (D : Declared) (S : Scope) (m : Bool) (tok : ℕ) (k : Rest) (α : Valuation) (v : Valid D α) where
   -- s has a value, t is a bare place, which is assigned it
   module _ (s t : Term) (os : OkTerm D S s) (ot : OkTerm D S t) (x : ℤ) (p : Place) (e : side D α s ≡ val x) (f : side D α t ≡ bare p) where
     assigned-sound :
         (P : Valuation → Type 0) →
-        ((β : Valuation) → Ext D S α β → Valid β → ((ρ : Env) → Agree D S ρ β → Has D ρ s x × Has D ρ t x) → Every P (k β)) →
+        ((β : Valuation) → Ext D S α β → Valid D β → ((ρ : Env) → Agree D S ρ β → Has D ρ s x × Has D ρ t x) → Every P (k β)) →
         Every P (assign D m tok p x k α)
     assigned-sound P go =
         let b = sane-bare D S α v t ot p f in
         let β = put α p (full x) in
         let w = ext-put D S α p (full x) (b .1) in
-        assign-every P D m tok p x k α (λ _. go β w (valid-put α p (full x) v (sane-val D S α v s os x e)) (λ ρ a.
+        assign-every P D m tok p x k α (λ _. go β w (valid-put D α p (full x) v (in32-allowed D p x (sane-val D S α v s os x e))) (λ ρ a.
         let a′ = agree-ext D S ρ α β w a in
         (has-val D S ρ α a′ s os x e, subst (Has D ρ t) (a p (b .0) x (put-same α p (full x))) (has-bare D S ρ α a′ t ot p f))))
 
     assigned-complete :
         (ρ : Env) → Agree D S ρ α → (z : ℤ) → Has D ρ s z → Has D ρ t z → (Q : Valuation → Type 0) → Q α →
-        ((β : Valuation) → Valid β → Agree D S ρ β → Any Q (k β)) → Any Q (assign D m tok p x k α)
+        ((β : Valuation) → Valid D β → Agree D S ρ β → Any Q (k β)) → Any Q (assign D m tok p x k α)
     assigned-complete ρ a z hs ht Q q go =
-        assign-any Q D m tok p x k α q (go (put α p (full x)) (valid-put α p (full x) v (sane-val D S α v s os x e))
+        assign-any Q D m tok p x k α q (go (put α p (full x)) (valid-put D α p (full x) v (in32-allowed D p x (sane-val D S α v s os x e)))
         (agree-put D S ρ α p (full x) (λ _ w g. held w g) a))
       where
         held : (w : ℤ) → full x ≡ full w → ρ p ≡ w
@@ -51,7 +52,7 @@ module _ (D : Declared) (S : Scope) (m : Bool) (tok : ℕ) (k : Rest) (α : Valu
   module _ (s t : Term) (os : OkTerm D S s) (ot : OkTerm D S t) where
     equate-sound :
         (P : Valuation → Type 0) →
-        ((β : Valuation) → Ext D S α β → Valid β → ((ρ : Env) → Agree D S ρ β → Truth D ρ (eq tok s t)) → Every P (k β)) →
+        ((β : Valuation) → Ext D S α β → Valid D β → ((ρ : Env) → Agree D S ρ β → Truth D ρ (eq tok s t)) → Every P (k β)) →
         (x y : Side) → side D α s ≡ x → side D α t ≡ y → Every P (equate D m tok x y k α)
     unfolding Every equate Truth
     equate-sound P go (val x) (val y) e f =
@@ -68,7 +69,7 @@ module _ (D : Declared) (S : Scope) (m : Bool) (tok : ℕ) (k : Rest) (α : Valu
 
     equate-complete :
         (ρ : Env) → Agree D S ρ α → (z : ℤ) → Has D ρ s z → Has D ρ t z → (Q : Valuation → Type 0) → Q α →
-        ((β : Valuation) → Valid β → Agree D S ρ β → Any Q (k β)) → (x y : Side) → side D α s ≡ x → side D α t ≡ y → Any Q (equate D m tok x y k α)
+        ((β : Valuation) → Valid D β → Agree D S ρ β → Any Q (k β)) → (x y : Side) → side D α s ≡ x → side D α t ≡ y → Any Q (equate D m tok x y k α)
     unfolding Any equate
     equate-complete ρ a z hs ht Q q go (val x) (val y) e f =
         let i : x ≡ y = cc (same-val D S ρ α a s os x z e hs, same-val D S ρ α a t ot y z f ht) in

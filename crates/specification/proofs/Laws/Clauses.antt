@@ -150,7 +150,7 @@ module _ (D : Declared) (α : Valuation) where
 
         pub some-values :
             (n : ℕ) → count x y ≡ suc n →
-            treeOf D (some tok l a b F ∷ Fs) α ≡ fan (suc n) (λ i. treeOf D (F ∷ Fs) (put α (local l) (full (x +ℤ pos i))))
+            treeOf D (some tok l a b F ∷ Fs) α ≡ fan x (suc n) (λ i. treeOf D (F ∷ Fs) (put α (local l) (full (x +ℤ pos i))))
         unfolding treeOf grow bounded pairOf sons
         some-values n h = rw (e, f, h)
 

@@ -18,15 +18,15 @@ Proves D S F β = (ρ : Env) → Agree D S ρ β → Truth D ρ F
 -- P holds of each success leaf, if it does below the rest from each valuation that extends α and proves F
 abbrev pub Sound : Declared → Formula → Type 1
 Sound D F =
-    (S : Scope) → Ok D S F → (m : Bool) (k : Rest) (α : Valuation) → Valid α → (P : Valuation → Type 0) →
-    ((β : Valuation) → Ext D S α β → Valid β → Proves D S F β → Every P (k β)) → Every P (grow D m F k α)
+    (S : Scope) → Ok D S F → (m : Bool) (k : Rest) (α : Valuation) → Valid D α → (P : Valuation → Type 0) →
+    ((β : Valuation) → Ext D S α β → Valid D β → Proves D S F β → Every P (k β)) → Every P (grow D m F k α)
 
 -- where F is true in an environment that agrees with α: Q holds of some success or error leaf, if it does of each valuation that agrees,
 -- and below the rest from each of them
 abbrev pub Complete : Declared → Formula → Type 1
 Complete D F =
-    (S : Scope) → Ok D S F → (m : Bool) (k : Rest) (α : Valuation) → Valid α → (ρ : Env) → Agree D S ρ α → Truth D ρ F → (Q : Valuation → Type 0) →
-    ((β : Valuation) → Agree D S ρ β → Q β) → ((β : Valuation) → Valid β → Agree D S ρ β → Any Q (k β)) → Any Q (grow D m F k α)
+    (S : Scope) → Ok D S F → (m : Bool) (k : Rest) (α : Valuation) → Valid D α → (ρ : Env) → Agree D S ρ α → Truth D ρ F → (Q : Valuation → Type 0) →
+    ((β : Valuation) → Agree D S ρ β → Q β) → ((β : Valuation) → Valid D β → Agree D S ρ β → Any Q (k β)) → Any Q (grow D m F k α)
 
 module _ (D : Declared) where
   pub truth-sound : Sound D truth

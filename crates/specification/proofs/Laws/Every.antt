@@ -20,7 +20,7 @@ every-and P Q failureLeaf a b = tt
 every-and P Q (errorLeaf κ t β) a b = tt
 every-and P Q (step T) a b = every-and P Q T a b
 every-and P Q (fork T U) a b = (every-and P Q T (a .0) (b .0), every-and P Q U (a .1) (b .1))
-every-and P Q (fan n f) a b = λ i h. every-and P Q (f i) (a i h) (b i h)
+every-and P Q (fan x n f) a b = λ i h. every-and P Q (f i) (a i h) (b i h)
 every-and P Q (ask I T) a b = every-and P Q T a b
 
 -- two values come from sides with values
@@ -71,10 +71,10 @@ module _ (P : Valuation → Type 0) where
       go (values x y) h = h x y refl
       go (faulty κ) h = tt
 
-  pub sons-every : (n : ℕ) (f : ℕ → Tree) → ((i : ℕ) → i < n → Every P (f i)) → Every P (sons n f)
+  pub sons-every : (x : ℤ) (n : ℕ) (f : ℕ → Tree) → ((i : ℕ) → i < n → Every P (f i)) → Every P (sons x n f)
   unfolding Every sons
-  sons-every zero f h = tt
-  sons-every (suc n) f h = h
+  sons-every x zero f h = tt
+  sons-every x (suc n) f h = h
 
   pub enquire-every :
       (tok : ℕ) (b : Bool) (inner : Rest) (next : Verdict → Rest) (α : Valuation) →
@@ -121,10 +121,10 @@ module _ (Q : Valuation → Type 0) where
       go (values x y) h = h x y refl
       go (faulty κ) h = q
 
-  pub sons-any : (n : ℕ) (f : ℕ → Tree) (i : ℕ) → i < n → Any Q (f i) → Any Q (sons n f)
+  pub sons-any : (x : ℤ) (n : ℕ) (f : ℕ → Tree) (i : ℕ) → i < n → Any Q (f i) → Any Q (sons x n f)
   unfolding Any sons
-  sons-any zero f i h a = absurd (omega arith)
-  sons-any (suc n) f i h a = (i, h, a)
+  sons-any x zero f i h a = absurd (omega arith)
+  sons-any x (suc n) f i h a = (i, h, a)
 
   pub enquire-any :
       (tok : ℕ) (b : Bool) (inner : Rest) (next : Verdict → Rest) (α : Valuation) → Q α →

@@ -52,7 +52,7 @@ fails-none Q (errorLeaf κ t β) e a = let z : _≡_ {A = ℕ} 0 1 = cc in omega
 fails-none Q (step T) e a = fails-none Q T e a
 fails-none Q (fork T U) e (inl a) = fails-none Q T ((join-fails (verdict T) (verdict U) e) .0) a
 fails-none Q (fork T U) e (inr a) = fails-none Q U ((join-fails (verdict T) (verdict U) e) .1) a
-fails-none Q (fan n f) e (i, h, a) = fails-none Q (f i) (rw zero-add at (joined-fails n 0 (λ i. verdict (f i)) e i h)) a
+fails-none Q (fan x n f) e (i, h, a) = fails-none Q (f i) (rw zero-add at (joined-fails n 0 (λ i. verdict (f i)) e i h)) a
 fails-none Q (ask I T) e a = fails-none Q T e a
 
 -- a success leaf: what holds of each holds of one
@@ -64,7 +64,7 @@ succeeds-one P (errorLeaf κ t β) e a = let z : _≡_ {A = ℕ} 0 1 = cc in abs
 succeeds-one P (step T) e a = succeeds-one P T e a
 succeeds-one P (fork T U) e a =
     ⊎-elim (λ q. succeeds-one P T q (a .0)) (λ q. succeeds-one P U q (a .1)) (join-succeeds (verdict T) (verdict U) e)
-succeeds-one P (fan n f) e a =
+succeeds-one P (fan x n f) e a =
     let (i, h, s) = joined-succeeds n 0 (λ i. verdict (f i)) e in
     succeeds-one P (f i) s (a i (omega arith))
 succeeds-one P (ask I T) e a = succeeds-one P T e a

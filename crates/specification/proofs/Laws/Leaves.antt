@@ -63,7 +63,7 @@ leavesIn-visits (errorLeaf κ t β) d = refl
 leavesIn-visits (step T) d = leavesIn-visits T (suc d)
 leavesIn-visits (fork T U) d =
     rw (leavesIn-then (visits (suc d) T) (visits (suc d) U), leavesIn-visits T (suc d), leavesIn-visits U (suc d))
-leavesIn-visits (fan n f) d = leavesIn-each n 0 (λ i. visits (suc d) (f i)) (λ i. leaves (f i)) (λ j. leavesIn-visits (f j) (suc d))
+leavesIn-visits (fan x n f) d = leavesIn-each n 0 (λ i. visits (suc d) (f i)) (λ i. leaves (f i)) (λ j. leavesIn-visits (f j) (suc d))
 leavesIn-visits (ask I T) d =
     rw (leavesIn-then (inside (visits (suc d) I)) (visits (suc d) T), leavesIn-inside (visits (suc d) I), leavesIn-visits T (suc d))
 
@@ -113,7 +113,7 @@ module _ (P : Valuation → Type 0) where
   every-leaves (errorLeaf κ t β) h = (tt, tt)
   every-leaves (step T) h = every-leaves T h
   every-leaves (fork T U) h = each-++ IfAnswer (leaves T) (leaves U) (every-leaves T (h .0)) (every-leaves U (h .1))
-  every-leaves (fan n f) h = each-sons n 0 (λ i. leaves (f i)) (λ j l. every-leaves (f j) (h j (omega arith)))
+  every-leaves (fan x n f) h = each-sons n 0 (λ i. leaves (f i)) (λ j l. every-leaves (f j) (h j (omega arith)))
   every-leaves (ask I T) h = every-leaves T h
 
   any-leaves : (T : Tree) → Any P T → Some IsListed (leaves T)
@@ -124,7 +124,7 @@ module _ (P : Valuation → Type 0) where
   any-leaves (step T) h = any-leaves T h
   any-leaves (fork T U) (inl h) = some-++ IsListed (leaves T) (leaves U) (inl (any-leaves T h))
   any-leaves (fork T U) (inr h) = some-++ IsListed (leaves T) (leaves U) (inr (any-leaves U h))
-  any-leaves (fan n f) h =
+  any-leaves (fan x n f) h =
       some-sons n 0 (h .0) (λ i. leaves (f i)) (omega arith) (omega (arith, h .1)) (any-leaves (f (h .0)) (h .2))
   any-leaves (ask I T) h = any-leaves T h
 

@@ -7,10 +7,9 @@ use lib.Dec.{T, T-not, eqb}
 use borrow.Author.Tests.{eqb-true, eq-eqb, ne-eqb}
 use lib.IntN.{ℤ}
 use Rattle.specification.specs.Bytes.{pick}
-use Rattle.specification.specs.Number.{in32}
 use Rattle.specification.specs.Lines.{Declared}
 use Rattle.specification.specs.Place.{Place, cell, local, samePlace, put}
-use Rattle.specification.specs.Value.{Slot, empty, full, Valuation}
+use Rattle.specification.specs.Value.{Slot, empty, full, Valuation, allowed}
 use Rattle.specification.specs.WellFormed.{Scope, enter, Valid}
 use Rattle.specification.specs.Plain.{Env}
 use Rattle.specification.proofs.Laws.Scope.{In, Agree, Ext}
@@ -59,16 +58,17 @@ module _ {A : Type 0} (f : Place → A) (p : Place) (a : A) where
       go (yes e) = rw (e, put-same) (same e)
       go (no n) = rw (put-other q n) (other n)
 
--- the value of a slot lies in 32 bits
-abbrev pub SlotIn : Slot → Type 0
-SlotIn empty = Unit {0}
-SlotIn (full v) = T (in32 v)
+-- the value of a slot is one that the place may have
+abbrev pub SlotIn : Declared → Place → Slot → Type 0
+SlotIn D p empty = Unit {0}
+SlotIn D p (full v) = T (allowed D p v)
 
-slot-in : (s : Slot) (v : ℤ) → SlotIn s → s ≡ full v → T (in32 v)
-slot-in s v h e = rw e at h
+slot-in : (D : Declared) (p : Place) (s : Slot) (v : ℤ) → SlotIn D p s → s ≡ full v → T (allowed D p v)
+slot-in D p s v h e = rw e at h
 
-pub valid-put : (α : Valuation) (p : Place) (s : Slot) → Valid α → SlotIn s → Valid (put α p s)
-valid-put α p s h t q w = put-cases α p s q (λ r. r ≡ full w → T (in32 w)) (λ x. slot-in s w t) (λ n. h q w)
+pub valid-put : (D : Declared) (α : Valuation) (p : Place) (s : Slot) → Valid D α → SlotIn D p s → Valid D (put α p s)
+valid-put D α p s h t q w =
+    put-cases α p s q (λ r. r ≡ full w → T (allowed D q w)) (λ x e. subst (λ p. T (allowed D p w)) (sym x) (slot-in D p s w t e)) (λ n. h q w)
 
 -- ---- agreement and extension
 

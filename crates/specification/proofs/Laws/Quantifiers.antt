@@ -27,7 +27,7 @@ With D l F ρ z = Truth D (put ρ (local l) z) F
 
 -- a value for the local that β allows
 chosen :
-    (D : Declared) (S : Scope) (l : ℕ) (F : Formula) (β : Valuation) → Valid β → Proves D (enter S l) F β → (ρ : Env) → Agree D S ρ β →
+    (D : Declared) (S : Scope) (l : ℕ) (F : Formula) (β : Valuation) → Valid D β → Proves D (enter S l) F β → (ρ : Env) → Agree D S ρ β →
     (v : ℤ) × T (in32 v) × With D l F ρ v
 chosen D S l F β vb pr ρ a = go (β (local l)) refl
   where
@@ -43,16 +43,16 @@ chosen D S l F β vb pr ρ a = go (β (local l)) refl
 module _ (D : Declared) (S : Scope) (l : ℕ) (fresh : T (not (S l))) (F : Formula) (o : Ok D (enter S l) F) (m : Bool) where
   module _ (sF : Sound D F) (P : Valuation → Type 0) where
     entered-sound :
-        (k : Rest) (α : Valuation) → Valid α → (z : ℤ) → T (in32 z) →
-        ((β : Valuation) → Ext D S α β → Valid β → ((ρ : Env) → Agree D S ρ β → With D l F ρ z) → Every P (k β)) →
+        (k : Rest) (α : Valuation) → Valid D α → (z : ℤ) → T (in32 z) →
+        ((β : Valuation) → Ext D S α β → Valid D β → ((ρ : Env) → Agree D S ρ β → With D l F ρ z) → Every P (k β)) →
         Every P (grow D m F k (put α (local l) (full z)))
     entered-sound k α v z i go =
-        sF (enter S l) o m k (put α (local l) (full z)) (valid-put α (local l) (full z) v i) P (λ β e vb pr.
+        sF (enter S l) o m k (put α (local l) (full z)) (valid-put D α (local l) (full z) v i) P (λ β e vb pr.
         go β (ext-leave D S l fresh α β (full z) e) vb (λ ρ a. pr (put ρ (local l) z) (agree-held D S l ρ z α β e a)))
 
     rounds-sound :
-        (k : Rest) (n : ℕ) (x : ℤ) (α : Valuation) → Valid α → FromOn (λ z. T (in32 z)) n x →
-        ((β : Valuation) → Ext D S α β → Valid β → ((ρ : Env) → Agree D S ρ β → FromOn (With D l F ρ) n x) → Every P (k β)) →
+        (k : Rest) (n : ℕ) (x : ℤ) (α : Valuation) → Valid D α → FromOn (λ z. T (in32 z)) n x →
+        ((β : Valuation) → Ext D S α β → Valid D β → ((ρ : Env) → Agree D S ρ β → FromOn (With D l F ρ) n x) → Every P (k β)) →
         Every P (rounds (grow D m F) l k n x α)
     unfolding Every rounds
     rounds-sound k zero x α v r go = go α (ext-refl D S α) v (λ ρ a i h. absurd (omega arith))
@@ -63,15 +63,15 @@ module _ (D : Declared) (S : Scope) (l : ℕ) (fresh : T (not (S l))) (F : Formu
 
   module _ (cF : Complete D F) (ρ : Env) (Q : Valuation → Type 0) (q : (β : Valuation) → Agree D S ρ β → Q β) where
     entered-complete :
-        (k : Rest) (α : Valuation) → Valid α → Agree D S ρ α → (s : Slot) → SlotIn s → (z : ℤ) → ((w : ℤ) → s ≡ full w → z ≡ w) → With D l F ρ z →
-        ((β : Valuation) → Valid β → Agree D S ρ β → Any Q (k β)) → Any Q (grow D m F k (put α (local l) s))
+        (k : Rest) (α : Valuation) → Valid D α → Agree D S ρ α → (s : Slot) → SlotIn D (local l) s → (z : ℤ) → ((w : ℤ) → s ≡ full w → z ≡ w) → With D l F ρ z →
+        ((β : Valuation) → Valid D β → Agree D S ρ β → Any Q (k β)) → Any Q (grow D m F k (put α (local l) s))
     entered-complete k α v a s i z h t go =
-        cF (enter S l) o m k (put α (local l) s) (valid-put α (local l) s v i) (put ρ (local l) z) (agree-bind D S l fresh ρ z α s h a) t Q
+        cF (enter S l) o m k (put α (local l) s) (valid-put D α (local l) s v i) (put ρ (local l) z) (agree-bind D S l fresh ρ z α s h a) t Q
         (λ β b. q β (agree-leave D S l fresh ρ z β b)) (λ β vb b. go β vb (agree-leave D S l fresh ρ z β b))
 
     rounds-complete :
-        (k : Rest) (n : ℕ) (x : ℤ) (α : Valuation) → Valid α → Agree D S ρ α → FromOn (λ z. T (in32 z)) n x → FromOn (With D l F ρ) n x →
-        ((β : Valuation) → Valid β → Agree D S ρ β → Any Q (k β)) → Any Q (rounds (grow D m F) l k n x α)
+        (k : Rest) (n : ℕ) (x : ℤ) (α : Valuation) → Valid D α → Agree D S ρ α → FromOn (λ z. T (in32 z)) n x → FromOn (With D l F ρ) n x →
+        ((β : Valuation) → Valid D β → Agree D S ρ β → Any Q (k β)) → Any Q (rounds (grow D m F) l k n x α)
     unfolding Any rounds
     rounds-complete k zero x α v a r t go = go α v a
     rounds-complete k (suc n) x α v a r t go =
@@ -85,7 +85,7 @@ module _ (D : Declared) (l : ℕ) (F : Formula) where
   pub ex-sound : Sound D F → Sound D (ex l F)
   unfolding grow Every Ok Truth
   ex-sound sF S o m k α v P go =
-      sF (enter S l) (o .1) m k (put α (local l) empty) (valid-put α (local l) empty v tt) P (λ β e vb pr.
+      sF (enter S l) (o .1) m k (put α (local l) empty) (valid-put D α (local l) empty v tt) P (λ β e vb pr.
       go β (ext-leave D S l (o .0) α β empty e) vb (chosen D S l F β vb pr))
 
   pub ex-complete : Complete D F → Complete D (ex l F)
@@ -98,7 +98,7 @@ module _ (D : Declared) (l : ℕ) (F : Formula) where
 module _ (D : Declared) (tok l : ℕ) (a b : Term) (F : Formula) where
   -- the integers between the values of the bounds are in 32 bits
   between :
-      (S : Scope) → OkTerm D S a → OkTerm D S b → (α : Valuation) → Valid α → (x y : ℤ) →
+      (S : Scope) → OkTerm D S a → OkTerm D S b → (α : Valuation) → Valid D α → (x y : ℤ) →
       side D α a ≡ val x → side D α b ≡ val y → EachFrom x y (λ z. T (in32 z))
   between S oa ob α v x y e f z = in32-between x y z (sane-val D S α v a oa x e) (sane-val D S α v b ob y f)
 
@@ -106,8 +106,8 @@ module _ (D : Declared) (tok l : ℕ) (a b : Term) (F : Formula) where
   unfolding grow Every Ok Truth
   some-sound sF S (oa, ob, fresh, oF) m k α v P go =
       bounded-every P tok (side D α a) (side D α b)
-      (λ x y β. sons (count x y) (λ i. grow D m F k (put β (local l) (full (x +ℤ pos i))))) α (λ x y e f.
-      sons-every P (count x y) (λ i. grow D m F k (put α (local l) (full (x +ℤ pos i)))) (λ i h.
+      (λ x y β. sons x (count x y) (λ i. grow D m F k (put β (local l) (full (x +ℤ pos i))))) α (λ x y e f.
+      sons-every P x (count x y) (λ i. grow D m F k (put α (local l) (full (x +ℤ pos i)))) (λ i h.
       let z = x +ℤ pos i in
       let r = range-in x y i h in
       entered-sound D S l fresh F oF m sF P k α v z (between S oa ob α v x y e f z (r .0) (r .1)) (λ β w vb t.
@@ -119,11 +119,11 @@ module _ (D : Declared) (tok l : ℕ) (a b : Term) (F : Formula) where
   unfolding grow Any Ok Truth
   some-complete cF S (oa, ob, fresh, oF) m k α v ρ g (x′, y′, ha, hb, t) Q q go =
       bounded-any Q tok (side D α a) (side D α b)
-      (λ x y β. sons (count x y) (λ i. grow D m F k (put β (local l) (full (x +ℤ pos i))))) α (q α g) (λ x y e f.
+      (λ x y β. sons x (count x y) (λ i. grow D m F k (put β (local l) (full (x +ℤ pos i))))) α (q α g) (λ x y e f.
       let u : SomeFrom x y (With D l F ρ) = rw (same-val D S ρ α g a oa x x′ e ha, same-val D S ρ α g b ob y y′ f hb) at t in
       let (z, p, r, w) = u in
       let (i, h, c) = range-at x y z p r in
-      sons-any Q (count x y) (λ j. grow D m F k (put α (local l) (full (x +ℤ pos j)))) i h
+      sons-any Q x (count x y) (λ j. grow D m F k (put α (local l) (full (x +ℤ pos j)))) i h
       (entered-complete D S l fresh F oF m cF ρ Q q k α v g (full (x +ℤ pos i)) (rw c at (between S oa ob α v x y e f z p r)) z (λ w′ d. (cc)) w go))
 
   pub all-sound : Sound D F → Sound D (all tok l a b F)

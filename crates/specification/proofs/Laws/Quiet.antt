@@ -110,8 +110,8 @@ module _ (D : Declared) (N : Place → Type 0) (P : Valuation → Type 0) where
       let g = (and-yes (closedTerm K a && closedTerm K b) (closedFormula (put K (local l) true) F) h) .1 in
       let W : ℤ → Valuation = λ z. put α (local l) (full z) in
       bounded-every P tok (side D α a) (side D α b)
-      (λ x y β. sons (count x y) (λ j. grow D true F k (put β (local l) (full (x +ℤ pos j))))) α (λ x y e e′.
-      sons-every P (count x y) (λ j. grow D true F k (W (x +ℤ pos j))) (λ j _.
+      (λ x y β. sons x (count x y) (λ j. grow D true F k (put β (local l) (full (x +ℤ pos j))))) α (λ x y e e′.
+      sons-every P x (count x y) (λ j. grow D true F k (W (x +ℤ pos j))) (λ j _.
       quiet F (enter S l) (o .3) (λ p n. in-enter D S l p (i p n)) (put K (local l) true) g k (W (x +ℤ pos j))
       (covers-put N K α l (full (x +ℤ pos j)) f c) (goes-put k α (local l) (full (x +ℤ pos j)) f next)))
   quiet (all tok l a b F) S o i K h k α c next =

@@ -1,4 +1,4 @@
--- Of the given items that are read, each value lies in 32 bits, each cell is declared, and the cells rise strictly. Assumes nothing.
+-- Of the given items that are read, each value is of its cell's range, each cell is declared, and the cells rise strictly. Assumes nothing.
 use Prim.Native.Nat.{ℕ, zero, suc, _≤_, _<_}
 use native.Mathlib.Omega.{arith}
 use mathlib.Core.Path.{_≡_}
@@ -10,10 +10,11 @@ use borrow.Author.Tests.{ltb-true, leb-true}
 use Rattle.specification.specs.Bytes.{bytes, feed, comma, colon, inNumber}
 use Rattle.specification.specs.Number.{integer, in32}
 use Rattle.specification.specs.Parser.{Reader, give, present, _>>_, next, mark, taken, key}
-use Rattle.specification.specs.Lines.{value, Declared, CellName, scalar, element, cells, firstOf, lengthOf, isDeclared, cellOf}
+use Rattle.specification.specs.Lines.{value, Declared, CellName, scalar, element, cells, firstOf, lengthOf, isDeclared, cellOf, inRange}
 use Rattle.specification.specs.Given.{Item, name, item, items, givenLine}
 use Rattle.specification.specs.Lists.{Each}
 use Rattle.specification.specs.WellFormed.{Rising}
+use Rattle.specification.proofs.Laws.Allowed.{in32-inRange}
 use Rattle.specification.proofs.Laws.Elements.{sum-take}
 use Rattle.specification.proofs.Laws.Lists.{each-map}
 use Rattle.specification.proofs.Laws.Parser.{true-T, Post, holds, bind-post, after, require-post, choose-post}
@@ -55,7 +56,7 @@ value-post r =
 
 module _ (D : Declared) where
   item-post : (floor : ℕ) (r : Reader) →
-      Post (λ i r′. T (in32 (i .value)) × (i .cell < cells D) × (floor ≤ i .cell)) (item D floor r)
+      Post (λ i r′. T (inRange D (i .cell) (i .value)) × (i .cell < cells D) × (floor ≤ i .cell)) (item D floor r)
   unfolding item
   item-post floor r =
       after (name r) λ n r₁.
@@ -63,11 +64,11 @@ module _ (D : Declared) where
       bind-post (value-post r₂) λ z r₃ h.
       require-post _ _ _ _ _ tt λ d.
       require-post _ _ _ _ _ tt λ e.
-      holds (h, declared-cell D n d, leb-true floor (cellOf D n) e)
+      holds (in32-inRange D (cellOf D n) z h, declared-cell D n d, leb-true floor (cellOf D n) e)
 
-  -- each value in 32 bits, each cell declared, all rising
+  -- each value of its cell's range, each cell declared, all rising
   abbrev pub Items : ℕ → List Item → Reader → Type 0
-  Items floor is r = Each (λ i. T (in32 (i .value))) is × Each (λ i. i .cell < cells D) is × Rising floor is
+  Items floor is r = Each (λ i. T (inRange D (i .cell) (i .value))) is × Each (λ i. i .cell < cells D) is × Rising floor is
 
   items-post : (k floor : ℕ) (r : Reader) → Post (Items floor) (items D k floor r)
   unfolding items Each Rising

@@ -22,7 +22,7 @@ Every P failureLeaf = Unit {0}
 Every P (errorLeaf κ t β) = Unit {0}
 Every P (step T) = Every P T
 Every P (fork T U) = Every P T × Every P U
-Every P (fan n f) = (i : ℕ) → i < n → Every P (f i)
+Every P (fan x n f) = (i : ℕ) → i < n → Every P (f i)
 Every P (ask I T) = Every P T
 
 -- some success or error leaf
@@ -32,7 +32,7 @@ Any P failureLeaf = ⊥
 Any P (errorLeaf κ t β) = P β
 Any P (step T) = Any P T
 Any P (fork T U) = Any P T ⊎ Any P U
-Any P (fan n f) = (i : ℕ) × (i < n) × Any P (f i)
+Any P (fan x n f) = (i : ℕ) × (i < n) × Any P (f i)
 Any P (ask I T) = Any P T
 
 -- ---- places in scope

@@ -21,14 +21,14 @@ Matches D φ β = (c : ℕ) → c < cells D → (v : ℤ) → β (cell c) ≡ fu
 -- β at a success leaf of the tree from α
 pub record Answer (D : Declared) (F : Formula) (α β : Valuation) : Type 0 where
   pub keeps : (c : ℕ) → c < cells D → (v : ℤ) → α (cell c) ≡ full v → β (cell c) ≡ full v
-  pub valid : Valid β
+  pub valid : Valid D β
   pub proves : (φ : Filling) → Matches D φ β → Truth D (env φ) F
 
 matches-agree : (D : Declared) (φ : Filling) (β : Valuation) → Matches D φ β → Agree D nowhere (env φ) β
 matches-agree D φ β m (cell c) i = m c i
 matches-agree D φ β m (local l) i = absurd i
 
-module _ (D : Declared) (F : Formula) (o : Ok D nowhere F) (α : Valuation) (v : Valid α) where
+module _ (D : Declared) (F : Formula) (o : Ok D nowhere F) (α : Valuation) (v : Valid D α) where
   pub sound : Every (Answer D F α) (treeOf D (F ∷ []) α)
   unfolding treeOf Every
   sound =

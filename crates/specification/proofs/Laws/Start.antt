@@ -9,7 +9,7 @@ use lib.Dec.{T, eqb}
 use lib.IntN.{ℤ}
 use borrow.Author.Tests.{eqb-true, eq-eqb, ne-eqb}
 use Rattle.specification.specs.Bytes.{pick}
-use Rattle.specification.specs.Number.{in32}
+use Rattle.specification.specs.Lines.{Declared, inRange}
 use Rattle.specification.specs.Given.{Item}
 use Rattle.specification.specs.Place.{cell, local, put}
 use Rattle.specification.specs.Value.{empty, full}
@@ -52,9 +52,9 @@ unfolding start put
 start-local [] l = refl
 start-local (i ∷ is) l = start-local is l
 
-pub start-valid : (is : List Item) → Each (λ i. T (in32 (i .value))) is → Valid (start is)
-start-valid is h (cell c) v e = each-some is (λ i t g. subst (λ z. T (in32 z)) (g .1) t) h (start-only is c v e)
-start-valid is h (local l) v e = let z : _≡_ {A = ℕ} 0 1 = cc (start-local is l) in absurd (omega arith)
+pub start-valid : (D : Declared) (is : List Item) → Each (λ i. T (inRange D (i .cell) (i .value))) is → Valid D (start is)
+start-valid D is h (cell c) v e = each-some is (λ i t g. rw (g .0, g .1) at t) h (start-only is c v e)
+start-valid D is h (local l) v e = let z : _≡_ {A = ℕ} 0 1 = cc (start-local is l) in absurd (omega arith)
 
 -- ---- fillings that keep the given values are those that match it
 

@@ -22,7 +22,7 @@ use Rattle.specification.proofs.Laws.Quantifiers.{ex-sound, ex-complete
 
 -- ---- inner trees
 
-module _ (D : Declared) (F : Formula) (sF : Sound D F) (cF : Complete D F) (S : Scope) (o : Ok D S F) (α : Valuation) (v : Valid α) where
+module _ (D : Declared) (F : Formula) (sF : Sound D F) (cF : Complete D F) (S : Scope) (o : Ok D S F) (α : Valuation) (v : Valid D α) where
   inner-fails : verdict (grow D true F done α) ≡ fails → (ρ : Env) → Agree D S ρ α → ¬ Truth D ρ F
   unfolding Any
   inner-fails e ρ a t =

@@ -18,6 +18,7 @@ use Rattle.specification.specs.WellFormed.{Scope, OkTerm, Valid}
 use Rattle.specification.specs.Closed.{Known, closedTerm}
 use Rattle.specification.specs.Tree.{isElement}
 use Rattle.specification.specs.Plain.{Env, kept, applied, elementValue, valueOf, Has}
+use Rattle.specification.proofs.Laws.Allowed.{allowed-in32}
 use Rattle.specification.proofs.Laws.Scope.{In, Agree}
 use Rattle.specification.proofs.Laws.Elements.{scalar-declared, element-declared, element-is}
 
@@ -135,7 +136,7 @@ module _ (D : Declared) (S : Scope) (α : Valuation) where
   Sane (bare p) = In D S p × (α p ≡ empty)
   Sane (err κ) = Unit {0}
 
-module _ (D : Declared) (S : Scope) (α : Valuation) (v : Valid α) where
+module _ (D : Declared) (S : Scope) (α : Valuation) (v : Valid D α) where
   firm-sane : (s : Side) → Firm s → Sane D S α s
   firm-sane (val x) h = h
   firm-sane (bare p) h = absurd h
@@ -143,7 +144,7 @@ module _ (D : Declared) (S : Scope) (α : Valuation) (v : Valid α) where
 
   look-sane : (p : Place) → In D S p → (s : Slot) → α p ≡ s → Sane D S α (look s p)
   look-sane p i empty e = (i, e)
-  look-sane p i (full x) e = v p x e
+  look-sane p i (full x) e = allowed-in32 D p x (v p x e)
 
   side-sane : (t : Term) → OkTerm D S t → Sane D S α (side D α t)
   unfolding side OkTerm
