@@ -8,8 +8,10 @@ use lib.ListN.{length, drop}
 use lib.Seq.{drop-nil}
 use Rattle.specification.specs.Ast.{Op, add, sub, mul, div, modulo, Rel, ne, lt, le, gt, ge, Term, constant, scalarAt, localAt, elementAt, apply, Formula, truth, and, or, imp, neg, eq, compare, ex, some, all}
 use Rattle.values.specs.Word.{biased}
+use Rattle.tables.specs.Codes.{trueCode, andCode, orCode, impCode, notCode, eqCode, exCode, someCode, allCode, constantCode, scalarCode, localCode, arrayCode}
 use Rattle.sheet.specs.declared.Token.{Token}
-use Rattle.sheet.specs.Codes.{token, relCode, opCode, arity, termTokens, formulaTokens}
+use Rattle.sheet.specs.Codes.{token, relCode, opCode, termTokens, formulaTokens}
+use Rattle.sheet.specs.Sorts.{arity, operandsOf}
 use Rattle.sheet.specs.Tables.{after}
 
 pub after-none : (ts : List Token) → after ts zero ≡ ts
@@ -50,7 +52,7 @@ two : (t : Token) (xs ys : List Token) → arity (t .code) ≡ 2 → Subtrees 1 
 two t xs ys e h k = node t 2 (xs ++ ys) e (joined 1 1 xs ys h k)
 
 op-arity : (o : Op) → arity (opCode o) ≡ 2
-unfolding arity
+unfolding arity operandsOf
 op-arity add = refl
 op-arity sub = refl
 op-arity mul = refl
@@ -58,7 +60,7 @@ op-arity div = refl
 op-arity modulo = refl
 
 rel-arity : (c : Rel) → arity (relCode c) ≡ 2
-unfolding arity
+unfolding arity operandsOf
 rel-arity ne = refl
 rel-arity lt = refl
 rel-arity le = refl
@@ -66,34 +68,34 @@ rel-arity gt = refl
 rel-arity ge = refl
 
 pub term-subtree : (t : Term) → Subtrees 1 (termTokens t)
-unfolding termTokens arity
-term-subtree (constant z) = leaf (token 40 (biased z)) refl
-term-subtree (scalarAt c) = leaf (token 41 c) refl
-term-subtree (localAt l) = leaf (token 42 l) refl
-term-subtree (elementAt a t) = node (token 43 a) 1 (termTokens t) refl (term-subtree t)
+unfolding termTokens arity operandsOf
+term-subtree (constant z) = leaf (token constantCode (biased z)) refl
+term-subtree (scalarAt c) = leaf (token scalarCode c) refl
+term-subtree (localAt l) = leaf (token localCode l) refl
+term-subtree (elementAt a t) = node (token arrayCode a) 1 (termTokens t) refl (term-subtree t)
 term-subtree (apply o s t) = two (token (opCode o) 0) (termTokens s) (termTokens t) (op-arity o) (term-subtree s) (term-subtree t)
 
 -- a binder with bounds
 range : (c l : ℕ) (a b : Term) (xs : List Token) → arity c ≡ 4 → Subtrees 1 xs →
-    Subtrees 1 (token c 0 ∷ token 42 l ∷ (termTokens a ++ (termTokens b ++ xs)))
-unfolding arity
+    Subtrees 1 (token c 0 ∷ token localCode l ∷ (termTokens a ++ (termTokens b ++ xs)))
+unfolding arity operandsOf
 range c l a b xs e h =
-    node (token c 0) 4 (token 42 l ∷ (termTokens a ++ (termTokens b ++ xs))) e
-    (joined 1 3 (token 42 l ∷ []) (termTokens a ++ (termTokens b ++ xs)) (leaf (token 42 l) refl)
+    node (token c 0) 4 (token localCode l ∷ (termTokens a ++ (termTokens b ++ xs))) e
+    (joined 1 3 (token localCode l ∷ []) (termTokens a ++ (termTokens b ++ xs)) (leaf (token localCode l) refl)
     (joined 1 2 (termTokens a) (termTokens b ++ xs) (term-subtree a) (joined 1 1 (termTokens b) xs (term-subtree b) h)))
 
 pub formula-subtree : (F : Formula) → Subtrees 1 (formulaTokens F)
-unfolding formulaTokens arity
-formula-subtree truth = leaf (token 1 0) refl
-formula-subtree (and F G) = two (token 2 0) (formulaTokens F) (formulaTokens G) refl (formula-subtree F) (formula-subtree G)
-formula-subtree (or F G) = two (token 3 0) (formulaTokens F) (formulaTokens G) refl (formula-subtree F) (formula-subtree G)
-formula-subtree (imp n F G) = two (token 4 0) (formulaTokens F) (formulaTokens G) refl (formula-subtree F) (formula-subtree G)
-formula-subtree (neg n F) = node (token 5 0) 1 (formulaTokens F) refl (formula-subtree F)
-formula-subtree (eq n s t) = two (token 6 0) (termTokens s) (termTokens t) refl (term-subtree s) (term-subtree t)
+unfolding formulaTokens arity operandsOf
+formula-subtree truth = leaf (token trueCode 0) refl
+formula-subtree (and F G) = two (token andCode 0) (formulaTokens F) (formulaTokens G) refl (formula-subtree F) (formula-subtree G)
+formula-subtree (or F G) = two (token orCode 0) (formulaTokens F) (formulaTokens G) refl (formula-subtree F) (formula-subtree G)
+formula-subtree (imp n F G) = two (token impCode 0) (formulaTokens F) (formulaTokens G) refl (formula-subtree F) (formula-subtree G)
+formula-subtree (neg n F) = node (token notCode 0) 1 (formulaTokens F) refl (formula-subtree F)
+formula-subtree (eq n s t) = two (token eqCode 0) (termTokens s) (termTokens t) refl (term-subtree s) (term-subtree t)
 formula-subtree (compare n c s t) = two (token (relCode c) 0) (termTokens s) (termTokens t) (rel-arity c) (term-subtree s) (term-subtree t)
-formula-subtree (ex l F) = two (token 12 0) (token 42 l ∷ []) (formulaTokens F) refl (leaf (token 42 l) refl) (formula-subtree F)
-formula-subtree (some n l a b F) = range 13 l a b (formulaTokens F) refl (formula-subtree F)
-formula-subtree (all n l a b F) = range 14 l a b (formulaTokens F) refl (formula-subtree F)
+formula-subtree (ex l F) = two (token exCode 0) (token localCode l ∷ []) (formulaTokens F) refl (leaf (token localCode l) refl) (formula-subtree F)
+formula-subtree (some n l a b F) = range someCode l a b (formulaTokens F) refl (formula-subtree F)
+formula-subtree (all n l a b F) = range allCode l a b (formulaTokens F) refl (formula-subtree F)
 
 -- ---- what follows a subtree
 

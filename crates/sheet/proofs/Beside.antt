@@ -1,5 +1,5 @@
 -- Words that are the same beside the stack: so they stay where the same words, tokens or ends are written in both. Assumes nothing.
-use Prim.Native.Nat.{ℕ, suc, _+_, _*_, _-_, _<_, _≤_}
+use Prim.Native.Nat.{ℕ, suc, _+_, _-_, _<_, _≤_}
 use native.Mathlib.Omega.{arith}
 use mathlib.Core.Path.{_≡_, refl, sym, _∙_}
 use mathlib.Core.Bool.{Bool, true, false}
@@ -10,7 +10,7 @@ use lib.Dec.{eqb}
 use Rattle.tables.specs.Layout.{tokenSlot}
 use borrow.Author.Tests.{eqb-true, eqb-false}
 use Rattle.sheet.specs.declared.Token.{Token}
-use Rattle.sheet.specs.Codes.{arity}
+use Rattle.sheet.specs.Sorts.{arity}
 use Rattle.sheet.specs.Tables.{Words, laidTokens, after, laidEnds}
 use Rattle.sheet.specs.Stack.{Beside}
 

@@ -2,18 +2,19 @@
 use Prim.Native.Nat.{ℕ, zero, suc, _+_, _*_, _≤_}
 use native.Mathlib.Omega.{arith}
 use mathlib.Core.Path.{_≡_}
-use mathlib.Core.Bool.{Bool, true, false}
 use mathlib.Core.List.{List, [], _∷_, _++_}
 use lib.ListN.{length}
 use lib.Dec.{ltb, eqb}
-use Rattle.specification.specs.Bytes.{pick, between}
+use Rattle.specification.specs.Bytes.{pick}
 use Rattle.specification.specs.Parser.{Reader}
 use Rattle.specification.specs.Lines.{Declared}
 use Rattle.specification.specs.Formula.{Locals}
 use Rattle.tables.specs.Layout.{maxTokens, maxNesting, maxDues}
 use Rattle.sheet.specs.declared.Token.{Token}
+use Rattle.sheet.specs.Sorts.{operandsOf}
 use Rattle.sheet.specs.Dues.{Due, dueFormula, dueTerm, dueEx, dueRange}
-use Rattle.sheet.specs.Turn.{room, operandsOf, opens, faultOf, tokenAt, faultAt, weight, weights, Fits}
+use Rattle.sheet.specs.Turn.{room, dueBy, dues, opens, faultOf, tokenAt, faultAt, weight, weights, Fits}
+use Rattle.sheet.proofs.CodeOperands.{operands-all}
 
 -- the whole formula
 pub fits-start : Fits (dueFormula maxNesting [] ∷ [])
@@ -22,21 +23,12 @@ fits-start = (omega arith, tt)
 
 -- ---- a turn
 
-pick-fits : (b : Bool) (xs ys ds : List Due) → Fits (xs ++ ds) → Fits (ys ++ ds) → Fits (pick b xs ys ++ ds)
-pick-fits true xs ys ds h k = h
-pick-fits false xs ys ds h k = k
-
 module _ (k : ℕ) (S : Locals) (ds : List Due) (h : weights ds + 2 * k + 3 ≤ maxDues) (f : Fits ds) where
-  operands-fit : (c : ℕ) → Fits (operandsOf k S c ++ ds)
-  unfolding operandsOf Fits weights
-  operands-fit c =
-      pick-fits (eqb c 5) _ _ ds (omega arith, f)
-      (pick-fits (between 2 4 c) _ _ ds (omega arith, (omega arith, f))
-      (pick-fits (between 6 11 c) _ _ ds (omega arith, (omega arith, f))
-      (pick-fits (eqb c 12) _ _ ds (omega arith, f)
-      (pick-fits (between 13 14 c) _ _ ds (omega arith, f)
-      (pick-fits (between 32 36 c) _ _ ds (omega arith, (omega arith, f))
-      (pick-fits (eqb c 43) _ _ ds (omega arith, f) f))))))
+  operands-fit : (c : ℕ) → Fits (dues k S (operandsOf c) ++ ds)
+  unfolding dues dueBy Fits weights
+  operands-fit =
+      operands-all (λ o. Fits (dues k S o ++ ds)) f (omega arith, f) (omega arith, (omega arith, f)) (omega arith, f) (omega arith, (omega arith, f))
+      (omega arith, f) (omega arith, f)
 
 -- the first that is due is replaced by what its token makes due
 pub fits-turn : (d : Due) (ds : List Due) (t : Token) → 1 ≤ room d → Fits (d ∷ ds) → Fits (opens d t ++ ds)

@@ -12,6 +12,7 @@ use Rattle.specification.specs.Lines.{Declared}
 use Rattle.specification.specs.Ast.{Term, Formula, ne, lt, le, gt, ge, add, sub, mul, div, modulo}
 use Rattle.specification.specs.Words.{FormulaWord, trueWord, andWord, orWord, impWord, notWord, eqWord, exWord, someWord, allWord, relWord, TermWord, constantWord, scalarWord, localWord, arrayWord, opWord, Word, formulaWord, termWord, unknown}
 use Rattle.specification.specs.Formula.{Token as WordToken, token as readToken, Locals, binderWith, binder, termWith, term, formulaWith, formula}
+use Rattle.tables.specs.Codes.{firstFormula, lastFormula, firstTerm, lastTerm, localCode, badConstantCode}
 use Rattle.sheet.specs.declared.Token.{Token}
 use Rattle.sheet.specs.Codes.{token, formulaCode, termToken, tokenOf}
 use Rattle.sheet.specs.Dues.{Due, dueFormula, dueTerm, dueEx, dueRange, parse}
@@ -25,7 +26,7 @@ use Rattle.sheet.proofs.TermWord.{term-word, admitLocal, binder-word}
 
 -- a formula's code is neither a term's nor a local's
 formula-code : (w : FormulaWord) →
-    (eqb (formulaCode w) 65 ≡ false) × (between 32 63 (formulaCode w) ≡ false) × (eqb (formulaCode w) 42 ≡ false)
+    (eqb (formulaCode w) badConstantCode ≡ false) × (between firstTerm lastTerm (formulaCode w) ≡ false) × (eqb (formulaCode w) localCode ≡ false)
 formula-code trueWord = (refl, refl, refl)
 formula-code andWord = (refl, refl, refl)
 formula-code orWord = (refl, refl, refl)
@@ -41,7 +42,7 @@ formula-code (relWord le) = (refl, refl, refl)
 formula-code (relWord gt) = (refl, refl, refl)
 formula-code (relWord ge) = (refl, refl, refl)
 
-term-code : (w : TermWord) → (eqb (termToken w .code) 65 ≡ false) × (between 1 31 (termToken w .code) ≡ false)
+term-code : (w : TermWord) → (eqb (termToken w .code) badConstantCode ≡ false) × (between firstFormula lastFormula (termToken w .code) ≡ false)
 term-code (constantWord z) = (refl, refl)
 term-code (scalarWord n) = (refl, refl)
 term-code (localWord l) = (refl, refl)
@@ -89,7 +90,7 @@ module _ (D : Declared) (small : Limited D) (k : ℕ) (S : Locals) where
       by-word t (formulaWord w) r = rw (formula-code w .0, formula-code w .1)
       by-word t unknown r = refl
 
-  step-binder : (κ : ℕ → Parser (List Token)) (ds : ℕ → List Due) → ((l : ℕ) (r : Reader) → κ l r ≡ left D (ds l) (token 42 l ∷ []) r) →
+  step-binder : (κ : ℕ → Parser (List Token)) (ds : ℕ → List Due) → ((l : ℕ) (r : Reader) → κ l r ≡ left D (ds l) (token localCode l ∷ []) r) →
       (r : Reader) → (binder D (suc k) >>= κ) r ≡ (readToken (D .edition) >>= λ t. admitLocal D ds (t .place) (tokenOf (just (t .word)))) r
   unfolding binder faultOf tokenOf
   step-binder κ ds brings r =

@@ -11,8 +11,10 @@ use Rattle.specification.specs.Bytes.{pick, between}
 use Rattle.specification.specs.Lines.{Declared}
 use Rattle.specification.specs.Formula.{Locals, has}
 use Rattle.tables.specs.Layout.{maxTokens}
+use Rattle.tables.specs.Codes.{firstFormula, lastFormula, firstTerm, lastTerm, localCode, badConstantCode}
 use Rattle.sheet.specs.declared.Token.{Token}
 use Rattle.sheet.specs.declared.formula.Limits.{Limits}
+use Rattle.sheet.specs.Sorts.{formulaSort, termSort}
 use Rattle.sheet.specs.Dues.{Due, dueFormula, dueTerm, dueEx, dueRange}
 use Rattle.sheet.specs.Turn.{room, suits, declared, placed, faultOf, binds}
 use Rattle.sheet.specs.Stack.{sortOf, scopeOf}
@@ -20,25 +22,25 @@ use Rattle.sheet.specs.FormulaLine.{Counts, counted, refusalOf}
 
 -- ---- by the number of the sort
 
-pub suits-by : (d : Due) (sort c : ℕ) → sort ≡ sortOf d → suits d c ≡ pick (eqb sort 0) (between 1 31 c) (pick (eqb sort 1) (between 32 63 c) (eqb c 42))
+pub suits-by : (d : Due) (sort c : ℕ) → sort ≡ sortOf d → suits d c ≡ pick (eqb sort formulaSort) (between firstFormula lastFormula c) (pick (eqb sort termSort) (between firstTerm lastTerm c) (eqb c localCode))
 suits-by (dueFormula k S) sort c e = rw e
 suits-by (dueTerm k S) sort c e = rw e
 suits-by (dueEx k S) sort c e = rw e
 suits-by (dueRange k S) sort c e = rw e
 
-pub placed-by : (d : Due) (B : Locals) (sort l : ℕ) → sort ≡ sortOf d → placed d B l ≡ pick (eqb sort 0) true (pick (eqb sort 1) (has l (scopeOf d)) (not (has l B)))
+pub placed-by : (d : Due) (B : Locals) (sort l : ℕ) → sort ≡ sortOf d → placed d B l ≡ pick (eqb sort formulaSort) true (pick (eqb sort termSort) (has l (scopeOf d)) (not (has l B)))
 placed-by (dueFormula k S) B sort l e = rw e
 placed-by (dueTerm k S) B sort l e = rw e
 placed-by (dueEx k S) B sort l e = rw e
 placed-by (dueRange k S) B sort l e = rw e
 
-pub binds-none : (d : Due) (t : Token) (B : Locals) → sortOf d ≤ 1 → binds d t B ≡ B
+pub binds-none : (d : Due) (t : Token) (B : Locals) → sortOf d ≤ termSort → binds d t B ≡ B
 binds-none (dueFormula k S) t B h = refl
 binds-none (dueTerm k S) t B h = refl
 binds-none (dueEx k S) t B h = absurd (omega arith)
 binds-none (dueRange k S) t B h = absurd (omega arith)
 
-pub binds-local : (d : Due) (t : Token) (B : Locals) → 1 < sortOf d → binds d t B ≡ t .operand ∷ B
+pub binds-local : (d : Due) (t : Token) (B : Locals) → termSort < sortOf d → binds d t B ≡ t .operand ∷ B
 binds-local (dueFormula k S) t B h = absurd (omega arith)
 binds-local (dueTerm k S) t B h = absurd (omega arith)
 binds-local (dueEx k S) t B h = refl
@@ -55,7 +57,7 @@ module _ {l : Limits} {D : Declared} (g : Counts l D) where
   unfolding faultOf
   fault-counted d B t = rw (declared-counted t)
 
-pub declared-local : (l : Limits) (t : Token) → t .code ≡ 42 → declared (counted l) t ≡ true → t .operand < l .locals
+pub declared-local : (l : Limits) (t : Token) → t .code ≡ localCode → declared (counted l) t ≡ true → t .operand < l .locals
 unfolding declared
 declared-local l t e h = ltb-true _ _ (rw e at h)
 
@@ -70,11 +72,11 @@ kept : (b : Bool) (k x : ℕ) → 0 < k → pick b x k ≡ 0 → (b ≡ true) ×
 kept true k x h e = (refl, e)
 kept false k x h e = absurd (omega arith)
 
-suits-local : (d : Due) (c : ℕ) → 1 < sortOf d → suits d c ≡ true → c ≡ 42
+suits-local : (d : Due) (c : ℕ) → termSort < sortOf d → suits d c ≡ true → c ≡ localCode
 suits-local (dueFormula k S) c h e = absurd (omega arith)
 suits-local (dueTerm k S) c h e = absurd (omega arith)
-suits-local (dueEx k S) c h e = eqb-true c 42 e
-suits-local (dueRange k S) c h e = eqb-true c 42 e
+suits-local (dueEx k S) c h e = eqb-true c localCode e
+suits-local (dueRange k S) c h e = eqb-true c localCode e
 
 some-room : (k : ℕ) → eqb k 0 ≡ false → 0 < k
 some-room zero e = let z : _≡_ {A = ℕ} 0 1 = cc in absurd (omega arith)
@@ -83,14 +85,14 @@ some-room (suc k) e = omega arith
 pub record Stands (l : Limits) (d : Due) (n : ℕ) (t : Token) : Type 0 where
   pub room : 0 < room d
   pub number : n < maxTokens
-  pub index : 1 < sortOf d → t .operand < l .locals
+  pub index : termSort < sortOf d → t .operand < l .locals
 
 pub stands : (l : Limits) (d : Due) (B : Locals) (n : ℕ) (t : Token) → refusalOf l d B n t ≡ 0 → Stands l d n t
 unfolding faultOf
 stands l d B n t e =
     let a : (eqb (room d) 0 ≡ false) × _ = past _ _ _ (omega arith) e in
     let b : (ltb n maxTokens ≡ true) × _ = kept _ _ _ (omega arith) (a .1) in
-    let c : (eqb (t .code) 65 ≡ false) × _ = past _ _ _ (omega arith) (b .1) in
+    let c : (eqb (t .code) badConstantCode ≡ false) × _ = past _ _ _ (omega arith) (b .1) in
     let s : (suits d (t .code) ≡ true) × _ = kept _ _ _ (omega arith) (c .1) in
     let v : (declared (counted l) t ≡ true) × _ = kept _ _ _ (omega arith) (s .1) in
     record {

@@ -8,10 +8,12 @@ use Rattle.specification.specs.Lines.{Declared}
 use Rattle.specification.specs.Ast.{Rel, ne, lt, le, gt, ge, Term, Formula, and, or, imp, neg, eq, compare, ex, some, all}
 use Rattle.specification.specs.Words.{FormulaWord, trueWord, andWord, orWord, impWord, notWord, eqWord, exWord, someWord, allWord, relWord, formulaWord}
 use Rattle.specification.specs.Formula.{Locals, operand, binder, term, formulaOf, formula}
+use Rattle.tables.specs.Codes.{trueCode, andCode, orCode, impCode, notCode, eqCode, exCode, someCode, allCode, localCode}
 use Rattle.sheet.specs.declared.Token.{Token}
 use Rattle.sheet.specs.Codes.{token, relCode, tokenOf, termTokens, formulaTokens}
+use Rattle.sheet.specs.Sorts.{operandsOf}
 use Rattle.sheet.specs.Dues.{dueFormula, dueTerm, dueEx, dueRange, parse}
-use Rattle.sheet.specs.Turn.{declared, faultOf, operandsOf, opens, left}
+use Rattle.sheet.specs.Turn.{declared, faultOf, dueBy, dues, opens, left}
 use Rattle.sheet.proofs.Left.{then-both, left-none}
 use Rattle.sheet.proofs.Operands.{admitted, spellFormula, spellTerm, first-due, first-then, one-due, two-formulas, two-terms}
 
@@ -27,10 +29,10 @@ module _ (D : Declared) (k : ℕ) (S : Locals) where
 
   -- the tokens from a binder's local on
   abbrev pub spellEx : ℕ → Formula → Parser (List Token)
-  spellEx l F = give (token 42 l ∷ formulaTokens F)
+  spellEx l F = give (token localCode l ∷ formulaTokens F)
 
   abbrev pub spellRange : ℕ → Term → Term → Formula → Parser (List Token)
-  spellRange l a b F = give (token 42 l ∷ (termTokens a ++ (termTokens b ++ formulaTokens F)))
+  spellRange l a b F = give (token localCode l ∷ (termTokens a ++ (termTokens b ++ formulaTokens F)))
 
   abbrev pub readEx : ℕ → Parser (List Token)
   readEx l = body l >>= λ F. spellEx l F
@@ -39,35 +41,35 @@ module _ (D : Declared) (k : ℕ) (S : Locals) where
   readRange l = bound >>= λ a. bound >>= λ b. body l >>= λ F. spellRange l a b F
 
   -- what the local of `ex` brings, and of `some` and `all`
-  pub ex-brings : (l : ℕ) (r : Reader) → readEx l r ≡ left D (dueFormula k (l ∷ S) ∷ []) (token 42 l ∷ []) r
+  pub ex-brings : (l : ℕ) (r : Reader) → readEx l r ≡ left D (dueFormula k (l ∷ S) ∷ []) (token localCode l ∷ []) r
   unfolding parse
   ex-brings l =
-      first-due D (dueFormula k (l ∷ S)) (formula D k (l ∷ S)) spellFormula (λ r. refl) (λ F. spellEx l F) [] (token 42 l ∷ []) λ F r.
-      sym (left-none D (token 42 l ∷ formulaTokens F) r)
+      first-due D (dueFormula k (l ∷ S)) (formula D k (l ∷ S)) spellFormula (λ r. refl) (λ F. spellEx l F) [] (token localCode l ∷ []) λ F r.
+      sym (left-none D (token localCode l ∷ formulaTokens F) r)
 
   pub range-brings : (l : ℕ) (r : Reader) →
-      readRange l r ≡ left D (dueTerm k S ∷ dueTerm k S ∷ dueFormula k (l ∷ S) ∷ []) (token 42 l ∷ []) r
+      readRange l r ≡ left D (dueTerm k S ∷ dueTerm k S ∷ dueFormula k (l ∷ S) ∷ []) (token localCode l ∷ []) r
   unfolding parse
   range-brings l =
       first-due D (dueTerm k S) (term D k S) spellTerm (λ r. refl)
-      (λ a. bound >>= λ b. body l >>= λ F. spellRange l a b F) (dueTerm k S ∷ dueFormula k (l ∷ S) ∷ []) (token 42 l ∷ []) λ a.
+      (λ a. bound >>= λ b. body l >>= λ F. spellRange l a b F) (dueTerm k S ∷ dueFormula k (l ∷ S) ∷ []) (token localCode l ∷ []) λ a.
       first-due D (dueTerm k S) (term D k S) spellTerm (λ r. refl)
-      (λ b. body l >>= λ F. spellRange l a b F) (dueFormula k (l ∷ S) ∷ []) (token 42 l ∷ termTokens a) λ b.
+      (λ b. body l >>= λ F. spellRange l a b F) (dueFormula k (l ∷ S) ∷ []) (token localCode l ∷ termTokens a) λ b.
       first-due D (dueFormula k (l ∷ S)) (formula D k (l ∷ S)) spellFormula (λ r. refl)
-      (λ F. spellRange l a b F) [] (token 42 l ∷ (termTokens a ++ termTokens b)) λ F r.
+      (λ F. spellRange l a b F) [] (token localCode l ∷ (termTokens a ++ termTokens b)) λ F r.
       rw (left-none, append-assoc)
 
   existential : (r : Reader) →
-      andThen spellFormula ((operand (binder D k) >>= λ l. body l >>= λ F. give (ex l F)) r) ≡ left D (dueEx k S ∷ []) (token 12 0 ∷ []) r
+      andThen spellFormula ((operand (binder D k) >>= λ l. body l >>= λ F. give (ex l F)) r) ≡ left D (dueEx k S ∷ []) (token exCode 0 ∷ []) r
   unfolding parse formulaTokens
   existential =
-      first-then D (dueEx k S) (binder D k) readEx (λ r. refl) spellFormula (λ l. body l >>= λ F. give (ex l F)) [] (token 12 0 ∷ []) λ l r.
-      then-both (λ F. give (ex l F)) spellFormula (λ F. spellEx l F) (λ xs. left D [] (token 12 0 ∷ xs))
-      (λ F r₁. sym (left-none D (token 12 0 ∷ token 42 l ∷ formulaTokens F) r₁)) (body l r)
+      first-then D (dueEx k S) (binder D k) readEx (λ r. refl) spellFormula (λ l. body l >>= λ F. give (ex l F)) [] (token exCode 0 ∷ []) λ l r.
+      then-both (λ F. give (ex l F)) spellFormula (λ F. spellEx l F) (λ xs. left D [] (token exCode 0 ∷ xs))
+      (λ F r₁. sym (left-none D (token exCode 0 ∷ token localCode l ∷ formulaTokens F) r₁)) (body l r)
 
   quantified : (make : ℕ → Term → Term → Formula → Formula) (t : Token) →
       ((l : ℕ) (a b : Term) (F : Formula) →
-      formulaTokens (make l a b F) ≡ t ∷ token 42 l ∷ (termTokens a ++ (termTokens b ++ formulaTokens F))) →
+      formulaTokens (make l a b F) ≡ t ∷ token localCode l ∷ (termTokens a ++ (termTokens b ++ formulaTokens F))) →
       (r : Reader) →
       andThen spellFormula ((operand (binder D k) >>= λ l. bound >>= λ a. bound >>= λ b. body l >>= λ F. give (make l a b F)) r) ≡
       left D (dueRange k S ∷ []) (t ∷ []) r
@@ -95,19 +97,19 @@ module _ (D : Declared) (k : ℕ) (S : Locals) where
   pub formula-word : (p n : ℕ) (w : FormulaWord) (r : Reader) →
       andThen spellFormula (formulaOf D (λ S′ r. formula D k S′ r) (λ r. term D k S r) (λ r. binder D k r) S n w r) ≡
       admitted D (dueFormula (suc k) S) p (tokenOf (just (formulaWord w))) r
-  unfolding admitted faultOf declared opens operandsOf tokenOf parse formulaTokens
-  formula-word p n trueWord r = sym (left-none D (token 1 0 ∷ []) r)
-  formula-word p n andWord r = two-formulas D k S and (token 2 0) (λ F G. refl) r
-  formula-word p n orWord r = two-formulas D k S or (token 3 0) (λ F G. refl) r
-  formula-word p n impWord r = two-formulas D k S (imp n) (token 4 0) (λ F G. refl) r
+  unfolding admitted faultOf declared opens operandsOf dues dueBy tokenOf parse formulaTokens
+  formula-word p n trueWord r = sym (left-none D (token trueCode 0 ∷ []) r)
+  formula-word p n andWord r = two-formulas D k S and (token andCode 0) (λ F G. refl) r
+  formula-word p n orWord r = two-formulas D k S or (token orCode 0) (λ F G. refl) r
+  formula-word p n impWord r = two-formulas D k S (imp n) (token impCode 0) (λ F G. refl) r
   formula-word p n notWord r =
-      one-due D (dueFormula k S) (formula D k S) formulaTokens (λ r′. refl) formulaTokens (token 5 0 ∷ []) (neg n) (λ F. refl) r
-  formula-word p n eqWord r = two-terms D k S formulaTokens (eq n) (token 6 0) (λ x y. refl) r
+      one-due D (dueFormula k S) (formula D k S) formulaTokens (λ r′. refl) formulaTokens (token notCode 0 ∷ []) (neg n) (λ F. refl) r
+  formula-word p n eqWord r = two-terms D k S formulaTokens (eq n) (token eqCode 0) (λ x y. refl) r
   formula-word p n (relWord ne) r = relation n ne r
   formula-word p n (relWord lt) r = relation n lt r
   formula-word p n (relWord le) r = relation n le r
   formula-word p n (relWord gt) r = relation n gt r
   formula-word p n (relWord ge) r = relation n ge r
   formula-word p n exWord r = existential r
-  formula-word p n someWord r = quantified (some n) (token 13 0) (λ l a b F. refl) r
-  formula-word p n allWord r = quantified (all n) (token 14 0) (λ l a b F. refl) r
+  formula-word p n someWord r = quantified (some n) (token someCode 0) (λ l a b F. refl) r
+  formula-word p n allWord r = quantified (all n) (token allCode 0) (λ l a b F. refl) r

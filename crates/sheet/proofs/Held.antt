@@ -7,6 +7,7 @@ use lib.ListN.{length, length-append}
 use Rattle.specification.specs.Ast.{Term, constant, scalarAt, localAt, elementAt, apply, Formula, truth, and, or, imp, neg, eq, compare, ex, some, all}
 use Rattle.values.specs.Word.{biased}
 use Rattle.tables.specs.Layout.{maxTokens}
+use Rattle.tables.specs.Codes.{trueCode, andCode, orCode, impCode, notCode, eqCode, exCode, someCode, allCode, constantCode, scalarCode, localCode, arrayCode}
 use Rattle.sheet.specs.declared.Token.{Token}
 use Rattle.sheet.specs.Codes.{token, opCode, relCode, termTokens, formulaTokens}
 use Rattle.sheet.specs.Tables.{Words}
@@ -72,11 +73,11 @@ module _ (w : Words) where
 
   pub term-at : (t : Term) (rest : List Token) (i : ℕ) → Laid i (termTokens t ++ rest) → i + termSize t ≤ maxTokens → TermAt w i t
   unfolding termTokens Along
-  term-at (constant z) rest i a h = leaf (token 40 (biased z)) rest i (term-subtree (constant z)) a h
-  term-at (scalarAt c) rest i a h = leaf (token 41 c) rest i (term-subtree (scalarAt c)) a h
-  term-at (localAt l) rest i a h = leaf (token 42 l) rest i (term-subtree (localAt l)) a h
+  term-at (constant z) rest i a h = leaf (token constantCode (biased z)) rest i (term-subtree (constant z)) a h
+  term-at (scalarAt c) rest i a h = leaf (token scalarCode c) rest i (term-subtree (scalarAt c)) a h
+  term-at (localAt l) rest i a h = leaf (token localCode l) rest i (term-subtree (localAt l)) a h
   term-at (elementAt b t) rest i a h = (
-    one-operand (token 43 b) (termTokens t) rest i (term-subtree (elementAt b t)) (term-subtree t) a h,
+    one-operand (token arrayCode b) (termTokens t) rest i (term-subtree (elementAt b t)) (term-subtree t) a h,
     a .0 .operand,
     term-at t rest (suc i) (a .1) (omega arith),
   )
@@ -105,7 +106,7 @@ module _ (w : Words) where
         ),
       )
 
-  local-subtree : (l : ℕ) → Subtrees 1 (token 42 l ∷ [])
+  local-subtree : (l : ℕ) → Subtrees 1 (token localCode l ∷ [])
   unfolding termTokens
   local-subtree l = term-subtree (localAt l)
 
@@ -119,8 +120,8 @@ module _ (w : Words) where
     few : endAt w (endAt w (suc (suc i))) + length xs ≤ maxTokens
 
   range : (c l : ℕ) (x y : Term) (xs rest : List Token) (i : ℕ) →
-      Subtrees 1 (token c 0 ∷ token 42 l ∷ (termTokens x ++ (termTokens y ++ xs))) → Subtrees 1 xs →
-      Laid i (token c 0 ∷ token 42 l ∷ (termTokens x ++ (termTokens y ++ xs)) ++ rest) →
+      Subtrees 1 (token c 0 ∷ token localCode l ∷ (termTokens x ++ (termTokens y ++ xs))) → Subtrees 1 xs →
+      Laid i (token c 0 ∷ token localCode l ∷ (termTokens x ++ (termTokens y ++ xs)) ++ rest) →
       i + suc (suc (length (termTokens x ++ (termTokens y ++ xs)))) ≤ maxTokens →
       Range i c l x y xs rest
   unfolding Along
@@ -134,8 +135,8 @@ module _ (w : Words) where
       let e : endAt w (endAt w (endAt w (suc (suc i)))) ≡ i + suc (suc (length (termTokens x ++ (termTokens y ++ xs)))) =
       omega (arith, length-append (termTokens x) (termTokens y ++ xs), length-append (termTokens y) xs, first .0, second .0, third .0) in
       record {
-        head = token-at (token c 0) (token 42 l ∷ ts) rest i (endAt w (endAt w (endAt w (suc (suc i))))) s a e (omega arith);
-        binds = leaf (token 42 l) (termTokens x ++ (termTokens y ++ xs) ++ rest) (suc i) (local-subtree l) (a .1) (omega arith);
+        head = token-at (token c 0) (token localCode l ∷ ts) rest i (endAt w (endAt w (endAt w (suc (suc i))))) s a e (omega arith);
+        binds = leaf (token localCode l) (termTokens x ++ (termTokens y ++ xs) ++ rest) (suc i) (local-subtree l) (a .1) (omega arith);
         bounds = (
           term-at x (termTokens y ++ (xs ++ rest)) (suc (suc i)) b (omega (arith, third .0)),
           term-at y (xs ++ rest) (endAt w (suc (suc i))) (first .1) (omega (arith, third .0)),
@@ -149,33 +150,33 @@ module _ (w : Words) where
   pub formula-at : (F : Formula) (rest : List Token) (i : ℕ) → Laid i (formulaTokens F ++ rest) → Numbered i F →
       i + formulaSize F ≤ maxTokens → FormulaAt w i F
   unfolding formulaTokens Along Numbered
-  formula-at truth rest i a n h = leaf (token 1 0) rest i (formula-subtree truth) a h .0
+  formula-at truth rest i a n h = leaf (token trueCode 0) rest i (formula-subtree truth) a h .0
   formula-at (and F G) rest i a n h =
-      let p = two-formulas (token 2 0) F G rest i (formula-subtree (and F G)) a h in (
+      let p = two-formulas (token andCode 0) F G rest i (formula-subtree (and F G)) a h in (
         p .head,
         formula-at F (formulaTokens G ++ rest) (suc i) (p .first) (n .0) (p .few),
         formula-at G rest (endAt w (suc i)) (p .second) (renumbered G (p .middle) (n .1)) (p .fewer),
       )
   formula-at (or F G) rest i a n h =
-      let p = two-formulas (token 3 0) F G rest i (formula-subtree (or F G)) a h in (
+      let p = two-formulas (token orCode 0) F G rest i (formula-subtree (or F G)) a h in (
         p .head,
         formula-at F (formulaTokens G ++ rest) (suc i) (p .first) (n .0) (p .few),
         formula-at G rest (endAt w (suc i)) (p .second) (renumbered G (p .middle) (n .1)) (p .fewer),
       )
   formula-at (imp m F G) rest i a n h =
-      let p = two-formulas (token 4 0) F G rest i (formula-subtree (imp m F G)) a h in (
+      let p = two-formulas (token impCode 0) F G rest i (formula-subtree (imp m F G)) a h in (
         p .head,
         n .0,
         formula-at F (formulaTokens G ++ rest) (suc i) (p .first) (n .1) (p .few),
         formula-at G rest (endAt w (suc i)) (p .second) (renumbered G (p .middle) (n .2)) (p .fewer),
       )
   formula-at (neg m F) rest i a n h = (
-    one-operand (token 5 0) (formulaTokens F) rest i (formula-subtree (neg m F)) (formula-subtree F) a h,
+    one-operand (token notCode 0) (formulaTokens F) rest i (formula-subtree (neg m F)) (formula-subtree F) a h,
     n .0,
     formula-at F rest (suc i) (a .1) (n .1) (omega arith),
   )
   formula-at (eq m s t) rest i a n h =
-      let p = two-terms (token 6 0) s t rest i (formula-subtree (eq m s t)) a h in
+      let p = two-terms (token eqCode 0) s t rest i (formula-subtree (eq m s t)) a h in
       (p .0, n, p .1)
   formula-at (compare m c s t) rest i a n h =
       let p = two-terms (token (relCode c) 0) s t rest i (formula-subtree (compare m c s t)) a h in
@@ -183,15 +184,15 @@ module _ (w : Words) where
   formula-at (ex l F) rest i a n h =
       let whole = formula-subtree (ex l F) in
       let e = subtree w (formulaTokens F) rest (suc (suc i)) (formula-subtree F) (a .1 .1) .0 in (
-        token-at (token 12 0) (token 42 l ∷ formulaTokens F) rest i (endAt w (suc (suc i))) whole a (omega arith) (omega arith),
-        leaf (token 42 l) (formulaTokens F ++ rest) (suc i) (local-subtree l) (a .1) (omega arith),
+        token-at (token exCode 0) (token localCode l ∷ formulaTokens F) rest i (endAt w (suc (suc i))) whole a (omega arith) (omega arith),
+        leaf (token localCode l) (formulaTokens F ++ rest) (suc i) (local-subtree l) (a .1) (omega arith),
         formula-at F rest (suc (suc i)) (a .1 .1) n (omega arith),
       )
   formula-at (some m l x y F) rest i a n h =
-      let p = range 13 l x y (formulaTokens F) rest i (formula-subtree (some m l x y F)) (formula-subtree F) a h in
+      let p = range someCode l x y (formulaTokens F) rest i (formula-subtree (some m l x y F)) (formula-subtree F) a h in
       let f = formula-at F rest (endAt w (endAt w (suc (suc i)))) (p .body) (renumbered F (p .start) (n .1)) (p .few) in
       (p .head, n .0, p .binds, p .bounds, f)
   formula-at (all m l x y F) rest i a n h =
-      let p = range 14 l x y (formulaTokens F) rest i (formula-subtree (all m l x y F)) (formula-subtree F) a h in
+      let p = range allCode l x y (formulaTokens F) rest i (formula-subtree (all m l x y F)) (formula-subtree F) a h in
       let f = formula-at F rest (endAt w (endAt w (suc (suc i)))) (p .body) (renumbered F (p .start) (n .1)) (p .few) in
       (p .head, n .0, p .binds, p .bounds, f)

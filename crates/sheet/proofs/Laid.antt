@@ -1,5 +1,5 @@
 -- The words of the tokens in the tables: each token's code and operand, and the end of its subtree. Assumes nothing.
-use Prim.Native.Nat.{ℕ, suc, _+_, _-_, _*_, _≤_, _<_}
+use Prim.Native.Nat.{ℕ, suc, _+_, _-_, _≤_, _<_}
 use native.Mathlib.Nat.{add-zero}
 use native.Mathlib.Omega.{arith}
 use mathlib.Core.Path.{_≡_, refl, sym, _∙_, ap, subst}
@@ -8,8 +8,10 @@ use mathlib.Core.List.{List, [], _∷_, _++_}
 use lib.ListN.{length, getD, set, length-set, length-append}
 use lib.Seq.{getD-set-same, getD-set-other}
 use Rattle.tables.specs.Layout.{tokenSlot}
+use Rattle.tables.specs.Codes.{trueCode}
 use Rattle.sheet.specs.declared.Token.{Token}
-use Rattle.sheet.specs.Codes.{token, arity}
+use Rattle.sheet.specs.Codes.{token}
+use Rattle.sheet.specs.Sorts.{arity}
 use Rattle.sheet.specs.Tables.{Words, laidTokens, after, laidEnds}
 use Rattle.sheet.specs.Held.{codeAt, operandAt, endAt}
 use Rattle.sheet.proofs.After.{Subtrees, after-subtree}
@@ -133,7 +135,7 @@ module _ (w : Words) where
 
   first-end : (xs rest : List Token) (i : ℕ) → Subtrees 1 xs → Along (Entry w) i (xs ++ rest) → endAt w i ≡ i + length xs
   unfolding Along after
-  first-end [] rest i s a = let z : _≡_ {A = ℕ} 0 1 = ap length (s (token 1 0 ∷ []) 0) in absurd (omega arith)
+  first-end [] rest i s a = let z : _≡_ {A = ℕ} 0 1 = ap length (s (token trueCode 0 ∷ []) 0) in absurd (omega arith)
   first-end (t ∷ xs) rest i s a =
       let f : after (xs ++ rest) (arity (t .code)) ≡ rest =
       ap (after (xs ++ rest)) (sym (add-zero (arity (t .code)))) ∙ after-subtree (t ∷ xs) rest s in

@@ -6,6 +6,8 @@ pub mod FormulaWord
 pub mod TermWord
 pub mod Dues
 pub mod Turn
+pub mod Ranges
+pub mod CodeOperands
 pub mod Bounds
 -- the numbers of tokens
 pub mod Counted
@@ -28,7 +30,6 @@ pub mod Declares
 -- the formula's line
 pub mod Packed
 pub mod Bits
-pub mod Ranges
 pub mod Entries
 pub mod Opened
 pub mod Faults

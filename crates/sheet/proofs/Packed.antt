@@ -23,6 +23,7 @@ use Rattle.text.specs.declared.Word.{Word as Numbered}
 use Rattle.text.specs.declared.Word.the-variants as word
 use Rattle.text.specs.declared.Decimal.{Decimal}
 use Rattle.text.specs.declared.Decimal.the-variants as read
+use Rattle.tables.specs.Codes.{constantCode, scalarCode, localCode, arrayCode, unknownCode, badConstantCode}
 use Rattle.sheet.specs.declared.Token.{Token}
 use Rattle.sheet.specs.Codes.{token, indexWord, termToken, tokenOf}
 use Rattle.sheet.specs.Packed.{packed, entryCode, keysOf, codesOf, codeIn, indexed}
@@ -236,7 +237,7 @@ module _ (edition : ℕ) where
     pub lex-name : inNumber (getD t 0 0) ≡ false → codeIn t (words edition) ≡ 0 → tokenOf (wordOf edition t) ≡ tokenOf (just (nameOf t))
     lex-name e n = rw (lex-find e, found (words edition) t all-brief, eq-eqb (codeIn t (words edition)) 0 n)
 
-  pub lex-none : (t : Bytes) → length t ≡ 0 → tokenOf (wordOf edition t) ≡ token 64 0
+  pub lex-none : (t : Bytes) → length t ≡ 0 → tokenOf (wordOf edition t) ≡ token unknownCode 0
   unfolding wordOf tokenOf
   lex-none [] h = refl
   lex-none (x ∷ xs) h = absurd (omega arith)
@@ -245,8 +246,8 @@ module _ (edition : ℕ) where
 
 -- the token of a constant's word
 abbrev pub constantToken : Numbered → Token
-constantToken word.Bad = token 65 0
-constantToken (word.Is v) = token 40 v
+constantToken word.Bad = token badConstantCode 0
+constantToken (word.Is v) = token constantCode v
 
 pub constant-token : (o : Option ℤ) → constantToken (worded o) ≡ tokenOf (constantOf o)
 unfolding tokenOf
@@ -259,7 +260,7 @@ constant-token (just z) = go (in32 z)
 
 -- the token of a name, by what was read of its index
 abbrev pub indexToken : ℕ → Decimal → Token
-indexToken c read.Malformed = token 64 0
+indexToken c read.Malformed = token unknownCode 0
 indexToken c (read.Is n) = token c (indexWord n)
 
 pub index-token : (c : ℕ) (o : Option ℕ) → indexToken c (capped o) ≡ indexed c o
@@ -277,9 +278,9 @@ named-index w c h (just n) = h n
 -- a name by its first byte
 abbrev pub nameToken : ℕ → Option ℕ → Token
 nameToken b o =
-    pick (eqb 118 b) (indexed 41 o)
-    (pick (eqb 108 b) (indexed 42 o)
-    (pick (eqb 97 b) (indexed 43 o) (token 64 0)))
+    pick (eqb 118 b) (indexed scalarCode o)
+    (pick (eqb 108 b) (indexed localCode o)
+    (pick (eqb 97 b) (indexed arrayCode o) (token unknownCode 0)))
 
 pub name-token : (t : Bytes) → 0 < length t → tokenOf (just (nameOf t)) ≡ nameToken (getD t 0 0) (natural (drop 1 t))
 unfolding nameOf begins tokenOf
@@ -288,8 +289,8 @@ name-token (b ∷ bs) h = go (eqb 118 b) (eqb 108 b) (eqb 97 b)
   where
     go : (x y z : Bool) →
         tokenOf (just (pick (x && true) (named scalarWord (natural bs)) (pick (y && true) (named localWord (natural bs)) (pick (z && true) (named arrayWord (natural bs)) unknown)))) ≡
-        pick x (indexed 41 (natural bs)) (pick y (indexed 42 (natural bs)) (pick z (indexed 43 (natural bs)) (token 64 0)))
-    go true y z = named-index scalarWord 41 (λ n. refl) (natural bs)
-    go false true z = named-index localWord 42 (λ n. refl) (natural bs)
-    go false false true = named-index arrayWord 43 (λ n. refl) (natural bs)
+        pick x (indexed scalarCode (natural bs)) (pick y (indexed localCode (natural bs)) (pick z (indexed arrayCode (natural bs)) (token unknownCode 0)))
+    go true y z = named-index scalarWord scalarCode (λ n. refl) (natural bs)
+    go false true z = named-index localWord localCode (λ n. refl) (natural bs)
+    go false false true = named-index arrayWord arrayCode (λ n. refl) (natural bs)
     go false false false = refl

@@ -1,5 +1,5 @@
 -- The loop over the formula's tokens: what its variables stand for before a token and behind it, and one turn. Assumes nothing.
-use Prim.Native.Nat.{ℕ, zero, suc, _+_, _*_, _-_, _<_, _≤_}
+use Prim.Native.Nat.{ℕ, zero, suc, _+_, _-_, _<_, _≤_}
 use native.Mathlib.Numerals.{add-one}
 use native.Mathlib.Nat.{zero-add}
 use native.Mathlib.Omega.{arith}
@@ -21,6 +21,7 @@ use Rattle.sheet.specs.declared.stack.Entry.{Entry}
 use Rattle.sheet.specs.declared.formula.Limits.{Limits}
 use Rattle.sheet.specs.Codes.{tokenOf}
 use Rattle.sheet.specs.Reader.{readerAt}
+use Rattle.sheet.specs.Sorts.{formulaSort, termSort}
 use Rattle.sheet.specs.Dues.{Due, dueFormula, dueTerm, dueEx, dueRange}
 use Rattle.sheet.specs.Turn.{room, opens, binds, tokenAt, faultAt, behind, left, leftHere, weights, Fits}
 use Rattle.sheet.specs.Tables.{Words, laidTokens}
@@ -75,7 +76,7 @@ module _ (s : Bytes) (from : ℕ) (l : Limits) (w₀ w : Words) (n count bound a
 -- ---- the start
 
 pub reading-start : (s : Bytes) (from : ℕ) (l : Limits) (w : Words) → from ≤ length s → pathAt ≤ length w →
-    Reading s from l (entered w 0 (entry 0 maxNesting 0)) (entered w 0 (entry 0 maxNesting 0)) 1 0 0 from
+    Reading s from l (entered w 0 (entry formulaSort maxNesting 0)) (entered w 0 (entry formulaSort maxNesting 0)) 1 0 0 from
 unfolding laidTokens Stacked
 reading-start s from l w h k = record {
   locals = [];
@@ -90,7 +91,7 @@ reading-start s from l w h k = record {
   long = refl;
   set = bits-none;
   fits = fits-start;
-  stack = stacked-put w (dueFormula maxNesting []) [] 0 (entry 0 maxNesting 0) refl (omega arith) (record { sort = refl; room = refl; scope = bits-none }) tt;
+  stack = stacked-put w (dueFormula maxNesting []) [] 0 (entry formulaSort maxNesting 0) refl (omega arith) (record { sort = refl; room = refl; scope = bits-none }) tt;
   table = beside-self _;
   rest = λ D g. refl;
 }
@@ -118,7 +119,7 @@ pub record May (e : Entry) (t : Token) (n count : ℕ) : Type 0 where
   pub room : 0 < e .room
   pub low : n - 1 + 3 ≤ maxDues
   pub number : count < maxTokens
-  pub index : 1 < e .sort → t .operand < maxLocals
+  pub index : termSort < e .sort → t .operand < maxLocals
 
 -- the token at a place, with k its refusal
 module _ {s : Bytes} {from : ℕ} {l : Limits} {w₀ w : Words} {n count bound at : ℕ} (i : Reading s from l w₀ w n count bound at)
@@ -247,10 +248,10 @@ module _ {s : Bytes} {from : ℕ} {l : Limits} {w₀ w : Words} {n count bound e
         }
 
 -- the words before the first entry was put
-pub through-start : {s : Bytes} {from : ℕ} {l : Limits} {w₀ w w′ : Words} {n e : ℕ} → w₀ ≡ entered w 0 (entry 0 maxNesting 0) → pathAt ≤ length w →
+pub through-start : {s : Bytes} {from : ℕ} {l : Limits} {w₀ w w′ : Words} {n e : ℕ} → w₀ ≡ entered w 0 (entry formulaSort maxNesting 0) → pathAt ≤ length w →
     Through s from l w₀ w′ n e → Through s from l w w′ n e
 through-start {w = w} q h p =
-    let b = beside-put w 0 (entry 0 maxNesting 0) (omega arith) in
+    let b = beside-put w 0 (entry formulaSort maxNesting 0) (omega arith) in
     record {
       tokens = p .tokens;
       locals = p .locals;

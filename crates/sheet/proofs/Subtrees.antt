@@ -1,6 +1,6 @@
 -- The ends of subtrees, from the last token to the first: the end of a subtree is past its operands, each the end of the one before.
 -- Assumes nothing.
-use Prim.Native.Nat.{ℕ, zero, suc, _+_, _*_, _-_, _<_, _≤_}
+use Prim.Native.Nat.{ℕ, zero, suc, _+_, _-_, _<_, _≤_}
 use native.Mathlib.Nat.{add-zero}
 use native.Mathlib.Omega.{arith}
 use mathlib.Core.Path.{_≡_, refl, sym, ap, _∙_}
@@ -9,61 +9,18 @@ use mathlib.Core.List.{List, [], _∷_}
 use lib.ListN.{length, getD, set, drop, length-set, length-drop, drop-of-length-le}
 use lib.Seq.{drop-cons, drop-drop, getD-set-same, getD-set-other, set-comm}
 use lib.Dec.{ltb}
-use borrow.Author.Tests.{ne-eqb, ltb-true, ltb-false}
+use borrow.Author.Tests.{ltb-true, ltb-false}
 use Rattle.specification.specs.Bytes.{pick}
 use Rattle.tables.specs.Layout.{maxTokens, tokenSlot, pathAt}
 use Rattle.sheet.specs.declared.Token.{Token}
-use Rattle.sheet.specs.Codes.{token, arity}
+use Rattle.sheet.specs.Codes.{token}
+use Rattle.sheet.specs.Sorts.{arity}
 use Rattle.sheet.specs.Tables.{Words, laidTokens, after, laidEnds}
 use Rattle.sheet.specs.Held.{codeAt, operandAt, endAt}
 use Rattle.sheet.specs.Stack.{Beside}
 use Rattle.sheet.specs.Ends.{tokensIn, endIn, EndsAfter, endFrom}
-use Rattle.sheet.proofs.Ranges.{inside, under, over}
 use Rattle.sheet.proofs.After.{after-none, after-add, after-length, after-drop}
 use Rattle.sheet.proofs.Laid.{tokens-other, ends-other}
-
--- ---- arities by ranges of codes
-
-module _ (c : ℕ) where
-  pub arity-first : c < 2 → arity c ≡ 0
-  unfolding arity
-  arity-first h =
-      rw (
-        ne-eqb c 5 (λ q. omega arith),
-        under 2 12 c h,
-        under 13 14 c (omega arith),
-        under 32 36 c (omega arith),
-        ne-eqb c 43 (λ q. omega arith),
-      )
-
-  pub arity-two : (c ≡ 5 → ⊥) → 2 ≤ c → c < 13 → arity c ≡ 2
-  unfolding arity
-  arity-two n l h = rw (ne-eqb c 5 n, inside 2 12 c l (omega arith))
-
-  pub arity-four : 13 ≤ c → c < 15 → arity c ≡ 4
-  unfolding arity
-  arity-four l h = rw (ne-eqb c 5 (λ q. omega arith), over 2 12 c l, inside 13 14 c l (omega arith))
-
-  pub arity-gap : 15 ≤ c → c < 32 → arity c ≡ 0
-  unfolding arity
-  arity-gap l h =
-      rw (
-        ne-eqb c 5 (λ q. omega arith),
-        over 2 12 c (omega arith),
-        over 13 14 c (omega arith),
-        under 32 36 c h,
-        ne-eqb c 43 (λ q. omega arith),
-      )
-
-  pub arity-op : 32 ≤ c → c < 37 → arity c ≡ 2
-  unfolding arity
-  arity-op l h = rw (ne-eqb c 5 (λ q. omega arith), over 2 12 c (omega arith), over 13 14 c (omega arith), inside 32 36 c l (omega arith))
-
-  pub arity-last : (c ≡ 43 → ⊥) → 37 ≤ c → arity c ≡ 0
-  unfolding arity
-  arity-last n l =
-      rw
-      (ne-eqb c 5 (λ q. omega arith), over 2 12 c (omega arith), over 13 14 c (omega arith), over 32 36 c (omega arith), ne-eqb c 43 n)
 
 -- ---- the tokens that stand in the table
 

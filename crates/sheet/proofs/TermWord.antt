@@ -15,10 +15,12 @@ use Rattle.specification.specs.Ast.{Op, add, sub, mul, div, modulo, Term, scala
 use Rattle.specification.specs.Words.{TermWord, constantWord, scalarWord, localWord, arrayWord, opWord, termWord}
 use Rattle.specification.specs.Formula.{Locals, operand, has, bind, binderOf, termOf, term}
 use Rattle.values.specs.Word.{biased}
+use Rattle.tables.specs.Codes.{constantCode, scalarCode, localCode, arrayCode}
 use Rattle.sheet.specs.declared.Token.{Token}
 use Rattle.sheet.specs.Codes.{token, opCode, indexWord, termToken, tokenOf, termTokens}
+use Rattle.sheet.specs.Sorts.{operandsOf}
 use Rattle.sheet.specs.Dues.{Due, dueTerm, dueEx, parse}
-use Rattle.sheet.specs.Turn.{Limited, declared, faultOf, operandsOf, opens, left}
+use Rattle.sheet.specs.Turn.{Limited, declared, faultOf, dueBy, dues, opens, left}
 use Rattle.sheet.proofs.Left.{left-none}
 use Rattle.sheet.proofs.Operands.{judged, admitted, spellTerm, one-due, two-terms}
 
@@ -62,19 +64,19 @@ module _ (D : Declared) (small : Limited D) (k : ℕ) (S : Locals) where
 
   pub term-word : (p : ℕ) (w : TermWord) (r : Reader) →
       andThen spellTerm (termOf D (λ r. term D k S r) S p w r) ≡ admitted D (dueTerm (suc k) S) p (tokenOf (just (termWord w))) r
-  unfolding admitted faultOf declared opens operandsOf tokenOf parse termTokens
-  term-word p (constantWord z) r = sym (left-none D (token 40 (biased z) ∷ []) r)
+  unfolding admitted faultOf declared opens operandsOf dues dueBy tokenOf parse termTokens
+  term-word p (constantWord z) r = sym (left-none D (token constantCode (biased z) ∷ []) r)
   term-word p (scalarWord n) r =
-      declared-index spellTerm p n (D .scalars) (give (scalarAt n)) (λ i. 0) (λ i. left D [] (token 41 i ∷ []) r) r (omega arith)
-      (sym (left-none D (token 41 n ∷ []) r))
+      declared-index spellTerm p n (D .scalars) (give (scalarAt n)) (λ i. 0) (λ i. left D [] (token scalarCode i ∷ []) r) r (omega arith)
+      (sym (left-none D (token scalarCode n ∷ []) r))
   term-word p (localWord l) r =
       declared-index spellTerm p l (D .locals) (require (has l S) 8 p (give (localAt l))) (λ i. pick (has i S) 0 8)
-      (λ i. left D [] (token 42 i ∷ []) r) r (omega arith)
-      (placed-local spellTerm p (has l S) (give (localAt l)) (left D [] (token 42 l ∷ []) r) r (sym (left-none D (token 42 l ∷ []) r)))
+      (λ i. left D [] (token localCode i ∷ []) r) r (omega arith)
+      (placed-local spellTerm p (has l S) (give (localAt l)) (left D [] (token localCode l ∷ []) r) r (sym (left-none D (token localCode l ∷ []) r)))
   term-word p (arrayWord a) r =
       declared-index spellTerm p a (length (D .arrays)) (T >>= λ i. give (elementAt a i)) (λ i. 0)
-      (λ i. left D (dueTerm k S ∷ []) (token 43 i ∷ []) r) r (omega arith)
-      (one-due D (dueTerm k S) (term D k S) termTokens (λ r′. refl) termTokens (token 43 a ∷ []) (elementAt a) (λ t. refl) r)
+      (λ i. left D (dueTerm k S ∷ []) (token arrayCode i ∷ []) r) r (omega arith)
+      (one-due D (dueTerm k S) (term D k S) termTokens (λ r′. refl) termTokens (token arrayCode a ∷ []) (elementAt a) (λ t. refl) r)
   term-word p (opWord add) r = operation add r
   term-word p (opWord sub) r = operation sub r
   term-word p (opWord mul) r = operation mul r
@@ -92,14 +94,14 @@ module _ (D : Declared) (ds : ℕ → List Due) where
   admitLocal p t r = judged (faultOf D (dueEx 0 []) (r .bound) t) p (left D (ds (t .operand)) (t ∷ []) (bindIn r (t .operand)))
 
   module _ (small : Limited D) (κ : ℕ → Parser (List Token))
-      (brings : (l : ℕ) (r : Reader) → κ l r ≡ left D (ds l) (token 42 l ∷ []) r) where
+      (brings : (l : ℕ) (r : Reader) → κ l r ≡ left D (ds l) (token localCode l ∷ []) r) where
     free-local : (p l : ℕ) (r : Reader) →
-        andThen κ (bind p l r) ≡ judged (pick (not (has l (r .bound))) 0 8) p (left D (ds l) (token 42 l ∷ []) (bindIn r l))
+        andThen κ (bind p l r) ≡ judged (pick (not (has l (r .bound))) 0 8) p (left D (ds l) (token localCode l ∷ []) (bindIn r l))
     free-local p l r = go (has l (r .bound))
       where
         go : (b : Bool) →
             andThen κ (pick b (refused 8 p) (found l (bindIn r l))) ≡
-            judged (pick (not b) 0 8) p (left D (ds l) (token 42 l ∷ []) (bindIn r l))
+            judged (pick (not b) 0 8) p (left D (ds l) (token localCode l ∷ []) (bindIn r l))
         go true = refl
         go false = brings l (bindIn r l)
 
@@ -107,7 +109,7 @@ module _ (D : Declared) (ds : ℕ → List Due) where
     unfolding faultOf declared
     binder-word p (localWord l) r =
         declared-index κ p l (D .locals) (bind p l) (λ i. pick (not (has i (r .bound))) 0 8)
-        (λ i. left D (ds i) (token 42 i ∷ []) (bindIn r i)) r (omega arith) (free-local p l r)
+        (λ i. left D (ds i) (token localCode i ∷ []) (bindIn r i)) r (omega arith) (free-local p l r)
     binder-word p (constantWord z) r = refl
     binder-word p (scalarWord n) r = refl
     binder-word p (arrayWord a) r = refl

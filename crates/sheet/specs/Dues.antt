@@ -5,6 +5,7 @@ use mathlib.Core.List.{List, [], _∷_, _++_}
 use Rattle.specification.specs.Parser.{Parser, give, _>>=_}
 use Rattle.specification.specs.Lines.{Declared}
 use Rattle.specification.specs.Formula.{Locals, operand, binder, term, formula}
+use Rattle.tables.specs.Codes.{localCode}
 use Rattle.sheet.specs.declared.Token.{Token}
 use Rattle.sheet.specs.Codes.{token, termTokens, formulaTokens}
 
@@ -23,13 +24,13 @@ module _ (D : Declared) where
   parse (dueEx k S) = do
     l ← binder D k
     F ← operand (formula D k (l ∷ S))
-    give (token 42 l ∷ formulaTokens F)
+    give (token localCode l ∷ formulaTokens F)
   parse (dueRange k S) = do
     l ← binder D k
     a ← operand (term D k S)
     b ← operand (term D k S)
     F ← operand (formula D k (l ∷ S))
-    give (token 42 l ∷ (termTokens a ++ (termTokens b ++ formulaTokens F)))
+    give (token localCode l ∷ (termTokens a ++ (termTokens b ++ formulaTokens F)))
 
   -- each after its space
   unfoldable pub parseAll : List Due → Parser (List Token)

@@ -1,6 +1,6 @@
 -- What the tables hold: which term or formula stands from a token on, the values of cells and locals, and the arrays' first cells. A walk
 -- leans on these and never looks at the sheet's bytes. Meaning is given by recursion on the term or formula. Assumes nothing.
-use Prim.Native.Nat.{ℕ, suc, _+_, _*_, _<_, _≤_, max}
+use Prim.Native.Nat.{ℕ, suc, _<_, _≤_, max}
 use mathlib.Core.Path.{_≡_}
 use lib.ListN.{getD}
 use Rattle.specification.specs.Lines.{Declared, firstOf}
@@ -10,6 +10,7 @@ use Rattle.specification.specs.Value.{Slot, empty, full, Valuation}
 use Rattle.values.specs.Word.{biased}
 use Rattle.tables.specs.Layout.{maxTokens, maxCells, maxLocals, maxArrays, maxNesting, cellSlot, localSlot, firstSlot}
 pub use Rattle.tables.specs.Layout.{codeAt, operandAt, endAt}
+use Rattle.tables.specs.Codes.{trueCode, andCode, orCode, impCode, notCode, eqCode, exCode, someCode, allCode, constantCode, scalarCode, localCode, arrayCode}
 use Rattle.sheet.specs.Codes.{relCode, opCode}
 use Rattle.sheet.specs.Tables.{Words}
 
@@ -24,10 +25,10 @@ pub record TokenAt (w : Words) (i k e : ℕ) : Type 0 where
 
 -- the term t stands from token i on
 abbrev pub TermAt : Words → ℕ → Term → Type 0
-TermAt w i (constant z) = TokenAt w i 40 (suc i) × (operandAt w i ≡ biased z)
-TermAt w i (scalarAt n) = TokenAt w i 41 (suc i) × (operandAt w i ≡ n)
-TermAt w i (localAt l) = TokenAt w i 42 (suc i) × (operandAt w i ≡ l)
-TermAt w i (elementAt a t) = TokenAt w i 43 (endAt w (suc i)) × (operandAt w i ≡ a) × TermAt w (suc i) t
+TermAt w i (constant z) = TokenAt w i constantCode (suc i) × (operandAt w i ≡ biased z)
+TermAt w i (scalarAt n) = TokenAt w i scalarCode (suc i) × (operandAt w i ≡ n)
+TermAt w i (localAt l) = TokenAt w i localCode (suc i) × (operandAt w i ≡ l)
+TermAt w i (elementAt a t) = TokenAt w i arrayCode (endAt w (suc i)) × (operandAt w i ≡ a) × TermAt w (suc i) t
 TermAt w i (apply o s t) = TokenAt w i (opCode o) (endAt w (endAt w (suc i))) × TermAt w (suc i) s × TermAt w (endAt w (suc i)) t
 
 -- two terms one after the other, from token i up to token e
@@ -36,26 +37,26 @@ TermsAt w i e s t = TermAt w i s × TermAt w (endAt w i) t × (endAt w (endAt w 
 
 -- the local l stands at token i
 abbrev pub LocalAt : Words → ℕ → ℕ → Type 0
-LocalAt w i l = TokenAt w i 42 (suc i) × (operandAt w i ≡ l)
+LocalAt w i l = TokenAt w i localCode (suc i) × (operandAt w i ≡ l)
 
 -- the formula F stands from token i on, and carries the numbers of its tokens
 abbrev pub FormulaAt : Words → ℕ → Formula → Type 0
-FormulaAt w i truth = TokenAt w i 1 (suc i)
-FormulaAt w i (and F G) = TokenAt w i 2 (endAt w (endAt w (suc i))) × FormulaAt w (suc i) F × FormulaAt w (endAt w (suc i)) G
-FormulaAt w i (or F G) = TokenAt w i 3 (endAt w (endAt w (suc i))) × FormulaAt w (suc i) F × FormulaAt w (endAt w (suc i)) G
-FormulaAt w i (imp n F G) = TokenAt w i 4 (endAt w (endAt w (suc i))) × (n ≡ i) × FormulaAt w (suc i) F × FormulaAt w (endAt w (suc i)) G
-FormulaAt w i (neg n F) = TokenAt w i 5 (endAt w (suc i)) × (n ≡ i) × FormulaAt w (suc i) F
-FormulaAt w i (eq n s t) = TokenAt w i 6 (endAt w (endAt w (suc i))) × (n ≡ i) × TermsAt w (suc i) (endAt w i) s t
+FormulaAt w i truth = TokenAt w i trueCode (suc i)
+FormulaAt w i (and F G) = TokenAt w i andCode (endAt w (endAt w (suc i))) × FormulaAt w (suc i) F × FormulaAt w (endAt w (suc i)) G
+FormulaAt w i (or F G) = TokenAt w i orCode (endAt w (endAt w (suc i))) × FormulaAt w (suc i) F × FormulaAt w (endAt w (suc i)) G
+FormulaAt w i (imp n F G) = TokenAt w i impCode (endAt w (endAt w (suc i))) × (n ≡ i) × FormulaAt w (suc i) F × FormulaAt w (endAt w (suc i)) G
+FormulaAt w i (neg n F) = TokenAt w i notCode (endAt w (suc i)) × (n ≡ i) × FormulaAt w (suc i) F
+FormulaAt w i (eq n s t) = TokenAt w i eqCode (endAt w (endAt w (suc i))) × (n ≡ i) × TermsAt w (suc i) (endAt w i) s t
 FormulaAt w i (compare n r s t) = TokenAt w i (relCode r) (endAt w (endAt w (suc i))) × (n ≡ i) × TermsAt w (suc i) (endAt w i) s t
-FormulaAt w i (ex l F) = TokenAt w i 12 (endAt w (suc (suc i))) × LocalAt w (suc i) l × FormulaAt w (suc (suc i)) F
+FormulaAt w i (ex l F) = TokenAt w i exCode (endAt w (suc (suc i))) × LocalAt w (suc i) l × FormulaAt w (suc (suc i)) F
 FormulaAt w i (some n l a b F) =
-    TokenAt w i 13 (endAt w (endAt w (endAt w (suc (suc i)))))
+    TokenAt w i someCode (endAt w (endAt w (endAt w (suc (suc i)))))
     × (n ≡ i)
     × LocalAt w (suc i) l
     × TermsAt w (suc (suc i)) (endAt w (endAt w (suc (suc i)))) a b
     × FormulaAt w (endAt w (endAt w (suc (suc i)))) F
 FormulaAt w i (all n l a b F) =
-    TokenAt w i 14 (endAt w (endAt w (endAt w (suc (suc i)))))
+    TokenAt w i allCode (endAt w (endAt w (endAt w (suc (suc i)))))
     × (n ≡ i)
     × LocalAt w (suc i) l
     × TermsAt w (suc (suc i)) (endAt w (endAt w (suc (suc i)))) a b

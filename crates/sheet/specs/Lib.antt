@@ -1,5 +1,6 @@
 -- What the contracts of the reader cite: where the tables stand, and what they hold of a sheet.
 pub mod Codes
+pub mod Sorts
 pub mod Tables
 pub mod Reader
 pub mod Dues

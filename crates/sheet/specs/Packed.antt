@@ -5,6 +5,7 @@ use mathlib.Core.List.{List, [], _∷_, map}
 use mathlib.Core.Option.{Option, none, some as just}
 use Rattle.specification.specs.Bytes.{Bytes, pick, same}
 use Rattle.specification.specs.Words.{Entry}
+use Rattle.tables.specs.Codes.{unknownCode}
 use Rattle.sheet.specs.declared.Token.{Token}
 use Rattle.sheet.specs.Codes.{token, indexWord, tokenOf}
 
@@ -29,5 +30,5 @@ codeIn t (e ∷ es) = let r = codeIn t es in pick (same t (e .text)) (entryCode 
 
 -- a name's token, by the code of its letter and its index
 abbrev pub indexed : ℕ → Option ℕ → Token
-indexed c none = token 64 0
+indexed c none = token unknownCode 0
 indexed c (just n) = token c (indexWord n)

@@ -4,14 +4,12 @@ use Prim.Native.Nat.{ℕ, _+_, _<_, _≤_}
 use mathlib.Core.Path.{_≡_}
 use mathlib.Core.List.{List, [], _∷_, _++_}
 use lib.ListN.{length, getD, set}
-use lib.Dec.{eqb}
-use Rattle.specification.specs.Bytes.{pick, between}
 use Rattle.specification.specs.Formula.{Locals, has}
 use Rattle.tables.specs.Layout.{maxLocals, dueSlot, duesAt, duesEnd}
 use Rattle.tables.specs.Locals.{inSet}
 use Rattle.sheet.specs.declared.Token.{Token}
 use Rattle.sheet.specs.declared.stack.Entry.{Entry}
-use Rattle.sheet.specs.declared.stack.Operands.{Operands}
+use Rattle.sheet.specs.Sorts.{formulaSort, termSort, exSort, rangeSort}
 use Rattle.sheet.specs.Dues.{Due, dueFormula, dueTerm, dueEx, dueRange}
 use Rattle.sheet.specs.Turn.{room, opens}
 use Rattle.sheet.specs.Tables.{Words}
@@ -24,12 +22,11 @@ pub record Bits (m : ℕ) (S : Locals) : Type 0 where
 
 -- ---- entries
 
--- the sorts: 0 a formula, 1 a term, 2 the local of `ex`, 3 the local of `some` or `all`
 abbrev pub sortOf : Due → ℕ
-sortOf (dueFormula k S) = 0
-sortOf (dueTerm k S) = 1
-sortOf (dueEx k S) = 2
-sortOf (dueRange k S) = 3
+sortOf (dueFormula k S) = formulaSort
+sortOf (dueTerm k S) = termSort
+sortOf (dueEx k S) = exSort
+sortOf (dueRange k S) = rangeSort
 
 abbrev pub scopeOf : Due → Locals
 scopeOf (dueFormula k S) = S
@@ -68,20 +65,6 @@ pub record Beside (w w′ : Words) : Type 0 where
   pub above : (j : ℕ) → duesEnd ≤ j → getD w′ j 0 ≡ getD w j 0
 
 -- ---- what a token makes due
-
--- the operands of a code are of one sort
-abbrev pub operands : ℕ → ℕ → Operands
-operands s n = record { sort = s; count = n }
-
-unfoldable pub operandsBy : ℕ → Operands
-operandsBy c =
-    pick (eqb c 5) (operands 0 1)
-    (pick (between 2 4 c) (operands 0 2)
-    (pick (between 6 11 c) (operands 1 2)
-    (pick (eqb c 12) (operands 2 1)
-    (pick (between 13 14 c) (operands 3 1)
-    (pick (between 32 36 c) (operands 1 2)
-    (pick (eqb c 43) (operands 1 1) (operands 0 0)))))))
 
 -- above n entries, the r entries of w′ have on top what a token makes due where e was due
 pub record Opened (w w′ : Words) (n : ℕ) (e : Entry) (t : Token) (r : ℕ) : Type 0 where

@@ -6,7 +6,7 @@
 --   5201  387 words for what is due while the formula is read, zero afterwards
 --   5588  spare, zero, up to 6144; and the words of the path, zero
 -- Assumes nothing.
-use Prim.Native.Nat.{ℕ, zero, suc, _+_, _-_, _*_}
+use Prim.Native.Nat.{ℕ, zero, suc, _+_, _-_}
 use mathlib.Core.List.{List, [], _∷_}
 use lib.ListN.{length, set, replicate}
 use Rattle.specification.specs.Lines.{Declared, firstOf}
@@ -16,7 +16,8 @@ use Rattle.values.specs.Word.{biased}
 use Rattle.tables.specs.Layout.{maxArrays, cellSlot, firstSlot, tokenSlot}
 pub use Rattle.tables.specs.Layout.{Words}
 use Rattle.sheet.specs.declared.Token.{Token}
-use Rattle.sheet.specs.Codes.{arity, formulaTokens}
+use Rattle.sheet.specs.Codes.{formulaTokens}
+use Rattle.sheet.specs.Sorts.{arity}
 
 -- ---- arrays
 

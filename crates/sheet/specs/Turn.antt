@@ -3,7 +3,7 @@
 use Prim.Native.Nat.{ℕ, suc, pred, _+_, _*_, _≤_}
 use mathlib.Core.Bool.{Bool, true, not}
 use mathlib.Core.List.{List, [], _∷_, _++_}
-use lib.ListN.{length, drop}
+use lib.ListN.{length, drop, replicate}
 use lib.Dec.{ltb, eqb}
 use Rattle.specification.specs.Bytes.{Bytes, pick, between, inToken, run}
 use Rattle.specification.specs.Parser.{Reader, Parser, give, _>>=_}
@@ -11,8 +11,11 @@ use Rattle.specification.specs.Lines.{Declared}
 use Rattle.specification.specs.Words.{wordOf}
 use Rattle.specification.specs.Formula.{Locals, has}
 use Rattle.tables.specs.Layout.{maxTokens, maxScalars, maxLocals, maxArrays, maxDues}
+use Rattle.tables.specs.Codes.{firstFormula, lastFormula, firstTerm, lastTerm, scalarCode, localCode, arrayCode, badConstantCode}
 use Rattle.sheet.specs.declared.Token.{Token}
 use Rattle.sheet.specs.Codes.{tokenOf}
+use Rattle.sheet.specs.declared.sorts.Operands.{Operands}
+use Rattle.sheet.specs.Sorts.{formulaSort, termSort, exSort, operandsOf}
 use Rattle.sheet.specs.Dues.{Due, dueFormula, dueTerm, dueEx, dueRange, parse, parseAll}
 
 -- document 01's limits on what is declared
@@ -32,16 +35,16 @@ room (dueRange k S) = k
 
 -- the code is of the sort that is due
 abbrev pub suits : Due → ℕ → Bool
-suits (dueFormula k S) c = between 1 31 c
-suits (dueTerm k S) c = between 32 63 c
-suits (dueEx k S) c = eqb c 42
-suits (dueRange k S) c = eqb c 42
+suits (dueFormula k S) c = between firstFormula lastFormula c
+suits (dueTerm k S) c = between firstTerm lastTerm c
+suits (dueEx k S) c = eqb c localCode
+suits (dueRange k S) c = eqb c localCode
 
 unfoldable pub declared : Declared → Token → Bool
 declared D t =
-    pick (eqb (t .code) 41) (ltb (t .operand) (D .scalars))
-    (pick (eqb (t .code) 42) (ltb (t .operand) (D .locals))
-    (pick (eqb (t .code) 43) (ltb (t .operand) (length (D .arrays))) true))
+    pick (eqb (t .code) scalarCode) (ltb (t .operand) (D .scalars))
+    (pick (eqb (t .code) localCode) (ltb (t .operand) (D .locals))
+    (pick (eqb (t .code) arrayCode) (ltb (t .operand) (length (D .arrays))) true))
 
 -- a local as a term is in scope; a local at its binder has no binder yet
 abbrev pub placed : Due → Locals → ℕ → Bool
@@ -53,30 +56,26 @@ placed (dueRange k S) B l = not (has l B)
 -- the number of the token's refusal; 0 where it may stand
 unfoldable pub faultOf : Declared → Due → Locals → Token → ℕ
 faultOf D d B t =
-    pick (eqb (t .code) 65) 4
+    pick (eqb (t .code) badConstantCode) 4
     (pick (suits d (t .code))
     (pick (declared D t)
-    (pick (eqb (t .code) 42) (pick (placed d B (t .operand)) 0 8) 0)
+    (pick (eqb (t .code) localCode) (pick (placed d B (t .operand)) 0 8) 0)
     7)
     6)
 
 -- ---- what a token makes due, and binds
 
--- the operands of a code, by sort: k is how much deeper nesting may go at them
-unfoldable pub operandsOf : ℕ → Locals → ℕ → List Due
-operandsOf k S c =
-    pick (eqb c 5) (dueFormula k S ∷ [])
-    (pick (between 2 4 c) (dueFormula k S ∷ dueFormula k S ∷ [])
-    (pick (between 6 11 c) (dueTerm k S ∷ dueTerm k S ∷ [])
-    (pick (eqb c 12) (dueEx k S ∷ [])
-    (pick (between 13 14 c) (dueRange k S ∷ [])
-    (pick (between 32 36 c) (dueTerm k S ∷ dueTerm k S ∷ [])
-    (pick (eqb c 43) (dueTerm k S ∷ []) []))))))
+unfoldable pub dueBy : ℕ → ℕ → Locals → Due
+dueBy s k S = pick (eqb s formulaSort) (dueFormula k S) (pick (eqb s termSort) (dueTerm k S) (pick (eqb s exSort) (dueEx k S) (dueRange k S)))
+
+-- k is how much deeper nesting may go at them
+unfoldable pub dues : ℕ → Locals → Operands → List Due
+dues k S o = replicate (o .count) (dueBy (o .sort) k S)
 
 -- a binder's local makes due the other operands of the binder, beside it
 unfoldable pub opens : Due → Token → List Due
-opens (dueFormula k S) t = operandsOf (pred k) S (t .code)
-opens (dueTerm k S) t = operandsOf (pred k) S (t .code)
+opens (dueFormula k S) t = dues (pred k) S (operandsOf (t .code))
+opens (dueTerm k S) t = dues (pred k) S (operandsOf (t .code))
 opens (dueEx k S) t = dueFormula k (t .operand ∷ S) ∷ []
 opens (dueRange k S) t = dueTerm k S ∷ dueTerm k S ∷ dueFormula k (t .operand ∷ S) ∷ []
 

@@ -3,23 +3,9 @@ ghost use mathlib.Core.Path.{_≡_};
 ghost use Prim.Native.Nat.{_≤_, _<_};
 ghost use lib.ListN.{length};
 ghost use Rattle.tables.specs.Layout.{maxTokens, pathAt};
-ghost use Rattle.sheet.specs.Codes.{arity};
 ghost use Rattle.sheet.specs.Tables.{laidEnds};
 ghost use Rattle.sheet.specs.Ends.{tokensIn, endIn, EndsAfter, endFrom};
-
-// How many operands a code has; a binder's local is one of them.
-fn arity(code: u32) -> u32
-    ensures { λ r. ⌜ r ≡ arity code ⌝ }
-{
-    match code {
-        5 => 1,
-        2..=12 => 2,
-        13..=14 => 4,
-        32..=36 => 2,
-        43 => 1,
-        _ => 0,
-    }
-}
+use crate::sorts;
 
 // The end of token e's subtree from the table of n tokens, n behind the last.
 fn end(w: &[u32], n: u32, e: u32) -> u32
@@ -38,7 +24,7 @@ fn subtree(w: &[u32], n: u32, i: u32) -> u32
     ensures { λ r. ⌜ r ≡ endIn (tokensIn (now (w .entry)) 0 n) i ⌝ }
 {
     let mut e = i + 1;
-    let mut k = arity(tables::code(w, i));
+    let mut k = sorts::arity(tables::code(w, i));
     while 0 < k {
         e = end(w, n, e);
         k -= 1;

@@ -6,6 +6,7 @@ ghost use Rattle.specification.specs.Bytes.{between};
 ghost use Rattle.specification.specs.Lines.{Declared};
 ghost use Rattle.specification.specs.Formula.{Locals};
 ghost use Rattle.tables.specs.Layout.{maxLocals, pathAt};
+ghost use Rattle.sheet.specs.Sorts.{termSort};
 ghost use Rattle.sheet.specs.Dues.{Due};
 ghost use Rattle.sheet.specs.Turn.{suits, declared, placed, faultOf};
 ghost use Rattle.sheet.specs.Stack.{Bits, sortOf, Means};
@@ -13,9 +14,11 @@ ghost use Rattle.sheet.specs.FormulaLine.{Small, Counts, counted, Refuse
 use crate::Token;
 use crate::ends;
 use crate::lines;
+use crate::sorts;
 use crate::stack;
 use crate::stack::Entry;
 use crate::words;
+use tables::codes;
 
 // What is declared: the edition, and how many scalars, locals and arrays there are.
 pub(crate) struct Limits {
@@ -53,9 +56,9 @@ fn suits(sort: u32, code: u32) -> bool
     ensures { λ r. ⌜ ((d : Due) → sort ≡ sortOf d → r ≡ suits d code) ⌝ }
 {
     match sort {
-        0 => between(1, 31, code),
-        1 => between(32, 63, code),
-        _ => code == 42,
+        sorts::FORMULA => between(codes::FIRST_FORMULA, codes::LAST_FORMULA, code),
+        sorts::TERM => between(codes::FIRST_TERM, codes::LAST_TERM, code),
+        _ => code == codes::LOCAL,
     }
 }
 
@@ -64,9 +67,9 @@ fn is_declared(d: Limits, t: Token) -> bool
 {
     let code = t.code;
     match code {
-        41 => t.operand < d.scalars,
-        42 => t.operand < d.locals,
-        43 => t.operand < d.arrays,
+        codes::SCALAR => t.operand < d.scalars,
+        codes::LOCAL => t.operand < d.locals,
+        codes::ARRAY => t.operand < d.arrays,
         _ => true,
     }
 }
@@ -78,8 +81,8 @@ fn in_place(e: Entry, bound: u32, l: u32) -> bool
 {
     let sort = e.sort;
     match sort {
-        0 => true,
-        1 => tables::locals::has(e.scope, l),
+        sorts::FORMULA => true,
+        sorts::TERM => tables::locals::has(e.scope, l),
         _ => !tables::locals::has(bound, l),
     }
 }
@@ -89,7 +92,7 @@ fn fault(d: Limits, e: Entry, bound: u32, t: Token) -> u32
     requires { ⌜ d .locals ≤ maxLocals ⌝ }
     ensures { λ r. ⌜ ((du : Due) (B : Locals) → Means e du → Bits bound B → r ≡ faultOf (counted d) du B t) ⌝ }
 {
-    if t.code == 65 {
+    if t.code == codes::BAD_CONSTANT {
         return 4;
     }
     if !suits(e.sort, t.code) {
@@ -98,7 +101,7 @@ fn fault(d: Limits, e: Entry, bound: u32, t: Token) -> u32
     if !is_declared(d, t) {
         return 7;
     }
-    if t.code != 42 {
+    if t.code != codes::LOCAL {
         return 0;
     }
     if in_place(e, bound, t.operand) {
@@ -123,10 +126,10 @@ fn refusal(d: Limits, e: Entry, bound: u32, count: u32, t: Token) -> u32
 
 // The locals that have a binder after a token.
 fn bound_after(e: Entry, t: Token, bound: u32) -> u32
-    requires { ⌜ (1 < e .sort → t .operand < maxLocals) ⌝ }
+    requires { ⌜ (termSort < e .sort → t .operand < maxLocals) ⌝ }
     ensures { λ r. ⌜ Binds e t bound r ⌝ }
 {
-    if e.sort <= 1 {
+    if e.sort <= sorts::TERM {
         return bound;
     }
     tables::locals::with(bound, t.operand)
@@ -143,7 +146,7 @@ fn scan(s: &[u8], from: usize, d: Limits, w: &mut [u32]) -> Scanned
         w,
         0,
         Entry {
-            sort: 0,
+            sort: sorts::FORMULA,
             room: tables::MAX_NESTING,
             scope: 0,
         },

@@ -3,21 +3,16 @@ ghost use mathlib.Core.Path.{_≡_};
 ghost use Prim.Native.Nat.{_+_, _≤_, _<_};
 ghost use lib.ListN.{length};
 ghost use Rattle.tables.specs.Layout.{maxLocals, maxDues, pathAt};
-ghost use Rattle.sheet.specs.Stack.{entryAt, entered, operandsBy, Opened};
+ghost use Rattle.sheet.specs.Sorts.{termSort};
+ghost use Rattle.sheet.specs.Stack.{entryAt, entered, Opened};
 use crate::Token;
+use crate::sorts;
 
-// What is due: its sort (0 a formula, 1 a term, 2 the local of `ex`, 3 the local of `some` or `all`), how much deeper nesting may go, and
-// the locals in scope.
+// What is due: its sort, how much deeper nesting may go, and the locals in scope.
 pub(crate) struct Entry {
     pub sort: u32,
     pub room: u32,
     pub scope: u32,
-}
-
-// The operands of a code: their sort, and how many there are.
-pub(crate) struct Operands {
-    pub sort: u32,
-    pub count: u32,
 }
 
 // ---- the stack
@@ -47,27 +42,12 @@ pub(crate) fn put(w: &mut [u32], i: usize, e: Entry)
 
 // ---- what a token makes due
 
-fn operands_of(code: u32) -> Operands
-    ensures { λ r. ⌜ r ≡ operandsBy code ⌝ }
-{
-    match code {
-        5 => Operands { sort: 0, count: 1 },
-        2..=4 => Operands { sort: 0, count: 2 },
-        6..=11 => Operands { sort: 1, count: 2 },
-        12 => Operands { sort: 2, count: 1 },
-        13..=14 => Operands { sort: 3, count: 1 },
-        32..=36 => Operands { sort: 1, count: 2 },
-        43 => Operands { sort: 1, count: 1 },
-        _ => Operands { sort: 0, count: 0 },
-    }
-}
-
 // The operands of a token where a formula or a term is due, put above n entries: how many there are then.
 fn push_operands(w: &mut [u32], n: usize, e: Entry, t: Token) -> usize
-    requires { ⌜ (n + 3 ≤ maxDues) × (pathAt ≤ length (now w)) × (0 < e .room) × (e .sort ≤ 1) ⌝ }
+    requires { ⌜ (n + 3 ≤ maxDues) × (pathAt ≤ length (now w)) × (0 < e .room) × (e .sort ≤ termSort) ⌝ }
     ensures { λ r. ⌜ Opened (now (w .entry)) (now (w .exit)) n e t r ⌝ }
 {
-    let o = operands_of(t.code);
+    let o = sorts::operands_of(t.code);
     if o.count == 0 {
         return n;
     }
@@ -86,23 +66,23 @@ fn push_operands(w: &mut [u32], n: usize, e: Entry, t: Token) -> usize
 
 // What a token makes due where an entry was due, put above n entries: how many there are then. A binder's formula lies below its bounds.
 pub(crate) fn push(w: &mut [u32], n: usize, e: Entry, t: Token) -> usize
-    requires { ⌜ (n + 3 ≤ maxDues) × (pathAt ≤ length (now w)) × (0 < e .room) × (1 < e .sort → t .operand < maxLocals) ⌝ }
+    requires { ⌜ (n + 3 ≤ maxDues) × (pathAt ≤ length (now w)) × (0 < e .room) × (termSort < e .sort → t .operand < maxLocals) ⌝ }
     ensures { λ r. ⌜ Opened (now (w .entry)) (now (w .exit)) n e t r ⌝ }
 {
-    if e.sort <= 1 {
+    if e.sort <= sorts::TERM {
         return push_operands(w, n, e, t);
     }
     let f = Entry {
-        sort: 0,
+        sort: sorts::FORMULA,
         room: e.room,
         scope: tables::locals::with(e.scope, t.operand),
     };
     put(w, n, f);
-    if e.sort == 2 {
+    if e.sort == sorts::EX_LOCAL {
         return n + 1;
     }
     let x = Entry {
-        sort: 1,
+        sort: sorts::TERM,
         room: e.room,
         scope: e.scope,
     };

@@ -9,6 +9,7 @@ ghost use Rattle.specification.specs.Words.{words, nameOf, constantOf, wordOf};
 ghost use Rattle.sheet.specs.Codes.{indexWord, tokenOf};
 ghost use Rattle.sheet.specs.Packed.{packed, keysOf, codesOf, codeIn, indexed};
 use crate::Token;
+use tables::codes;
 use text::Decimal;
 use text::Word;
 
@@ -40,25 +41,25 @@ const KEYS: [u64; 19] = [
 
 // Their codes.
 const CODES: [u32; 19] = [
-    1,
-    2,
-    3,
-    4,
-    5,
-    6,
-    7,
-    8,
-    9,
-    10,
-    11,
-    12,
-    13,
-    14,
-    32,
-    33,
-    34,
-    35,
-    36,
+    codes::TRUE,
+    codes::AND,
+    codes::OR,
+    codes::IMP,
+    codes::NOT,
+    codes::EQ,
+    codes::NE,
+    codes::LT,
+    codes::LE,
+    codes::GT,
+    codes::GE,
+    codes::EX,
+    codes::SOME,
+    codes::ALL,
+    codes::ADD,
+    codes::SUB,
+    codes::MUL,
+    codes::DIV,
+    codes::MOD,
 ];
 
 fn key(i: usize, edition: u32) -> u64
@@ -123,11 +124,11 @@ fn constant(t: &[u8]) -> Token
 {
     match text::integer(t) {
         Word::Bad => Token {
-            code: 65,
+            code: codes::BAD_CONSTANT,
             operand: 0,
         },
         Word::Is(v) => Token {
-            code: 40,
+            code: codes::CONSTANT,
             operand: v,
         },
     }
@@ -150,7 +151,7 @@ fn index(code: u32, t: &[u8]) -> Token
 {
     match text::natural(&t[1..]) {
         Decimal::Malformed => Token {
-            code: 64,
+            code: codes::UNKNOWN,
             operand: 0,
         },
         Decimal::Is(n) => Token {
@@ -166,16 +167,16 @@ fn name(t: &[u8]) -> Token
 {
     let b = t[0];
     if b == 118 {
-        return index(41, t);
+        return index(codes::SCALAR, t);
     }
     if b == 108 {
-        return index(42, t);
+        return index(codes::LOCAL, t);
     }
     if b == 97 {
-        return index(43, t);
+        return index(codes::ARRAY, t);
     }
     Token {
-        code: 64,
+        code: codes::UNKNOWN,
         operand: 0,
     }
 }
@@ -186,7 +187,7 @@ pub(crate) fn lex(t: &[u8], edition: u32) -> Token
 {
     if t.len() == 0 {
         return Token {
-            code: 64,
+            code: codes::UNKNOWN,
             operand: 0,
         };
     }

@@ -1,7 +1,7 @@
 -- Past each operand; the invariant is `Passing`. Assumes nothing.
 use native.Mathlib.Omega.{arith}
 use mathlib.Core.Path.{_≡_, _∙_, ap}
-use Rattle.sheet.specs.Codes.{arity}
+use Rattle.sheet.specs.Sorts.{arity}
 use Rattle.sheet.specs.Ends.{tokensIn}
 use Rattle.sheet.proofs.Subtrees.{Passing, passing-first, passing-more, passing-end}
 use borrow.Author.Needs.{needs}

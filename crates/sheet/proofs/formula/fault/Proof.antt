@@ -2,6 +2,7 @@
 use native.Mathlib.Omega.{arith}
 use mathlib.Core.Path.{_∙_, sym}
 use borrow.Author.Tests.{eq-eqb, ne-eqb, not-true, not-false}
+use Rattle.tables.specs.Codes.{localCode, badConstantCode}
 use Rattle.sheet.specs.Turn.{faultOf}
 use Rattle.sheet.proofs.Faults.{declared-local}
 use borrow.Author.Needs.{needs}
@@ -10,27 +11,27 @@ use Rattle.sheet.proofs.formula.fault.Tie as tie
 
 returns : tie.Need-returns
 unfolding faultOf
-returns c = λ d B m b. rw (eq-eqb _ 65 (c .if1 .taken))
+returns c = λ d B m b. rw (eq-eqb _ badConstantCode (c .if1 .taken))
 
 suits-requires : tie.Need-suits-requires
 suits-requires c κs = search needs
 
 returns-2 : tie.Need-returns-2
 unfolding faultOf
-returns-2 c = λ d B m b. rw (ne-eqb _ 65 (c .before .before .if1 .left), sym ((c .before .suits .ensures) d (m .sort)) ∙ not-true _ (c .if2 .taken))
+returns-2 c = λ d B m b. rw (ne-eqb _ badConstantCode (c .before .before .if1 .left), sym ((c .before .suits .ensures) d (m .sort)) ∙ not-true _ (c .if2 .taken))
 
 is-declared-requires : tie.Need-is-declared-requires
 is-declared-requires c κs = search needs
 
 returns-3 : tie.Need-returns-3
 unfolding faultOf
-returns-3 c = λ d B m b. rw (ne-eqb _ 65 (c .before .before .before .before .if1 .left), sym ((c .before .before .before .suits .ensures) d (m .sort)) ∙ not-false _ (c .before .before .if2 .left), sym (c .before .is-declared .ensures) ∙ not-true _ (c .if3 .taken))
+returns-3 c = λ d B m b. rw (ne-eqb _ badConstantCode (c .before .before .before .before .if1 .left), sym ((c .before .before .before .suits .ensures) d (m .sort)) ∙ not-false _ (c .before .before .if2 .left), sym (c .before .is-declared .ensures) ∙ not-true _ (c .if3 .taken))
 
 returns-4 : tie.Need-returns-4
 unfolding faultOf
 returns-4 c =
     let mid = c .before .before .before .before .before in
-    λ d B m b. rw (ne-eqb _ 65 (mid .before .if1 .left), sym ((mid .suits .ensures) d (m .sort)) ∙ not-false _ (c .before .before .before .before .if2 .left), sym (c .before .before .before .is-declared .ensures) ∙ not-false _ (c .before .before .if3 .left), ne-eqb _ 42 (c .if4 .taken))
+    λ d B m b. rw (ne-eqb _ badConstantCode (mid .before .if1 .left), sym ((mid .suits .ensures) d (m .sort)) ∙ not-false _ (c .before .before .before .before .if2 .left), sym (c .before .before .before .is-declared .ensures) ∙ not-false _ (c .before .before .if3 .left), ne-eqb _ localCode (c .if4 .taken))
 
 in-place-requires : tie.Need-in-place-requires
 in-place-requires c κs =
@@ -42,13 +43,13 @@ returns-5 : tie.Need-returns-5
 unfolding faultOf
 returns-5 c =
     let mid = c .before .before .before .before .before in
-    λ d B m b. rw (ne-eqb _ 65 (mid .before .before .before .if1 .left), sym ((mid .before .before .suits .ensures) d (m .sort)) ∙ not-false _ (mid .before .if2 .left), sym (mid .is-declared .ensures) ∙ not-false _ (c .before .before .before .before .if3 .left), eq-eqb _ 42 (c .before .before .if4 .left), sym ((c .before .in-place .ensures) d B m b) ∙ (c .if5 .taken))
+    λ d B m b. rw (ne-eqb _ badConstantCode (mid .before .before .before .if1 .left), sym ((mid .before .before .suits .ensures) d (m .sort)) ∙ not-false _ (mid .before .if2 .left), sym (mid .is-declared .ensures) ∙ not-false _ (c .before .before .before .before .if3 .left), eq-eqb _ localCode (c .before .before .if4 .left), sym ((c .before .in-place .ensures) d B m b) ∙ (c .if5 .taken))
 
 returns-6 : tie.Need-returns-6
 unfolding faultOf
 returns-6 c =
     let mid = c .before .before .before .before .before in
-    λ d B m b. rw (ne-eqb _ 65 (mid .before .before .before .if1 .left), sym ((mid .before .before .suits .ensures) d (m .sort)) ∙ not-false _ (mid .before .if2 .left), sym (mid .is-declared .ensures) ∙ not-false _ (c .before .before .before .before .if3 .left), eq-eqb _ 42 (c .before .before .if4 .left), sym ((c .before .in-place .ensures) d B m b) ∙ (c .if5 .left))
+    λ d B m b. rw (ne-eqb _ badConstantCode (mid .before .before .before .if1 .left), sym ((mid .before .before .suits .ensures) d (m .sort)) ∙ not-false _ (mid .before .if2 .left), sym (mid .is-declared .ensures) ∙ not-false _ (c .before .before .before .before .if3 .left), eq-eqb _ localCode (c .before .before .if4 .left), sym ((c .before .in-place .ensures) d B m b) ∙ (c .if5 .left))
 
 pub fault-spec : {M : Type 1} → statement M
 fault-spec =

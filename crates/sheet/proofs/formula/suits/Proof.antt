@@ -1,5 +1,6 @@
 -- By the sort. Assumes nothing.
 use native.Mathlib.Omega.{arith}
+use Rattle.sheet.specs.Sorts.{formulaSort, termSort}
 use Rattle.sheet.proofs.Faults.{suits-by}
 use borrow.Author.Needs.{needs}
 use borrow.Author.Tests.{eq-eqb, ne-eqb}
@@ -13,13 +14,13 @@ between-requires-2 : tie.Need-between-requires-2
 between-requires-2 c κs = search needs
 
 returns : tie.Need-returns
-returns c = λ d e. rw (suits-by d (c .before .before .args .sort) (c .before .before .args .code) e, eq-eqb _ 0 (c .before .match .keys1)) (c .between .ensures)
+returns c = λ d e. rw (suits-by d (c .before .before .args .sort) (c .before .before .args .code) e, eq-eqb _ formulaSort (c .before .match .keys1)) (c .between .ensures)
 
 returns-2 : tie.Need-returns-2
-returns-2 c = λ d e. rw (suits-by d (c .before .before .args .sort) (c .before .before .args .code) e, ne-eqb (c .before .before .args .sort) 0 (λ q. omega (arith, (c .before .match .keys2))), eq-eqb _ 1 (c .before .match .keys2)) (c .between2 .ensures)
+returns-2 c = λ d e. rw (suits-by d (c .before .before .args .sort) (c .before .before .args .code) e, ne-eqb (c .before .before .args .sort) formulaSort (λ q. omega (arith, (c .before .match .keys2))), eq-eqb _ termSort (c .before .match .keys2)) (c .between2 .ensures)
 
 returns-3 : tie.Need-returns-3
-returns-3 c = λ d e. rw (suits-by d (c .before .args .sort) (c .before .args .code) e, ne-eqb _ 0 (c .match .rest .0 .1), ne-eqb _ 1 (c .match .rest .1))
+returns-3 c = λ d e. rw (suits-by d (c .before .args .sort) (c .before .args .code) e, ne-eqb _ formulaSort (c .match .rest .0 .1), ne-eqb _ termSort (c .match .rest .1))
 
 pub suits-spec : {M : Type 1} → statement M
 suits-spec = tie.close (tie.spec between-requires between-requires-2 returns returns-2 returns-3)

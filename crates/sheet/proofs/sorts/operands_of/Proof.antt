@@ -1,0 +1,64 @@
+-- By ranges of codes. Assumes nothing.
+use mathlib.Core.Path.{sym}
+use native.Mathlib.Omega.{arith}
+use Rattle.tables.specs.Codes.{andCode, eqCode, someCode, addCode}
+use Rattle.sheet.specs.Sorts.{formulaSort, termSort, rangeSort, operands, operandsOf}
+use Rattle.sheet.proofs.CodeOperands.{alike, operands-range, operands-above}
+use Rattle.sheet.proofs.sorts.operands_of.Statement.{statement}
+use Rattle.sheet.proofs.sorts.operands_of.Tie as tie
+
+returns : tie.Need-returns
+unfolding operandsOf
+returns c = rw (c .match .keys1)
+
+returns-2 : tie.Need-returns-2
+unfolding operandsOf
+returns-2 c = rw (c .match .keys2)
+
+returns-3 : tie.Need-returns-3
+unfolding operandsOf
+returns-3 c = rw (c .match .keys3)
+
+returns-4 : tie.Need-returns-4
+unfolding operandsOf alike
+returns-4 c = sym (operands-range (operands formulaSort 2) 3 andCode (c .before .before .before .args .code) tt (omega arith) (omega arith))
+
+returns-5 : tie.Need-returns-5
+unfolding operandsOf alike
+returns-5 c = sym (operands-range (operands termSort 2) 6 eqCode (c .before .before .before .before .args .code) tt (omega (arith, (c .before .before .before .match .rest .0 .0 .1))) (omega arith))
+
+returns-6 : tie.Need-returns-6
+unfolding operandsOf alike
+returns-6 c = sym (operands-range (operands rangeSort 1) 2 someCode (c .before .before .before .before .before .args .code) tt (omega (arith, (c .before .before .before .before .match .rest .0 .1))) (omega arith))
+
+returns-7 : tie.Need-returns-7
+unfolding operandsOf alike
+returns-7 c = sym (operands-range (operands termSort 2) 5 addCode (c .before .before .before .before .before .before .before .args .code) tt (omega arith) (omega arith))
+
+returns-8 : tie.Need-returns-8
+unfolding operandsOf alike
+returns-8 c = sym (operands-range (operands formulaSort 0) 2 0 (c .before .before .args .code) tt (omega arith) (omega arith))
+
+returns-9 : tie.Need-returns-9
+unfolding operandsOf alike
+returns-9 c = sym (operands-range (operands formulaSort 0) 17 15 (c .before .before .before .before .before .before .args .code) tt (omega arith) (omega arith))
+
+returns-10 : tie.Need-returns-10
+returns-10 c =
+    let mid = c .before .before .before .before .before in
+    sym (operands-above _ (mid .before .match .rest .1) (omega arith))
+
+pub operands-of-spec : {M : Type 1} → statement M
+operands-of-spec =
+    tie.close
+    (tie.spec
+    returns
+    returns-2
+    returns-3
+    returns-4
+    returns-5
+    returns-6
+    returns-7
+    returns-8
+    returns-9
+    returns-10)
