@@ -11,6 +11,8 @@ use Rattle.specification.specs.Bytes.{Bytes}
 use Rattle.specification.specs.Ast.{Formula, truth, and, or, imp, neg, eq, compare, ex, some, all}
 use Rattle.specification.specs.Closed.{closed}
 use Rattle.specification.specs.Tree.{enquire, grow}
+use Rattle.tables.specs.Node.{Pushed}
+use Rattle.tables.proofs.Laws.Kept.{marked-kept}
 use Rattle.sheet.specs.Tables.{Words}
 use Rattle.sheet.specs.Held.{endAt, Shallow}
 use Rattle.terms.specs.Openness.{LowLocals, Standing, AskedFormula, Judged}
@@ -21,13 +23,12 @@ use Rattle.walker.specs.Frame.{Item, form, the, treeItems, innerIn, Ques
 use Rattle.walker.specs.Path.{World, Pend, Asks}
 use Rattle.walker.specs.Stands.{Stands}
 use Rattle.walker.specs.Sim.{tree, In, Down}
-use Rattle.walker.specs.Steps.{Pushed, Visited, Entered, OneLeaf}
+use Rattle.walker.specs.Steps.{Visited, Entered, OneLeaf}
 use Rattle.walker.specs.Registers.{formulaDue, errorDue, dueRegs}
 use Rattle.walker.proofs.Here.{formula-here}
 use Rattle.walker.proofs.Heads.{at-form, form-tree}
-use Rattle.walker.proofs.Whole.{marked-kept}
 use Rattle.walker.proofs.Pushes.{formula-job}
-use Rattle.walker.proofs.Onto.{down-asks}
+use Rattle.walker.proofs.Onto.{askNode, down-asks}
 
 -- binders' locals have slots
 low-locals : (F : Formula) → Shallow F → LowLocals F
@@ -136,7 +137,7 @@ module _ {w : Words} {r : Regs} (x : Questions w r) where
       son = λ c o i. (frames.error 5 (r .due .head), x .all c o i .grown ∙ rw (closed-is c o i, e), (refl, refl, refl), omega arith);
     }
 
-    pub asks-down : {w' : Words} {d : Due} → b ≡ true → Pushed w w' r (r .due .head) 4 0 0 0 0 0 → d ≡ formulaDue w' (r .due .head + 1) 0 →
+    pub asks-down : {w' : Words} {d : Due} → b ≡ true → Pushed w w' (r .depth) (askNode r) → d ≡ formulaDue w' (r .due .head + 1) 0 →
         (c : World) (o : Bytes) → In c o w r → Down c o w' (dueRegs r (r .depth + 1) d 1 0)
     unfolding enquire
     asks-down {w'} e g k c o i =

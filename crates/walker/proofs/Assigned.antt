@@ -15,6 +15,7 @@ use Rattle.specification.specs.Value.{full}
 use Rattle.specification.specs.Tree.{step, isElement, assign}
 use Rattle.specification.proofs.Laws.Allowed.{in32-allowed}
 use Rattle.tables.specs.Layout.{cellSlot, nodeEnd, localsAt, firstsAt, pathAt}
+use Rattle.tables.specs.declared.nodes.Node.{Node}
 use Rattle.sheet.specs.Tables.{Words}
 use Rattle.sheet.specs.Held.{slotOf}
 use Rattle.walker.specs.declared.Due.{Due}
@@ -23,11 +24,12 @@ use Rattle.walker.specs.Frame as frames
 use Rattle.walker.specs.Frame.{the, innerIn}
 use Rattle.walker.specs.Path.{World, InTable, bit}
 use Rattle.walker.specs.Sim.{In, Down}
-use Rattle.walker.specs.Steps.{Assignable, Pushed, Leads, Listed, GoesOn, OneLeaf, Assigns, Sets, Tested}
+use Rattle.walker.specs.Steps.{Assignable, Leads, Listed, GoesOn, OneLeaf, Assigns, Sets, Tested}
 use Rattle.walker.specs.Registers.{dueOf, errorDue, dueRegs}
-use Rattle.walker.proofs.Slots.{in-table as slot-within, alter-two}
+use Rattle.walker.specs.Binding.{Alters}
+use Rattle.walker.proofs.Slots.{in-table as slot-within}
 use Rattle.walker.proofs.Heads.{room-words}
-use Rattle.walker.proofs.Pushes.{Alters, alters-kept, rest-onto, rest-leads}
+use Rattle.walker.proofs.Pushes.{Replaces, replaces, replaces-kept, rest-onto, rest-leads}
 use Rattle.walker.proofs.Onto.{down-undo}
 
 -- ---- a test
@@ -140,37 +142,40 @@ module _ {w : Words} {r : Regs} {slot value : ℕ} (x : Assigns w r slot value) 
 
 -- ---- the step
 
-module _ {w mid w1 w' : Words} {r : Regs} {slot old value : ℕ} (x : Sets w r slot value) (g : Pushed w mid r (r .due .head) 2 slot 0 old 0 0)
-    (e1 : w1 ≡ set mid slot 1) (e2 : w' ≡ set w1 (slot + 1) value) where
-  set-alters : (c : World) (o : Bytes) (i : In c o w r) → let q = x .son c o i in Alters (c .declared) w w' r (r .due .head) (i .α) (q .1) (full (q .2)) 2 0 0
-  set-alters c o i =
+-- the node that an assignment makes
+abbrev setNode : Words → Regs → ℕ → Node
+setNode w r slot = record {
+  head = r .due .head;
+  rest = r .due .rest;
+  todo = 2;
+  slot = slot;
+  had = 0;
+  old = getD w (slot + 1) 0;
+  current = 0;
+  last = 0;
+  inner = r .inner;
+  bad = r .bad;
+}
+
+module _ {w w' : Words} {r : Regs} {slot value : ℕ} (x : Sets w r slot value) (g : Alters w w' (r .depth) (setNode w r slot) 1 value) where
+  set-replaces : (c : World) (o : Bytes) (i : In c o w r) → let q = x .son c o i in Replaces (c .declared) w w' (r .depth) (setNode w r slot) (i .α) (q .1) (full (q .2))
+  set-replaces c o i =
       let (is, p, v, tree, rest, place, word, inside, none, good) = x .son c o i in
-      record {
-        mid = mid;
-        slot = slot;
-        had = 0;
-        old = old;
-        pushed = g;
-        place = place;
-        inside = inside;
-        saved = rw none refl;
-        good = good;
-        altered = alter-two p place inside (omega (arith, g .linked .marked .size, i .path .size)) (full v) 1 value (refl, word) e1 e2;
-      }
+      replaces (c .declared) (i .α) p (full v) g place inside (rw none refl) good (refl, word) (omega (arith, i .path .size))
 
   pub set-leads : Leads w' (r .due .rest)
   set-leads =
       let c = x .at .c in
       let o = x .at .o in
       let i = x .at .ins in
-      rest-leads i (x .son c o i .0) (alters-kept (set-alters c o i)) (x .son c o i .4)
+      rest-leads i (x .son c o i .0) (replaces-kept (set-replaces c o i)) (x .son c o i .4)
 
   pub set-down : {d : Due} → Listed w' (r .due .rest) d → (c : World) (o : Bytes) → In c o w r → Down c o w' (dueRegs r (r .depth + 1) d (r .inner) (r .bad))
   set-down f c o i =
       let q = x .son c o i in
-      let m = set-alters c o i in
-      let k = alters-kept m in
-      down-undo i (q .1) (full (q .2)) m (the (q .0)) (q .3)
+      let m = set-replaces c o i in
+      let k = replaces-kept m in
+      down-undo i (q .1) (full (q .2)) m refl (the (q .0)) (q .3)
       (f c (r .depth + 1) (q .0) (λ j h. k .tokens j h ∙ i .path .tokens j h) (rest-onto i (q .0) (r .depth + 1) k (omega arith) (q .4)))
 
 -- the slot lies in the tables, and the words are there

@@ -19,6 +19,7 @@ use Rattle.specification.proofs.Laws.Scope as places
 use Rattle.specification.proofs.Laws.Value.{sane-val, sane-bare}
 use Rattle.values.specs.Word.{biased, signed}
 use Rattle.values.proofs.Laws.Word.{signed-biased, signed-eq, signed-lt, signed-le}
+use Rattle.tables.proofs.Laws.Kept.{spare-kept}
 use Rattle.sheet.specs.Tables.{Words}
 use Rattle.sheet.specs.Held.{endAt, slotOf}
 use Rattle.terms.specs.declared.Sides.{Sides}
@@ -34,7 +35,6 @@ use Rattle.walker.proofs.Keep.{pend-keep}
 use Rattle.walker.proofs.Here.{end-here}
 use Rattle.walker.proofs.Under.{Compared}
 use Rattle.walker.proofs.Inverse.{says-compared}
-use Rattle.walker.proofs.Whole.{spare-kept}
 use Rattle.walker.proofs.Heads.{at-form, form-tree, in-spare, visited-spare}
 use Rattle.walker.proofs.Sided.{Terms, Errs, back, forth, left-side, right-side, sides-are, left-value, right-value}
 

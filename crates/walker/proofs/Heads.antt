@@ -11,10 +11,11 @@ use Rattle.specification.specs.Bytes.{Bytes}
 use Rattle.specification.specs.Ast.{Formula}
 use Rattle.specification.specs.Tree.{grow, rounds}
 use Rattle.tables.specs.Layout.{nodeEnd, duesAt, duesEnd}
+use Rattle.tables.specs.Node.{headAt, currentAt, lastAt}
+use Rattle.tables.proofs.Laws.Kept.{spare-kept, spare-slots}
 use Rattle.sheet.specs.Tables.{Words}
 use Rattle.sheet.specs.Held.{codeAt}
 use Rattle.walker.specs.declared.Regs.{Regs}
-use Rattle.walker.specs.Node.{headAt, currentAt, lastAt}
 use Rattle.walker.specs.Frame.{Item, form, again, What, the, success, failure, error, treeItems, innerIn}
 use Rattle.walker.specs.Path.{World, Pend, Job}
 use Rattle.walker.specs.Stands.{Stands, Binds, LeftAfter}
@@ -25,7 +26,7 @@ use Rattle.walker.proofs.Under.{Says}
 use Rattle.walker.proofs.Inverse.{says, code-range}
 use Rattle.walker.proofs.Keep.{job-keep}
 use Rattle.walker.proofs.Slots.{holds-keep}
-use Rattle.walker.proofs.Whole.{path-kept, spare-kept, spare-slots}
+use Rattle.walker.proofs.Whole.{path-kept}
 
 -- ---- a formula
 

@@ -5,9 +5,9 @@ use mathlib.Core.Path.{_≡_, refl, _∙_}
 use Rattle.specification.specs.Lines.{Declared}
 use Rattle.specification.specs.Ast.{Term, constant, scalarAt, localAt, elementAt, apply, Formula, truth, and, or, imp, neg, eq, compare, ex, some, all}
 use Rattle.tables.specs.Layout.{tokenSlot}
+use Rattle.tables.specs.Kept.{SameTokens}
 use Rattle.sheet.specs.Tables.{Words}
 use Rattle.sheet.specs.Held.{codeAt, operandAt, endAt, TokenAt, TermAt, TermsAt, LocalAt, FormulaAt}
-use Rattle.walker.specs.Path.{SameTokens}
 use Rattle.walker.specs.Stands.{bodyOf, Binds}
 
 -- ---- the tokens of a term or formula lie in the table

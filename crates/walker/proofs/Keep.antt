@@ -7,23 +7,18 @@ use mathlib.Core.List.{List, [], _∷_}
 use lib.ListN.{getD}
 use Rattle.specification.specs.Place.{Place}
 use Rattle.specification.specs.Value.{Valuation}
-use Rattle.tables.specs.Layout.{nodeSlot, pathAt}
+use Rattle.tables.specs.Layout.{nodeWords, nodeSlot}
+use Rattle.tables.specs.Kept.{SameNodes}
+use Rattle.tables.proofs.Laws.Kept.{fewer-nodes}
+use Rattle.tables.specs.Node.{headAt, restAt}
 use Rattle.sheet.specs.Tables.{Words}
 use Rattle.walker.specs.declared.Due.{Due}
-use Rattle.walker.specs.Node.{headAt, restAt}
 use Rattle.walker.specs.Frame.{Item, form, again, What, the, success, failure, error, Frame, pass, other, undo, range, asks, len, innerIn}
 use Rattle.walker.specs.Path.{World, Pend, Job, Changed, FrameAt, Stack}
 
--- the words of the nodes below n are the same
-pub record SameNodes (n : ℕ) (w w' : Words) : Type 0 where
-  pub same : (j : ℕ) → pathAt ≤ j → j < nodeSlot n → getD w' j 0 ≡ getD w j 0
-
-pub fewer-nodes : {m n : ℕ} {w w' : Words} → m ≤ n → SameNodes n w w' → SameNodes m w w'
-fewer-nodes h u = record { same = λ j a b. u .same j a (omega arith) }
-
 -- the words of a node that is kept
 module _ {w w' : Words} (i : ℕ) (u : SameNodes (suc i) w w') where
-  same-word : (k : ℕ) → k < 12 → getD w' (nodeSlot i + k) 0 ≡ getD w (nodeSlot i + k) 0
+  same-word : (k : ℕ) → k < nodeWords → getD w' (nodeSlot i + k) 0 ≡ getD w (nodeSlot i + k) 0
   same-word k h = u .same (nodeSlot i + k) (omega arith) (omega arith)
 
   same-head : headAt w' i ≡ headAt w i

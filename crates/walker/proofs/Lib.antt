@@ -11,7 +11,6 @@ pub mod Whole
 pub mod Heads
 pub mod Pushes
 pub mod Onto
-pub mod Stores
 pub mod Listed
 pub mod Simple
 pub mod Quantified

@@ -6,9 +6,9 @@ use mathlib.Core.Path.{_≡_, refl, _∙_}
 use mathlib.Core.List.{List, [], _∷_}
 use lib.ListN.{length, getD}
 use Rattle.tables.specs.Layout.{nodeEnd, tokenSlot, cellsAt}
+use Rattle.tables.specs.Node.{headAt, restAt}
 use Rattle.sheet.specs.Tables.{Words}
 use Rattle.sheet.specs.Held.{codeAt, endAt}
-use Rattle.walker.specs.Node.{headAt, restAt}
 use Rattle.walker.specs.Frame.{Item, form, again}
 use Rattle.walker.specs.Path.{World, Pend}
 use Rattle.walker.specs.Steps.{Leads, Listed}

@@ -17,11 +17,13 @@ use Rattle.specification.proofs.Laws.Place.{valid-put}
 use Rattle.values.specs.Word.{signed, biased}
 use Rattle.values.proofs.Laws.Word.{biased-signed, signed-in32, signed-add}
 use Rattle.tables.specs.Layout.{nodeSlot, firstsAt, pathAt}
+use Rattle.tables.specs.Node.{currentWord, headAt, restAt, todoAt, slotAt, currentAt, lastAt}
+use Rattle.tables.specs.Kept.{Kept}
+use Rattle.tables.proofs.Laws.Kept.{kept-both, word-kept, word-slots}
 use Rattle.sheet.specs.Tables.{Words}
 use Rattle.sheet.specs.Held.{endAt, Holds}
 use Rattle.walker.specs.declared.Regs.{Regs}
 use Rattle.walker.specs.Walk.{sonsFrom}
-use Rattle.walker.specs.Node.{headAt, restAt, todoAt, slotAt, currentAt, lastAt}
 use Rattle.walker.specs.Frame.{Item, form, the, Frame, range, len, innerIn}
 use Rattle.walker.specs.Path.{World, bit, FrameAt, Path}
 use Rattle.walker.specs.Stands.{bodyOf, LeftAfter}
@@ -30,8 +32,8 @@ use Rattle.walker.specs.Registers.{formulaDue, dueRegs}
 use Rattle.walker.specs.Loop.{Topped}
 use Rattle.walker.proofs.Keep.{pend-keep}
 use Rattle.walker.proofs.Here.{code-here, end-here, body-here}
-use Rattle.walker.proofs.Slots.{in-table, Altered, alter-two, holds-keep, holds-again}
-use Rattle.walker.proofs.Whole.{Kept, kept-both, altered-kept, word-kept, word-slots, path-top}
+use Rattle.walker.proofs.Slots.{in-table, Altered, alter, holds-keep, holds-again}
+use Rattle.walker.proofs.Whole.{altered-kept, path-top}
 use Rattle.walker.proofs.Tops.{top-index, top-range}
 use Rattle.walker.proofs.Turns.{son-due, rest-under}
 
@@ -97,7 +99,6 @@ pub record Follows (w w' : Words) (r : Regs) (h p : ℕ) : Type 0 where
   pub i : ℕ
   pub v : ℕ
   pub first : Words
-  pub second : Words
   pub some : 0 < r .depth
   pub todo : todoAt w (r .depth - 1) ≡ 3
   pub more : currentAt w (r .depth - 1) < lastAt w (r .depth - 1)
@@ -105,9 +106,8 @@ pub record Follows (w w' : Words) (r : Regs) (h p : ℕ) : Type 0 where
   pub rest : p ≡ restAt w (r .depth - 1)
   pub slot : i ≡ slotAt w (r .depth - 1)
   pub value : v ≡ currentAt w (r .depth - 1) + 1
-  pub current : first ≡ set w (nodeSlot (r .depth - 1) + 6) v
-  pub flag : second ≡ set first i 1
-  pub word : w' ≡ set second (i + 1) v
+  pub current : first ≡ set w (currentWord (r .depth - 1)) v
+  pub words : w' ≡ set (set first i 1) (i + 1) v
 
 module _ {c : World} {w w' : Words} {r : Regs} {h p : ℕ} (g : Follows w w' r h p) {α : Valuation} {l : ℕ} {x : ℤ} {i m : ℕ} {F : Formula} {is : List Item}
     {β : Valuation} {fr : List Frame} (P : Path c w (r .depth) α (range l x i (suc m) F is β ∷ fr)) where
@@ -117,18 +117,18 @@ module _ {c : World} {w w' : Words} {r : Regs} {h p : ℕ} (g : Follows w w' r h
   value-is : g .v ≡ currentAt w (len fr) + 1
   value-is = g .value ∙ ap (λ k. currentAt w k + 1) (top-index P)
 
-  current-is : g .first ≡ set w (nodeSlot (len fr) + 6) (g .v)
+  current-is : g .first ≡ set w (currentWord (len fr)) (g .v)
   current-is = rw (top-index P) at (g .current)
 
   current-kept : Kept (len fr) w (g .first)
-  current-kept = word-kept (len fr) (nodeSlot (len fr) + 6) (g .v) (omega arith) current-is
+  current-kept = word-kept (len fr) (currentWord (len fr)) (g .v) (omega arith) current-is
 
   altered : Altered (g .first) w' (local l) (full (x +ℤ pos (suc i)))
   altered =
       let a = P .stack .0 in
       let ch = a .1 in
-      alter-two (local l) (g .slot ∙ ap (slotAt w) (top-index P) ∙ ch .slot) (ch .inside) (omega (arith, current-kept .size, P .size))
-      (full (x +ℤ pos (suc i))) 1 (g .v) (refl, value-is ∙ next-word x i (a .3) more-here) (g .flag) (g .word)
+      alter (local l) (full (x +ℤ pos (suc i))) 1 (g .v) (g .slot ∙ ap (slotAt w) (top-index P) ∙ ch .slot) (ch .inside)
+      (omega (arith, current-kept .size, P .size)) (refl, value-is ∙ next-word x i (a .3) more-here) (g .words)
 
   next-kept : Kept (len fr) w w'
   next-kept = kept-both current-kept (altered-kept (len fr) (P .stack .0 .1 .inside) altered)
@@ -139,8 +139,8 @@ module _ {c : World} {w w' : Words} {r : Regs} {h p : ℕ} (g : Follows w w' r h
       let z = in-table (local l) (P .stack .0 .1 .inside) in
       altered .others j (λ y. omega (arith, z .high)) (λ y. omega (arith, z .high))
 
-  same-word : (j : ℕ) → pathAt ≤ j → ¬ (j ≡ nodeSlot (len fr) + 6) → getD w' j 0 ≡ getD w j 0
-  same-word j low n = from-first j low ∙ rw current-is (getD-set-other w (nodeSlot (len fr) + 6) j (g .v) 0 (λ y. n (omega arith)))
+  same-word : (j : ℕ) → pathAt ≤ j → ¬ (j ≡ currentWord (len fr)) → getD w' j 0 ≡ getD w j 0
+  same-word j low n = from-first j low ∙ rw current-is (getD-set-other w (currentWord (len fr)) j (g .v) 0 (λ y. n (omega arith)))
 
   same : (k : ℕ) → ¬ (k ≡ 6) → getD w' (nodeSlot (len fr) + k) 0 ≡ getD w (nodeSlot (len fr) + k) 0
   same k n = same-word (nodeSlot (len fr) + k) (omega arith) (λ y. n (omega arith))
@@ -148,8 +148,8 @@ module _ {c : World} {w w' : Words} {r : Regs} {h p : ℕ} (g : Follows w w' r h
   now : currentAt w' (len fr) ≡ currentAt w (len fr) + 1
   now =
       let deep = P .deep in
-      from-first (nodeSlot (len fr) + 6) (omega arith) ∙
-      rw current-is (getD-set-same w (nodeSlot (len fr) + 6) (g .v) 0 (omega (arith, P .size, P .inside)) ∙ value-is)
+      from-first (currentWord (len fr)) (omega arith) ∙
+      rw current-is (getD-set-same w (currentWord (len fr)) (g .v) 0 (omega (arith, P .size, P .inside)) ∙ value-is)
 
   next-frame : FrameAt c w' (len fr) (innerIn fr) (range l x (suc i) m F is β)
   next-frame =
@@ -168,7 +168,7 @@ module _ {c : World} {w w' : Words} {r : Regs} {h p : ℕ} (g : Follows w w' r h
       let a = P .stack .0 in
       path-top P next-kept (range l x (suc i) m F is β) refl next-frame
       (holds-again altered (a .1 .inside) β (full (x +ℤ pos i))
-      (holds-keep (word-slots (nodeSlot (len fr) + 6) (g .v) (omega arith) current-is) (subst (Holds w) (P .chain .0) (P .holds))))
+      (holds-keep (word-slots (currentWord (len fr)) (g .v) (omega arith) current-is) (subst (Holds w) (P .chain .0) (P .holds))))
       (valid-put (c .declared) β (local l) (full (x +ℤ pos (suc i))) (P .chain .1) (next-in x i (a .3) more-here))
 
   -- the formula under the quantifier

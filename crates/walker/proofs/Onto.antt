@@ -15,6 +15,9 @@ use Rattle.specification.specs.Value.{Slot, full}
 use Rattle.specification.specs.Tree.{Tree, step, fork, fan, ask, Verdict, verdict}
 use Rattle.specification.proofs.Laws.Place.{valid-put}
 use Rattle.values.specs.Word.{signed}
+use Rattle.tables.specs.declared.nodes.Node.{Node}
+use Rattle.tables.specs.Node.{Marked, Linked, Pushed}
+use Rattle.tables.proofs.Laws.Kept.{marked-kept, marked-slots}
 use Rattle.sheet.specs.Tables.{Words}
 use Rattle.sheet.specs.Held.{endAt}
 use Rattle.walker.specs.declared.Due.{Due}
@@ -24,13 +27,19 @@ use Rattle.walker.specs.Frame.{Item, form, What, the, treeItems, Questio
 use Rattle.walker.specs.Path.{World, Pend, Job, bit, Changed, Asks, FrameAt, Path}
 use Rattle.walker.specs.Stands.{Stands, Binds, LeftAfter}
 use Rattle.walker.specs.Sim.{tree, yes, no, Down, In, down}
-use Rattle.walker.specs.Steps.{Marked, Linked, Pushed, Stepped}
+use Rattle.walker.specs.Steps.{Stepped}
 use Rattle.walker.specs.Registers.{dueRegs}
+use Rattle.walker.specs.Binding.{binderNode}
 use Rattle.walker.proofs.Walk.{within-ask}
 use Rattle.walker.proofs.Keep.{frame-keep}
 use Rattle.walker.proofs.Slots.{holds-keep, holds-put}
-use Rattle.walker.proofs.Whole.{marked-kept, marked-slots, altered-kept, path-onto}
-use Rattle.walker.proofs.Pushes.{Alters, alters-kept, rest-onto}
+use Rattle.walker.proofs.Whole.{altered-kept, path-onto}
+use Rattle.walker.proofs.Pushes.{Replaces, replaces-kept, rest-onto}
+
+-- the node that asks for an inner tree
+abbrev pub askNode : Regs → Node
+askNode r =
+    record { head = r .due .head; rest = r .due .rest; todo = 4; slot = 0; had = 0; old = 0; current = 0; last = 0; inner = r .inner; bad = r .bad }
 
 module _ {c : World} {o : Bytes} {w : Words} {r : Regs} (i : In c o w r) where
   -- ---- the son
@@ -66,14 +75,14 @@ module _ {c : World} {o : Bytes} {w : Words} {r : Regs} (i : In c o w r) where
       path-onto (i .path) f (i .room) (marked-kept g) e′ q (rw e (holds-keep (marked-slots g) (i .path .holds))) (rw e (i .path .valid))
 
   -- a frame that changes one
-  changed : {w' : Words} {h todo current last : ℕ} (p : Place) (s : Slot) (a : Alters (c .declared) w w' r h (i .α) p s todo current last) (f : Frame) →
+  changed : {w' : Words} {n : Node} (p : Place) (s : Slot) (a : Replaces (c .declared) w w' (r .depth) n (i .α) p s) (f : Frame) →
       below f ≡ put (i .α) p s → here f ≡ i .α → (Changed (a .mid) (r .depth) p (i .α) → FrameAt c (a .mid) (r .depth) (innerIn (i .fr)) f) →
       Path c w' (r .depth + 1) (below f) (f ∷ i .fr)
   changed {w'} p s a f e e′ q =
       let g = a .pushed in
       let k = altered-kept (suc (r .depth)) (a .inside) (a .altered) in
       let ch : Changed (a .mid) (r .depth) p (i .α) = record { slot = g .place ∙ a .place; inside = a .inside; saved = rw (g .saved, g .value) (a .saved) } in
-      path-onto (i .path) f (i .room) (alters-kept a) e′ (frame-keep c (a .mid) w' (r .depth) (innerIn (i .fr)) f (k .nodes) (q ch))
+      path-onto (i .path) f (i .room) (replaces-kept a) e′ (frame-keep c (a .mid) w' (r .depth) (innerIn (i .fr)) f (k .nodes) (q ch))
       (rw e (holds-put (a .altered) (a .inside) (holds-keep (marked-slots (g .linked .marked)) (i .path .holds))))
       (rw e (valid-put (c .declared) (i .α) p s (i .path .valid) (a .good)))
 
@@ -85,12 +94,12 @@ module _ {c : World} {o : Bytes} {w : Words} {r : Regs} (i : In c o w r) where
   down-pass g x e j = onto (pass (i .α)) x (i .e) (plain g (pass (i .α)) refl refl (g .left)) (i .inner) (i .bad) j (rw add-one (rw e at (i .result)))
 
   -- a slot to put back
-  pub down-undo : {w' : Words} {h current last : ℕ} (p : Place) (s : Slot) → Alters (c .declared) w w' r h (i .α) p s 2 current last → (x : What) →
+  pub down-undo : {w' : Words} {n : Node} (p : Place) (s : Slot) → Replaces (c .declared) w w' (r .depth) n (i .α) p s → n .todo ≡ 2 → (x : What) →
       tree c (i .fr) (i .x) (i .α) ≡ step (tree c (i .fr) x (put (i .α) p s)) → {d : Due} → Job c w' (r .depth + 1) d x →
       Down c o w' (dueRegs r (r .depth + 1) d (r .inner) (r .bad))
   unfolding within
-  down-undo p s a x e j =
-      onto (undo p s (i .α)) x (i .e) (changed p s a (undo p s (i .α)) refl refl (λ h. (a .pushed .linked .marked .left, h))) (i .inner) (i .bad) j (rw add-one (rw e at (i .result)))
+  down-undo p s a t x e j =
+      onto (undo p s (i .α)) x (i .e) (changed p s a (undo p s (i .α)) refl refl (λ h. (a .pushed .linked .marked .left ∙ t, h))) (i .inner) (i .bad) j (rw add-one (rw e at (i .result)))
 
   -- the second son of `or`
   pub down-other : {w' : Words} → Linked w w' (r .depth) (r .due .head) (r .due .rest) 1 → (x : What) (G : Formula) (is : List Item) →
@@ -107,7 +116,7 @@ module _ {c : World} {o : Bytes} {w : Words} {r : Regs} (i : In c o w r) where
 
   -- the next values of a `some`
   pub down-range : {w' : Words} {low high : ℕ} (l : ℕ) (x : ℤ) (n : ℕ) (F : Formula) (is : List Item) →
-      Alters (c .declared) w w' r (r .due .head) (i .α) (local l) (full (x +ℤ pos 0)) 3 low high →
+      Replaces (c .declared) w w' (r .depth) (binderNode w r (r .due .head) 3 low high) (i .α) (local l) (full (x +ℤ pos 0)) →
       tree c (i .fr) (i .x) (i .α) ≡ fan x (suc n) (λ j. treeItems (c .declared) (innerIn (i .fr)) (form F ∷ is) (put (i .α) (local l) (full (x +ℤ pos j)))) →
       Binds (c .declared) (c .tables) (r .due .head) l F → LeftAfter low high n (x +ℤ pos 1) → signed low ≡ x +ℤ pos 0 → Pend c w (r .depth) (r .due .rest) is →
       {d : Due} → Job c w' (r .depth + 1) d (the (form F ∷ is)) →
@@ -128,7 +137,7 @@ module _ {c : World} {o : Bytes} {w : Words} {r : Regs} (i : In c o w r) where
       (i .inner) (i .bad) j (rw (add-one, ← i .path .deep) (rw e at (i .result)))
 
   -- an inner tree to judge
-  pub down-asks : {w' : Words} {slot had old current last : ℕ} → Pushed w w' r (r .due .head) 4 slot had old current last → (F : Formula) (q : Question) (is : List Item) →
+  pub down-asks : {w' : Words} → Pushed w w' (r .depth) (askNode r) → (F : Formula) (q : Question) (is : List Item) →
       (let I = treeItems (c .declared) true (form F ∷ []) (i .α) in
       tree c (i .fr) (i .x) (i .α) ≡ ask I (sonOf (c .declared) (innerIn (i .fr)) (r .due .head) q is (verdict I) (i .α))) →
       r .due .head < 1024 → Asks c (r .due .head) q → Pend c w (r .depth) (r .due .rest) is → {d : Due} → Job c w' (r .depth + 1) d (the (form F ∷ [])) →

@@ -3,8 +3,9 @@
 use Prim.Native.Nat.{ℕ, suc, _+_, _≤_, _<_}
 use native.Mathlib.Omega.{arith}
 use native.Mathlib.Numerals.{add-one}
-use mathlib.Core.Path.{_≡_, _∙_}
+use mathlib.Core.Path.{_≡_, ap, _∙_}
 use mathlib.Core.List.{List, _∷_}
+use lib.ListN.{length, length-set}
 use lib.IntN.{ℤ}
 use Rattle.specification.specs.Bytes.{Bytes}
 use Rattle.specification.specs.Lines.{Declared}
@@ -12,36 +13,53 @@ use Rattle.specification.specs.Ast.{Formula}
 use Rattle.specification.specs.Place.{Place}
 use Rattle.specification.specs.Value.{Slot, Valuation}
 use Rattle.specification.proofs.Laws.Place.{SlotIn}
+use Rattle.tables.specs.Kept.{SameTokens, Kept}
+use Rattle.tables.specs.declared.nodes.Node.{Node}
+use Rattle.tables.specs.Layout.{pathAt}
+use Rattle.tables.specs.Node.{Linked, Pushed}
+use Rattle.tables.proofs.Laws.Kept.{kept-both, marked-kept}
 use Rattle.sheet.specs.Tables.{Words}
 use Rattle.sheet.specs.Held.{codeAt, endAt, slotOf}
 use Rattle.walker.specs.declared.Regs.{Regs}
 use Rattle.walker.specs.Frame.{Item, form, again, the}
-use Rattle.walker.specs.Path.{World, SameTokens, Pend, Job, Saved, InTable}
+use Rattle.walker.specs.Path.{World, Pend, Job, Saved, InTable}
 use Rattle.walker.specs.Stands.{Stands, Binds, LeftAfter}
 use Rattle.walker.specs.Sim.{In}
-use Rattle.walker.specs.Steps.{Linked, Pushed, Leads}
+use Rattle.walker.specs.Steps.{Leads}
 use Rattle.walker.specs.Registers.{formulaDue}
+use Rattle.walker.specs.Binding.{binderNode, Alters}
 use Rattle.walker.proofs.Here.{code-here}
 use Rattle.walker.proofs.Keep.{pend-keep, pend-onto}
-use Rattle.walker.proofs.Slots.{Altered}
-use Rattle.walker.proofs.Whole.{Kept, kept-both, marked-kept, altered-kept}
+use Rattle.walker.proofs.Slots.{Altered, alter}
+use Rattle.walker.proofs.Whole.{altered-kept}
 
--- the node goes onto the path, and p has the slot s in place of the one that the node saves
-pub record Alters (D : Declared) (w w' : Words) (r : Regs) (h : ℕ) (α : Valuation) (p : Place) (s : Slot) (todo current last : ℕ) : Type 0 where
+-- the node n goes onto the path, and p has the slot s in place of the one that n saves
+pub record Replaces (D : Declared) (w w' : Words) (d : ℕ) (n : Node) (α : Valuation) (p : Place) (s : Slot) : Type 0 where
   pub mid : Words
-  pub slot : ℕ
-  pub had : ℕ
-  pub old : ℕ
-  pub pushed : Pushed w mid r h todo slot had old current last
-  pub place : slot ≡ slotOf p
+  pub pushed : Pushed w mid d n
+  pub place : n .slot ≡ slotOf p
   pub inside : InTable p
-  pub saved : Saved had old (α p)
+  pub saved : Saved (n .had) (n .old) (α p)
   pub good : SlotIn D p s
   pub altered : Altered mid w' p s
 
-pub alters-kept : {D : Declared} {w w' : Words} {r : Regs} {h : ℕ} {α : Valuation} {p : Place} {s : Slot} {todo current last : ℕ} →
-    Alters D w w' r h α p s todo current last → Kept (r .depth) w w'
-alters-kept {r = r} a = kept-both (marked-kept (a .pushed .linked .marked)) (altered-kept (r .depth) (a .inside) (a .altered))
+pub replaces : {w w' : Words} {d : ℕ} {n : Node} {flag value : ℕ} (D : Declared) (α : Valuation) (p : Place) (s : Slot) → Alters w w' d n flag value → n .slot ≡ slotOf p →
+    InTable p → Saved (n .had) (n .old) (α p) → SlotIn D p s → Saved flag value s → pathAt ≤ length w → Replaces D w w' d n α p s
+replaces {flag = flag} {value = value} D α p s g place inside saved good new size = record {
+  mid = g .mid;
+  pushed = g .pushed;
+  place = place;
+  inside = inside;
+  saved = saved;
+  good = good;
+  altered = alter p s flag value place inside (omega (arith, g .pushed .linked .marked .size)) new (g .words);
+}
+
+pub alters-size : {w w' : Words} {d : ℕ} {n : Node} {flag value : ℕ} → Alters w w' d n flag value → length w' ≡ length w
+alters-size g = ap length (g .words) ∙ simp length-set (g .pushed .linked .marked .size)
+
+pub replaces-kept : {D : Declared} {w w' : Words} {d : ℕ} {n : Node} {α : Valuation} {p : Place} {s : Slot} → Replaces D w w' d n α p s → Kept d w w'
+replaces-kept {d = d} a = kept-both (marked-kept (a .pushed .linked .marked)) (altered-kept d (a .inside) (a .altered))
 
 -- a formula of the tables is due
 pub formula-job : (c : World) (w : Words) (n i p : ℕ) (F : Formula) (is : List Item) → SameTokens (c .tables) w → i < 1024 →
@@ -84,7 +102,8 @@ module _ {c : World} {o : Bytes} {w : Words} {r : Regs} (i : In c o w r) where
   )
 
   -- of an `all`: the same over the values left
-  pub cons-again : {w' : Words} {h todo current last : ℕ} {α : Valuation} {p : Place} {s : Slot} → Alters (c .declared) w w' r h α p s todo current last →
+  pub cons-again : {w' : Words} {h todo current last : ℕ} {α : Valuation} {p : Place} {s : Slot} →
+      Replaces (c .declared) w w' (r .depth) (binderNode w r h todo current last) α p s →
       (l : ℕ) (F : Formula) (n : ℕ) (v : ℤ) (is : List Item) → codeAt (c .tables) h ≡ 14 → Binds (c .declared) (c .tables) h l F →
       LeftAfter current last n v → Pend c w (r .depth) (r .due .rest) is → Pend c w' (r .depth + 1) (r .depth + 1) (again l F n v ∷ is)
   cons-again {w'} a l F n v is code bi le q =

@@ -18,11 +18,12 @@ use Rattle.values.proofs.Laws.Word.{signed-biased, signed-count, signed-add, bi
 use Rattle.sheet.specs.Tables.{Words}
 use lib.ListN.{length}
 use Rattle.tables.specs.Layout.{nodeEnd}
+use Rattle.tables.specs.Node.{headAt, currentAt, lastAt}
+use Rattle.tables.proofs.Laws.Kept.{spare-kept}
 use Rattle.sheet.specs.Held.{endAt}
 use Rattle.terms.specs.declared.Sides.{Sides}
 use Rattle.terms.specs.Results.{Valued}
 use Rattle.walker.specs.declared.Regs.{Regs}
-use Rattle.walker.specs.Node.{headAt, currentAt, lastAt}
 use Rattle.walker.specs.Frame as frames
 use Rattle.walker.specs.Frame.{Item, treeItems, innerIn}
 use Rattle.walker.specs.Path.{World, Pend}
@@ -33,7 +34,6 @@ use Rattle.walker.specs.Registers.{dueOf}
 use Rattle.walker.proofs.Here.{body-here, code-here}
 use Rattle.walker.proofs.Under.{Ranges, Says}
 use Rattle.walker.proofs.Keep.{pend-keep}
-use Rattle.walker.proofs.Whole.{spare-kept}
 use Rattle.walker.proofs.Heads.{at-form, head-code, form-tree, at-again, again-tree, in-spare, visited-spare, entered-spare}
 use Rattle.walker.proofs.Sided.{Terms, Errs, back, left-value, right-value}
 

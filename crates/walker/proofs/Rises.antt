@@ -13,18 +13,19 @@ use Rattle.specification.specs.Value.{Slot, full, Valuation}
 use Rattle.specification.specs.Run.{going}
 use Rattle.specification.specs.Outcome.{resultOf}
 use Rattle.tables.specs.Layout.{pathAt}
+use Rattle.tables.specs.Node.{todoAt, slotAt, hadAt, oldAt, currentAt, lastAt}
+use Rattle.tables.specs.Kept.{Kept}
 use Rattle.sheet.specs.Tables.{Words}
 use Rattle.sheet.specs.Held.{Holds}
 use Rattle.walker.specs.declared.Regs.{Regs}
 use Rattle.walker.specs.Walk.{sonsFrom}
-use Rattle.walker.specs.Node.{todoAt, slotAt, hadAt, oldAt, currentAt, lastAt}
 use Rattle.walker.specs.Frame.{Item, Frame, pass, other, undo, range, asks, here, below, len}
 use Rattle.walker.specs.Path.{World, bit, Saved, Changed, Path}
 use Rattle.walker.specs.Sim.{yes, no, Up, Yes, Sim, over, up, won}
 use Rattle.walker.specs.Registers.{popRegs, stopRegs}
 use Rattle.walker.specs.Loop.{Topped, Rising, Rose, Exhausted, Leaves, Restores}
-use Rattle.walker.proofs.Slots.{in-table, Altered, alter-two, holds-back}
-use Rattle.walker.proofs.Whole.{Kept, altered-kept, path-pop}
+use Rattle.walker.proofs.Slots.{in-table, Altered, alter, holds-back}
+use Rattle.walker.proofs.Whole.{altered-kept, path-pop}
 use Rattle.walker.proofs.Tops.{top-index, top-undo, top-range}
 
 -- by the mode, a son is finished
@@ -183,16 +184,16 @@ module _ {w : Words} {r : Regs} (x : Restores w r) where
       let z = in-table (s .1) (h .inside) in
       rw e (omega (arith, h .slot, z .high))
 
-  pub restored : {w1 w' : Words} {i had old : ℕ} → i ≡ slotAt w (r .depth - 1) → had ≡ hadAt w (r .depth - 1) → old ≡ oldAt w (r .depth - 1) →
-      w1 ≡ set w i had → w' ≡ set w1 (i + 1) old → Rose w w' r (popRegs r)
-  restored {w1} {w'} {i} {had} {old} ei eh eo e1 e2 = rose (x .some) (λ c α fr P.
+  pub restored : {w' : Words} {i had old : ℕ} → i ≡ slotAt w (r .depth - 1) → had ≡ hadAt w (r .depth - 1) → old ≡ oldAt w (r .depth - 1) →
+      w' ≡ set (set w i had) (i + 1) old → Rose w w' r (popRegs r)
+  restored {w'} {i} {had} {old} ei eh eo words = rose (x .some) (λ c α fr P.
       let s = x .back c α fr P in
       let p = s .1 in
       let β = here (s .0 .top) in
       let h = s .4 in
       let e : r .depth - 1 ≡ len (s .0 .under) = top-index (parted P (s .0)) in
       let saved : Saved had old (β p) = rw (eh, eo, e) (h .saved) in
-      let a : Altered w w' p (β p) = alter-two p (ei ∙ ap (slotAt w) e ∙ h .slot) (h .inside) (omega (arith, P .size)) (β p) had old saved e1 e2 in
+      let a : Altered w w' p (β p) = alter p (β p) had old (ei ∙ ap (slotAt w) e ∙ h .slot) (h .inside) (omega (arith, P .size)) saved words in
       record {
         gone = s .0;
         kept = altered-kept (len (s .0 .under)) (h .inside) a;

@@ -6,16 +6,17 @@ use mathlib.Core.Path.{_≡_, _∙_}
 use mathlib.Core.List.{[], _∷_}
 use Rattle.specification.specs.Bytes.{Bytes}
 use Rattle.specification.specs.Tree.{grow}
+use Rattle.tables.specs.Node.{Marked, Linked}
+use Rattle.tables.proofs.Laws.Kept.{marked-kept}
 use Rattle.sheet.specs.Tables.{Words}
 use Rattle.walker.specs.declared.Due.{Due}
 use Rattle.walker.specs.declared.Regs.{Regs}
 use Rattle.walker.specs.Frame.{form, again, What, the, success, failure, error, treeItems}
 use Rattle.walker.specs.Path.{World, Job}
 use Rattle.walker.specs.Sim.{Down, In}
-use Rattle.walker.specs.Steps.{Marked, Linked, Leads, Listed, Entered, GoesOn, OneLeaf}
+use Rattle.walker.specs.Steps.{Leads, Listed, Entered, GoesOn, OneLeaf}
 use Rattle.walker.specs.Registers.{formulaDue, dueRegs}
 use Rattle.walker.proofs.Inverse.{code-range}
-use Rattle.walker.proofs.Whole.{marked-kept}
 use Rattle.walker.proofs.Heads.{at-form, form-tree}
 use Rattle.walker.proofs.Pushes.{formula-job, rest-onto, rest-leads, cons-form}
 use Rattle.walker.proofs.Onto.{down-pass, down-other}

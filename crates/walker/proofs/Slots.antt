@@ -9,6 +9,7 @@ use Rattle.specification.specs.Place.{Place, cell, local, put}
 use Rattle.specification.specs.Value.{Slot, empty, full, Valuation}
 use Rattle.specification.proofs.Laws.Place.{place-dec, put-same, put-other}
 use Rattle.tables.specs.Layout.{cellsAt, firstsAt, pathAt}
+use Rattle.tables.specs.Kept.{SameSlots}
 use Rattle.sheet.specs.Tables.{Words}
 use Rattle.sheet.specs.Held.{SlotAt, slotOf, Holds}
 use Rattle.walker.specs.Path.{Saved, InTable}
@@ -52,9 +53,6 @@ slot-keep w w' i empty e f q = e ∙ q
 slot-keep w w' i (full z) e f q = (e ∙ q .0, f ∙ q .1)
 
 -- ---- words with all slots as they were
-
-pub record SameSlots (w w' : Words) : Type 0 where
-  pub same : (j : ℕ) → cellsAt ≤ j → j < firstsAt → getD w' j 0 ≡ getD w j 0
 
 pub holds-keep : {w w' : Words} {α : Valuation} → SameSlots w w' → Holds w α → Holds w' α
 holds-keep {w} {w'} {α} u h = holds-all w' α (λ p q.
@@ -102,26 +100,17 @@ slot-of-saved : (w : Words) (i had old : ℕ) (s : Slot) → Saved had old s →
 slot-of-saved w i had old empty q e f = e ∙ q
 slot-of-saved w i had old (full z) q e f = (e ∙ q .0, rw add-one at (f ∙ q .1))
 
-module _ {w w' : Words} {i : ℕ} (p : Place) (e : i ≡ slotOf p) (h : InTable p) (z : pathAt ≤ length w) where
-  -- by its two words
-  pub alter-two : {w1 : Words} (s : Slot) (had old : ℕ) → Saved had old s → w1 ≡ set w i had → w' ≡ set w1 (i + 1) old → Altered w w' p s
-  alter-two {w1} s had old q e1 e2 =
-      let k = in-table p h in
-      let off : (j : ℕ) → ¬ (j ≡ slotOf p) → ¬ (j ≡ slotOf p + 1) → getD w' j 0 ≡ getD w j 0 =
-      λ j m n. rw (e2, getD-set-other w1 (i + 1) j old 0 (λ x. n (omega arith)), e1, getD-set-other w i j had 0 (λ x. m (omega arith))) in
-      let size1 : length w1 ≡ length w = rw (e1, length-set) in
-      let size : length w' ≡ length w = rw (e2, length-set, size1) in
-      let at0 : getD w' (slotOf p) 0 ≡ had =
-      rw (← e, e2, getD-set-other w1 (i + 1) i old 0 (λ x. omega arith), e1) (getD-set-same w i had 0 (omega (arith, k .high))) in
-      let at1 : getD w' (slotOf p + 1) 0 ≡ old = rw (← e, e2) (getD-set-same w1 (i + 1) old 0 (omega (arith, k .high))) in
-      record { others = off; now = slot-of-saved w' (slotOf p) had old s q at0 at1; size = size }
-
-  -- by its first word
-  pub alter-none : w' ≡ set w i 0 → Altered w w' p empty
-  alter-none e1 =
-      let k = in-table p h in
-      record {
-        others = λ j m n. rw (e1, getD-set-other w i j 0 0 (λ x. m (omega arith)));
-        now = rw (← e, e1) (getD-set-same w i 0 0 (omega (arith, k .high)));
-        size = rw (e1, length-set);
-      }
+pub alter : {w w' : Words} {i : ℕ} (p : Place) (s : Slot) (had old : ℕ) → i ≡ slotOf p → InTable p → pathAt ≤ length w → Saved had old s →
+    w' ≡ set (set w i had) (i + 1) old → Altered w w' p s
+alter {w} {w'} {i} p s had old e h z q words =
+    let k = in-table p h in
+    let w1 : Words = set w i had in
+    let size1 : length w1 ≡ length w = length-set w i had in
+    let at0 : getD w' (slotOf p) 0 ≡ had =
+    rw (← e, words, getD-set-other w1 (i + 1) i old 0 (λ x. omega arith)) (getD-set-same w i had 0 (omega (arith, k .high))) in
+    let at1 : getD w' (slotOf p + 1) 0 ≡ old = rw (← e, words) (getD-set-same w1 (i + 1) old 0 (omega (arith, k .high))) in
+    record {
+      others = λ j m n. rw (words, getD-set-other w1 (i + 1) j old 0 (λ x. n (omega arith)), getD-set-other w i j had 0 (λ x. m (omega arith)));
+      now = slot-of-saved w' (slotOf p) had old s q at0 at1;
+      size = rw (words, length-set, length-set);
+    }

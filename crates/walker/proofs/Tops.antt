@@ -9,8 +9,8 @@ use lib.IntN.{ℤ}
 use Rattle.specification.specs.Ast.{Formula}
 use Rattle.specification.specs.Place.{Place}
 use Rattle.specification.specs.Value.{Slot, Valuation}
+use Rattle.tables.specs.Node.{todoAt}
 use Rattle.sheet.specs.Tables.{Words}
-use Rattle.walker.specs.Node.{todoAt}
 use Rattle.walker.specs.Frame.{Item, Question, Frame, pass, other, undo, range, asks, len}
 use Rattle.walker.specs.Path.{World, Path}
 

@@ -12,13 +12,14 @@ use Rattle.specification.specs.Bytes.{Bytes}
 use Rattle.specification.specs.Lines.{Declared}
 use Rattle.specification.specs.Value.{Valuation}
 use Rattle.specification.specs.Tree.{Tree, errorLeaf, fails, undecided}
-use Rattle.tables.specs.Layout.{nodeSlot}
+use Rattle.tables.specs.Node.{todoWord, headAt, restAt, todoAt, innerAt, badAt}
+use Rattle.tables.specs.Kept.{Kept}
+use Rattle.tables.proofs.Laws.Kept.{word-kept, word-slots}
 use Rattle.sheet.specs.Tables.{Words}
 use Rattle.sheet.specs.Held.{codeAt, endAt, Holds}
 use Rattle.walker.specs.declared.Regs.{Regs}
 use Rattle.walker.specs.declared.Due.{Due}
 use Rattle.walker.specs.Walk.{walk}
-use Rattle.walker.specs.Node.{headAt, restAt, todoAt, innerAt, badAt}
 use Rattle.walker.specs.Frame.{Item, form, What, the, failure, error, treeItems, Question, denying, implying, Frame, pass, asks, here, below, len, innerIn, sonOf}
 use Rattle.walker.specs.Path.{World, Pend, Job, bit, Path, Output, Count}
 use Rattle.walker.specs.Sim.{yes, no, tree, Down, Up, Yes, down}
@@ -28,7 +29,7 @@ use Rattle.walker.specs.Loop.{Topped, Rose}
 use Rattle.walker.proofs.Keep.{pend-onto}
 use Rattle.walker.proofs.Here.{code-here, end-here}
 use Rattle.walker.proofs.Slots.{holds-keep}
-use Rattle.walker.proofs.Whole.{Kept, word-kept, word-slots, path-top}
+use Rattle.walker.proofs.Whole.{path-top}
 use Rattle.walker.proofs.Tops.{top-index, top-other, top-asks}
 
 -- ---- a son of the topmost node is due
@@ -84,16 +85,16 @@ module _ {c : World} {w w' : Words} {d : ℕ} {α : Valuation} {f : Frame} {fr :
 -- ---- nothing is left to do at the node afterwards
 
 module _ {c : World} {w w' : Words} {d : ℕ} {α : Valuation} {f : Frame} {fr : List Frame} (P : Path c w d α (f ∷ fr))
-    (e : w' ≡ set w (nodeSlot (d - 1) + 2) 0) where
+    (e : w' ≡ set w (todoWord (d - 1)) 0) where
   pub turned-kept : Kept (len fr) w w'
-  turned-kept = let deep = P .deep in word-kept (len fr) (nodeSlot (d - 1) + 2) 0 (omega arith) e
+  turned-kept = let deep = P .deep in word-kept (len fr) (todoWord (d - 1)) 0 (omega arith) e
 
   pub turned : below f ≡ here f → Path c w' d (here f) (pass (here f) ∷ fr)
   turned q =
-      let at : w' ≡ set w (nodeSlot (len fr) + 2) 0 = rw (top-index P) at e in
+      let at : w' ≡ set w (todoWord (len fr)) 0 = rw (top-index P) at e in
       let deep = P .deep in
-      path-top P turned-kept (pass (here f)) refl (rw at (getD-set-same w (nodeSlot (len fr) + 2) 0 0 (omega (arith, P .size, P .inside))))
-      (holds-keep (word-slots (nodeSlot (d - 1) + 2) 0 (omega arith) e) (subst (Holds w) (P .chain .0 ∙ q) (P .holds))) (P .chain .1)
+      path-top P turned-kept (pass (here f)) refl (rw at (getD-set-same w (todoWord (len fr)) 0 0 (omega (arith, P .size, P .inside))))
+      (holds-keep (word-slots (todoWord (d - 1)) 0 (omega arith) e) (subst (Holds w) (P .chain .0 ∙ q) (P .holds))) (P .chain .1)
 
 -- the second son of an `or`
 pub other-small : {w : Words} {r : Regs} → Topped w r 1 → suc (headAt w (r .depth - 1)) < 1024
@@ -111,7 +112,7 @@ other-far {w} {r} {h} {n} t eh en =
     rw (en, eh′, add-one k, far) (a .2)) (t .fr) (t .path)
 
 pub other-up : {c : World} {o : Bytes} {w w' : Words} {r : Regs} {h n p : ℕ} → 0 < r .depth → todoAt w (r .depth - 1) ≡ 1 → h ≡ headAt w (r .depth - 1) →
-    n ≡ endAt w (h + 1) → p ≡ restAt w (r .depth - 1) → w' ≡ set w (nodeSlot (r .depth - 1) + 2) 0 → Up c o w r →
+    n ≡ endAt w (h + 1) → p ≡ restAt w (r .depth - 1) → w' ≡ set w (todoWord (r .depth - 1)) 0 → Up c o w r →
     Down c o w' (dueRegs r (r .depth) (formulaDue w n p) (r .inner) (r .bad))
 other-up {c} {o} {w} {w'} {r} {h} {n} {p} some t eh en ep ew u =
     top-other
@@ -136,10 +137,10 @@ pub record Judges (w w' : Words) (r : Regs) (h p inner bad : ℕ) : Type 0 where
   pub rest : p ≡ restAt w (r .depth - 1)
   pub inside : inner ≡ innerAt w (r .depth - 1)
   pub flag : bad ≡ badAt w (r .depth - 1)
-  pub words : w' ≡ set w (nodeSlot (r .depth - 1) + 2) 0
+  pub words : w' ≡ set w (todoWord (r .depth - 1)) 0
 
 pub judging : {w w' : Words} {r : Regs} {h p inner bad : ℕ} → Topped w r 4 → h ≡ headAt w (r .depth - 1) → p ≡ restAt w (r .depth - 1) →
-    inner ≡ innerAt w (r .depth - 1) → bad ≡ badAt w (r .depth - 1) → w' ≡ set w (nodeSlot (r .depth - 1) + 2) 0 → Judges w w' r h p inner bad
+    inner ≡ innerAt w (r .depth - 1) → bad ≡ badAt w (r .depth - 1) → w' ≡ set w (todoWord (r .depth - 1)) 0 → Judges w w' r h p inner bad
 judging t eh ep ei eb ew = record { some = t .some; todo = t .todo; head = eh; rest = ep; inside = ei; flag = eb; words = ew }
 
 module _ (D : Declared) (m : Bool) (tok : ℕ) (is : List Item) (α : Valuation) where

@@ -1,53 +1,21 @@
 -- The path as a whole: it is kept where the words of its nodes are, and it gains, changes or loses its topmost frame. Assumes nothing.
-use Prim.Native.Nat.{ℕ, _+_, _*_, _-_, _≤_, _<_}
+use Prim.Native.Nat.{ℕ, _+_, _-_, _≤_, _<_}
 use native.Mathlib.Omega.{arith}
 use mathlib.Core.Path.{_≡_, refl, _∙_, subst}
 use mathlib.Core.List.{List, _∷_}
-use mathlib.Core.Logic.{_⊎_, inl, inr}
-use lib.ListN.{length, getD, set, length-set}
-use lib.Seq.{getD-set-other}
 use Rattle.specification.specs.Place.{Place}
 use Rattle.specification.specs.Value.{Slot, Valuation}
 use Rattle.specification.specs.WellFormed.{Valid}
-use Rattle.tables.specs.Layout.{firstSlot, nodeSlot, firstsAt, duesAt, duesEnd, pathAt}
+use Rattle.tables.specs.Layout.{firstSlot}
+use Rattle.tables.specs.Kept.{Kept}
 use Rattle.sheet.specs.Tables.{Words}
 use Rattle.sheet.specs.Held.{Holds}
 use Rattle.walker.specs.Frame.{Frame, here, below, len, innerIn}
-use Rattle.walker.specs.Path.{World, InTable, FrameAt, Stack, Chain, SameTokens, Path}
-use Rattle.walker.specs.Steps.{Marked}
-use Rattle.walker.proofs.Keep.{SameNodes, stack-keep}
-use Rattle.walker.proofs.Slots.{in-table, SameSlots, Altered}
+use Rattle.walker.specs.Path.{World, InTable, FrameAt, Stack, Chain, Path}
+use Rattle.walker.proofs.Keep.{stack-keep}
+use Rattle.walker.proofs.Slots.{in-table, Altered}
 
--- ---- what every step keeps: tokens, the arrays' first cells, and the nodes below n
-
-pub record Kept (n : ℕ) (w w' : Words) : Type 0 where
-  pub tokens : SameTokens w w'
-  pub firsts : (j : ℕ) → firstsAt ≤ j → j < duesAt → getD w' j 0 ≡ getD w j 0
-  pub nodes : SameNodes n w w'
-  pub size : length w' ≡ length w
-
-pub kept-both : {n : ℕ} {w w1 w' : Words} → Kept n w w1 → Kept n w1 w' → Kept n w w'
-kept-both a b = record {
-  tokens = λ j h. b .tokens j h ∙ a .tokens j h;
-  firsts = λ j h k. b .firsts j h k ∙ a .firsts j h k;
-  nodes = record { same = λ j h k. b .nodes .same j h k ∙ a .nodes .same j h k };
-  size = b .size ∙ a .size;
-}
-
--- by a node that goes onto the path
-module _ {w w' : Words} {d todo : ℕ} (g : Marked w w' d todo) where
-  pub marked-kept : Kept d w w'
-  marked-kept = record {
-    tokens = λ j h. g .low j (omega arith);
-    firsts = λ j h k. g .low j (omega arith);
-    nodes = record { same = λ j h k. g .low j k };
-    size = g .size;
-  }
-
-  pub marked-slots : SameSlots w w'
-  marked-slots = record { same = λ j h k. g .low j (omega arith) }
-
--- by a slot
+-- what a changed slot keeps
 pub altered-kept : {w w' : Words} {p : Place} {s : Slot} (n : ℕ) → InTable p → Altered w w' p s → Kept n w w'
 altered-kept {w} {w'} {p} n h a =
     let z = in-table p h in
@@ -57,31 +25,6 @@ altered-kept {w} {w'} {p} n h a =
       nodes = record { same = λ j k m. a .others j (λ e. omega (arith, z .high)) (λ e. omega (arith, z .high)) };
       size = a .size;
     }
-
--- by a word of the node n or of one above it
-pub word-kept : {w w' : Words} (n j x : ℕ) → nodeSlot n ≤ j → w' ≡ set w j x → Kept n w w'
-word-kept {w} {w'} n j x h e = record {
-  tokens = λ k a. rw (e, getD-set-other w j k x 0 (λ y. omega arith));
-  firsts = λ k a b. rw (e, getD-set-other w j k x 0 (λ y. omega arith));
-  nodes = record { same = λ k a b. rw (e, getD-set-other w j k x 0 (λ y. omega arith)) };
-  size = rw (e, length-set);
-}
-
-pub word-slots : {w w' : Words} (j x : ℕ) → pathAt ≤ j → w' ≡ set w j x → SameSlots w w'
-word-slots {w} j x h e = record { same = λ k a b. rw (e, getD-set-other w j k x 0 (λ y. omega arith)) }
-
--- by the stack of results of the terms' evaluation
-module _ (w w' : Words) (u : (k : ℕ) → (k < duesAt) ⊎ (duesEnd ≤ k) → getD w' k 0 ≡ getD w k 0) where
-  pub spare-kept : length w' ≡ length w → (n : ℕ) → Kept n w w'
-  spare-kept z n = record {
-    tokens = λ j h. u j (inl (omega arith));
-    firsts = λ j h k. u j (inl k);
-    nodes = record { same = λ j h k. u j (inr (omega arith)) };
-    size = z;
-  }
-
-  pub spare-slots : SameSlots w w'
-  spare-slots = record { same = λ j h k. u j (inl (omega arith)) }
 
 -- ---- the path
 

@@ -1,6 +1,5 @@
 -- What the contracts of the walk cite: the walk with continuations, and how the work words hold it.
 pub mod Walk
-pub mod Node
 pub mod Frame
 pub mod Stands
 pub mod Path

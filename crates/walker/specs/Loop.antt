@@ -11,9 +11,9 @@ use Rattle.specification.specs.Bytes.{Bytes}
 use Rattle.specification.specs.Place.{Place, put}
 use Rattle.specification.specs.Value.{Slot, Valuation}
 use Rattle.specification.specs.Run.{tallies}
+use Rattle.tables.specs.Node.{todoAt}
 use Rattle.sheet.specs.Tables.{Words}
 use Rattle.walker.specs.declared.Regs.{Regs}
-use Rattle.walker.specs.Node.{todoAt}
 use Rattle.walker.specs.Frame.{Frame, here, below, len, innerIn}
 use Rattle.walker.specs.Path as paths
 use Rattle.walker.specs.Path.{World, Changed}

@@ -16,12 +16,13 @@ use Rattle.specification.specs.Value.{Slot, empty, full, Valuation}
 use Rattle.specification.specs.WellFormed.{Valid}
 use Rattle.specification.specs.Run.{Run}
 use Rattle.values.specs.Word.{biased, signed}
-use Rattle.tables.specs.Layout.{nodeSlot, cellsAt}
+use Rattle.tables.specs.Layout.{nodeSlot}
+use Rattle.tables.specs.Kept.{SameTokens}
+use Rattle.tables.specs.Node.{headAt, restAt, todoAt, slotAt, hadAt, oldAt, currentAt, lastAt, innerAt, badAt}
 use Rattle.sheet.specs.Tables.{Words}
 use Rattle.sheet.specs.Held.{codeAt, endAt, slotOf, Holds, ArraysAt}
 use Rattle.walker.specs.declared.Due.{Due}
 use Rattle.walker.specs.Stands.{Stands, Binds, LeftAfter}
-use Rattle.walker.specs.Node.{headAt, restAt, todoAt, slotAt, hadAt, oldAt, currentAt, lastAt, innerAt, badAt}
 use Rattle.walker.specs.Frame.{Item, form, again, What, the, success, failure, error, Question, denying, implying, Frame, pass, other, undo, range, asks, here, below, len, innerIn}
 
 -- ---- what a run is about: the tables and the output at entry, the sheet's declarations, the setting, and the run's result
@@ -142,10 +143,6 @@ Chain D α [] = Unit {0}
 Chain D α (f ∷ fr) = (α ≡ below f) × Valid D (here f) × Chain D (here f) fr
 
 -- ---- the path as a whole
-
--- the tokens of the tables
-abbrev pub SameTokens : Words → Words → Type 0
-SameTokens t w = (j : ℕ) → j < cellsAt → getD w j 0 ≡ getD t j 0
 
 -- d nodes, at most as many as the path limit
 pub record Path (c : World) (w : Words) (d : ℕ) (α : Valuation) (fr : List Frame) : Type 0 where

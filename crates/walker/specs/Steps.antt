@@ -17,45 +17,18 @@ use Rattle.specification.specs.Value.{empty, full, allowed}
 use Rattle.specification.specs.Tree.{step, fan, check, assign}
 use Rattle.values.specs.Word.{biased, signed}
 use Rattle.tables.specs.Layout.{cellSlot, nodeSlot, localsAt, firstsAt}
+use Rattle.tables.specs.Kept.{SameTokens}
 use Rattle.sheet.specs.Tables.{Words}
 use Rattle.sheet.specs.Held.{codeAt, slotOf}
 use Rattle.sheet.specs.Codes.{relCode}
 use Rattle.walker.specs.declared.Due.{Due}
 use Rattle.walker.specs.declared.Regs.{Regs}
-use Rattle.walker.specs.Node.{headAt, restAt, todoAt, slotAt, hadAt, oldAt, currentAt, lastAt, innerAt, badAt}
 use Rattle.walker.specs.Frame.{Item, form, again, What, the, treeItems, innerIn}
-use Rattle.walker.specs.Path.{World, SameTokens, Pend, Job, InTable}
+use Rattle.walker.specs.Path.{World, Pend, Job, InTable}
 use Rattle.walker.specs.Stands.{Binds, LeftAfter}
 use Rattle.walker.specs.Sim.{tree, In, Sim}
 
--- ---- the words of a node
-
--- every word below n is kept
-abbrev pub Upto : ℕ → Words → Words → Type 0
-Upto n w w' = (j : ℕ) → j < n → getD w' j 0 ≡ getD w j 0
-
--- node d has `todo` left to do
-pub record Marked (w w' : Words) (d todo : ℕ) : Type 0 where
-  pub low : Upto (nodeSlot d) w w'
-  pub left : todoAt w' d ≡ todo
-  pub size : length w' ≡ length w
-
--- and its token and list
-pub record Linked (w w' : Words) (d h p todo : ℕ) : Type 0 where
-  pub marked : Marked w w' d todo
-  pub head : headAt w' d ≡ h
-  pub rest : restAt w' d ≡ p
-
--- and all its words
-pub record Pushed (w w' : Words) (r : Regs) (h todo slot had old current last : ℕ) : Type 0 where
-  pub linked : Linked w w' (r .depth) h (r .due .rest) todo
-  pub place : slotAt w' (r .depth) ≡ slot
-  pub saved : hadAt w' (r .depth) ≡ had
-  pub value : oldAt w' (r .depth) ≡ old
-  pub now : currentAt w' (r .depth) ≡ current
-  pub upper : lastAt w' (r .depth) ≡ last
-  pub inner : innerAt w' (r .depth) ≡ r .inner
-  pub bad : badAt w' (r .depth) ≡ r .bad
+-- ---- lists
 
 -- pointer p leads to words that are there
 pub record Leads (w : Words) (p : ℕ) : Type 0 where

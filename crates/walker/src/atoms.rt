@@ -4,9 +4,11 @@ ghost use lib.ListN.{length, getD};
 ghost use Rattle.tables.specs.Layout.{firstsAt};
 ghost use Rattle.walker.specs.Steps.{Entered, Stepped, Assignable, Assigns, Sets, Tested, KindOf, Compares};
 use crate::Regs;
-use crate::nodes;
+use crate::changes;
+use crate::dues;
 use crate::registers;
 use crate::sons;
+use tables::nodes::Node;
 
 const CELLS: u32 = tables::CELLS as u32;
 
@@ -17,12 +19,21 @@ fn set(w: &mut [u32], r: Regs, slot: u32, value: u32) -> Regs
     requires { ⌜ Sets (now w) r slot value ⌝ }
     ensures { λ q. ⌜ Stepped (now (w .entry)) (now (w .exit)) r q ⌝ }
 {
-    let i = slot as usize;
-    let old = nodes::word(w, i + 1);
-    nodes::push(w, r, r.due.head, 2, slot, 0, old, 0, 0);
-    nodes::put(w, i, 1);
-    nodes::put(w, i + 1, value);
-    let d = nodes::list_at(w, r.due.rest);
+    let old = tables::word(w, slot + 1);
+    let n = Node {
+        head: r.due.head,
+        rest: r.due.rest,
+        todo: 2,
+        slot,
+        had: 0,
+        old,
+        current: 0,
+        last: 0,
+        inner: r.inner,
+        bad: r.bad,
+    };
+    changes::alter(w, r.depth, n, 1, value);
+    let d = dues::list_at(w, r.due.rest);
     registers::due(r, r.depth + 1, d, r.inner, r.bad)
 }
 
@@ -35,7 +46,7 @@ fn assignable(w: &[u32], inner: u32, slot: u32) -> bool
         return true;
     }
     // the first element's slot: array 0 begins after the scalars
-    if slot < CELLS + 2 * nodes::word(w, tables::FIRSTS) {
+    if slot < CELLS + 2 * tables::first_cell(w, 0) {
         return true;
     }
     LOCALS <= slot
@@ -68,7 +79,7 @@ pub(crate) fn enter_eq(w: &mut [u32], r: Regs) -> Regs
     ensures { λ q. ⌜ Stepped (now (w .entry)) (now (w .exit)) r q ⌝ }
 {
     let h = r.due.head;
-    let e = nodes::end(w, h);
+    let e = tables::end(w, h);
     let s = terms::evaluation::sides(w, h + 1, e);
     if s.ltag == 2 {
         return sons::err(w, r, s.left);
@@ -116,7 +127,7 @@ pub(crate) fn enter_compare(w: &mut [u32], r: Regs, code: u32) -> Regs
     ensures { λ q. ⌜ Stepped (now (w .entry)) (now (w .exit)) r q ⌝ }
 {
     let h = r.due.head;
-    let e = nodes::end(w, h);
+    let e = tables::end(w, h);
     let s = terms::evaluation::sides(w, h + 1, e);
     if s.ltag != 0 {
         return sons::err(w, r, kind_of(s.ltag, s.left));

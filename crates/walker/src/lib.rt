@@ -2,10 +2,11 @@
 use specification::Tallies;
 
 mod atoms;
+mod changes;
 mod connectives;
+mod dues;
 mod inner;
 pub mod machine;
-mod nodes;
 mod quantifiers;
 mod registers;
 mod rise;

@@ -10,8 +10,8 @@ ghost use Rattle.walker.specs.Blocks.{HeadDue, headDue, passedRegs};
 use crate::Regs;
 use crate::atoms;
 use crate::connectives;
+use crate::dues;
 use crate::inner;
-use crate::nodes;
 use crate::quantifiers;
 use crate::registers;
 use crate::rise;
@@ -194,7 +194,7 @@ fn start(w: &[u32]) -> Regs
     requires { ⌜ 0 < length (now w) ⌝ }
     ensures { λ r. ⌜ r ≡ startRegs (now (w .entry)) ⌝ }
 {
-    let d = nodes::formula(w, 0, 0);
+    let d = dues::formula(w, 0, 0);
     let t = Tallies {
         nodes: 0,
         answers: 0,

@@ -3,28 +3,40 @@ ghost use mathlib.Core.Path.{_≡_};
 ghost use Prim.Native.Nat.{_+_};
 ghost use Rattle.terms.specs.Results.{Asked, Valued};
 ghost use Rattle.walker.specs.Stands.{bodyOf};
-ghost use Rattle.walker.specs.Binding.{Local, Middle, Keeps, Takes};
+ghost use Rattle.walker.specs.Binding.{Local, Middle, binderNode};
 ghost use Rattle.walker.specs.Steps.{Visited, Entered, Stepped, Opens, Rounds};
 use crate::Regs;
 use crate::atoms;
-use crate::nodes;
+use crate::changes;
+use crate::dues;
 use crate::registers;
 use crate::sons;
+use tables::nodes;
+use tables::nodes::Node;
 use terms::Sides;
 
 const LOCALS: u32 = tables::LOCALS as u32;
 
-// Pushes the node with the slot of the local that its quantifier, at token `head`, binds, and gives the slot's first word.
-fn keep(w: &mut [u32], r: Regs, head: u32, todo: u32, current: u32, last: u32) -> usize
-    requires { ⌜ Local (now w) r head ⌝ }
-    ensures { λ i. ⌜ Keeps (now (w .entry)) (now (w .exit)) r head todo i current last ⌝ }
+// The node of the quantifier at token `head`: the slot of the local that it binds is saved in it.
+fn binder(w: &[u32], r: Regs, head: u32, todo: u32, current: u32, last: u32) -> Node
+    requires { ⌜ Local (now w) head ⌝ }
+    ensures { λ n. ⌜ n ≡ binderNode (now (w .entry)) r head todo current last ⌝ }
 {
-    let slot = LOCALS + 2 * nodes::operand(w, head + 1);
-    let i = slot as usize;
-    let had = nodes::word(w, i);
-    let old = nodes::word(w, i + 1);
-    nodes::push(w, r, head, todo, slot, had, old, current, last);
-    i
+    let slot = LOCALS + 2 * tables::operand(w, head + 1);
+    let had = tables::word(w, slot);
+    let old = tables::word(w, slot + 1);
+    Node {
+        head,
+        rest: r.due.rest,
+        todo,
+        slot,
+        had,
+        old,
+        current,
+        last,
+        inner: r.inner,
+        bad: r.bad,
+    }
 }
 
 // The first token of the formula under a bounded quantifier at token h.
@@ -32,8 +44,8 @@ fn body(w: &[u32], h: u32) -> u32
     requires { ⌜ Middle (now w) h ⌝ }
     ensures { λ i. ⌜ i ≡ bodyOf (now (w .entry)) h ⌝ }
 {
-    let e = nodes::end(w, h + 2);
-    nodes::end(w, e)
+    let e = tables::end(w, h + 2);
+    tables::end(w, e)
 }
 
 // The values of the two bounds of the quantifier at token h.
@@ -45,26 +57,14 @@ fn bounds(w: &mut [u32], h: u32) -> Sides
     terms::evaluation::sides(w, h + 2, e)
 }
 
-// Pushes the node of a bounded quantifier, gives its local the value, and tells the token of its formula.
-fn take(w: &mut [u32], r: Regs, head: u32, todo: u32, value: u32, last: u32) -> u32
-    requires { ⌜ Local (now w) r head × Middle (now w) head ⌝ }
-    ensures { λ b. ⌜ Takes (now (w .entry)) (now (w .exit)) r head todo value last b ⌝ }
-{
-    let b = body(w, head);
-    let i = keep(w, r, head, todo, value, last);
-    nodes::put(w, i, 1);
-    nodes::put(w, i + 1, value);
-    b
-}
-
 // `ex`: its formula, the local without a value, then the rest.
 pub(crate) fn enter_ex(w: &mut [u32], r: Regs) -> Regs
     requires { ⌜ Entered (now w) r 12 ⌝ }
     ensures { λ q. ⌜ Stepped (now (w .entry)) (now (w .exit)) r q ⌝ }
 {
-    let i = keep(w, r, r.due.head, 2, 0, 0);
-    nodes::put(w, i, 0);
-    let d = nodes::formula(w, r.due.head + 2, r.due.rest);
+    let n = binder(w, r, r.due.head, 2, 0, 0);
+    changes::alter(w, r.depth, n, 0, 0);
+    let d = dues::formula(w, r.due.head + 2, r.due.rest);
     registers::due(r, r.depth + 1, d, r.inner, r.bad)
 }
 
@@ -73,8 +73,10 @@ fn open(w: &mut [u32], r: Regs, low: u32, high: u32) -> Regs
     requires { ⌜ Opens (now w) r low high ⌝ }
     ensures { λ q. ⌜ Stepped (now (w .entry)) (now (w .exit)) r q ⌝ }
 {
-    let b = take(w, r, r.due.head, 3, low, high);
-    let d = nodes::formula(w, b, r.due.rest);
+    let b = body(w, r.due.head);
+    let n = binder(w, r, r.due.head, 3, low, high);
+    changes::alter(w, r.depth, n, 1, low);
+    let d = dues::formula(w, b, r.due.rest);
     registers::due(r, r.depth + 1, d, r.inner, r.bad)
 }
 
@@ -101,8 +103,10 @@ fn round(w: &mut [u32], r: Regs, head: u32, value: u32, last: u32) -> Regs
     requires { ⌜ Rounds (now w) r head value last ⌝ }
     ensures { λ q. ⌜ Stepped (now (w .entry)) (now (w .exit)) r q ⌝ }
 {
-    let b = take(w, r, head, 2, value, last);
-    let d = nodes::formula(w, b, r.depth + 1);
+    let b = body(w, head);
+    let n = binder(w, r, head, 2, value, last);
+    changes::alter(w, r.depth, n, 1, value);
+    let d = dues::formula(w, b, r.depth + 1);
     registers::due(r, r.depth + 1, d, r.inner, r.bad)
 }
 

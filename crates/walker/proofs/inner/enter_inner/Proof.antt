@@ -43,7 +43,8 @@ formula-requires c κs =
     let at-push = c .before .before .before in
     let at-end = at-push .before .before .before .before .before in
     let start = at-end .before .before .before .before in
-    omega (arith, question-near (question-at (start .pre .0) (start .pre .1) (start .pre .2)), (at-push .push .ensures .linked .marked .size), (start .pre .0 .ins .path .size))
+    let x = (start .pre) in
+    omega (arith, question-near (question-at (x .0) (x .1) (x .2)), (at-push .push .ensures .linked .marked .size), x .0 .ins .path .size)
 
 add-due : tie.Need-add-due
 add-due c =
@@ -66,7 +67,9 @@ returns-2 c =
     let at-is-closed = at-if1 .before in
     let at-end = at-is-closed .before .before in
     let start = at-end .before .before .before .before in
-    stepped (c .due .ensures) (asks-down (question-at (start .pre .0) (start .pre .1) (start .pre .2)) (rw (at-end .end .ensures) at (at-is-closed .is-closed .ensures)) (not-false _ (at-if1 .if1 .left)) (at-push .push .ensures) (c .before .before .formula .ensures))
+    let x = (start .pre) in
+    stepped (c .due .ensures)
+    (asks-down (question-at (x .0) (x .1) (x .2)) (rw (at-end .end .ensures) at (at-is-closed .is-closed .ensures)) (not-false _ (at-if1 .if1 .left)) (at-push .push .ensures) (c .before .before .formula .ensures))
 
 pub enter-inner-spec : {M : Type 1} → statement M
 enter-inner-spec =

@@ -1,47 +1,69 @@
 -- `quantifiers::round` meets its contract.
 use borrow.Author.Needs.{needs}
 use native.Mathlib.Omega.{arith}
-use Rattle.walker.proofs.Heads.{shallow}
+use mathlib.Core.Path.{ap}
+use Rattle.tables.specs.declared.nodes.Node.{Node}
+use Rattle.walker.proofs.Heads.{shallow, room-words}
+use Rattle.walker.proofs.Pushes.{alters-size}
 use Rattle.walker.proofs.Onto.{stepped}
-use Rattle.walker.proofs.Quantified.{round-range, round-down, round-body, takes-size}
+use Rattle.walker.proofs.Quantified.{round-range, round-down, round-body}
 use Rattle.walker.proofs.quantifiers.round.Statement.{statement}
 use Rattle.walker.proofs.quantifiers.round.Tie as tie
 
-take-requires : tie.Need-take-requires
-take-requires c κs = round-range (c .before .before .pre)
+body-requires : tie.Need-body-requires
+body-requires c κs = round-range (c .before .before .pre) .1
+
+binder-requires : tie.Need-binder-requires
+binder-requires c κs =
+    let start = c .before .before .before .before in
+    round-range (start .pre) .0
+
+alter-requires : tie.Need-alter-requires
+alter-requires c κs =
+    let at-slice-known = c .before .before .before .before .before in
+    let start = at-slice-known .before in
+    (room-words ((start .pre) .at .ins), omega (arith, ap (λ (m : Node). m .slot) (c .before .binder .ensures), round-range (start .pre) .0 .local))
 
 add-formula : tie.Need-add-formula
 add-formula c =
-    let at-take-arg = c .before .before .before .before .before in
-    let start = at-take-arg .before .before in
-    omega (arith, shallow (start .pre .at .ins))
+    let at-alter-arg = c .before .before .before .before .before in
+    let at-slice-known = at-alter-arg .before .before .before .before .before in
+    let start = at-slice-known .before in
+    omega (arith, shallow ((start .pre) .at .ins))
 
 formula-requires : tie.Need-formula-requires
 formula-requires c κs =
-    let at-take = c .before .before .before .before in
-    let start = at-take .before .before .before in
-    omega (arith, (at-take .take .ensures .body), round-body (start .pre), takes-size (at-take .take .ensures), (start .pre .at .ins .path .size))
+    let at-alter = c .before .before .before .before in
+    let at-body = at-alter .before .before .before .before in
+    let start = at-body .before .before .before in
+    omega (arith, (at-body .body .ensures), round-body (start .pre), alters-size (at-alter .alter .ensures), (start .pre) .at .ins .path .size)
 
 add-due : tie.Need-add-due
 add-due c =
     let at-w = c .before .before .before .before .before in
-    let start = at-w .before .before .before .before in
-    omega (arith, shallow (start .pre .at .ins))
+    let at-body = at-w .before .before .before .before .before in
+    let start = at-body .before .before .before in
+    omega (arith, shallow ((start .pre) .at .ins))
 
 due-requires : tie.Need-due-requires
 due-requires c κs = search needs
 
 same-length : tie.Need-same-length
-same-length c = search needs
+same-length c =
+    let at-slice-known2 = c .before .before .before .before .before in
+    let at-alter = at-slice-known2 .before .before in
+    alters-size (at-alter .alter .ensures)
 
 returns : tie.Need-returns
 returns c =
     let at-slice-known2 = c .before .before .before .before .before in
-    let at-take = at-slice-known2 .before .before in
-    let start = at-take .before .before .before in
-    stepped (c .due .ensures) (round-down (start .pre) (at-take .take .ensures) (c .before .before .formula .ensures))
+    let at-alter = at-slice-known2 .before .before in
+    let at-binder = at-alter .before .before in
+    let at-body = at-binder .before .before in
+    let start = at-body .before .before .before in
+    stepped (c .due .ensures) (round-down (start .pre) (at-body .body .ensures) (at-binder .binder .ensures) (at-alter .alter .ensures) (c .before .before .formula .ensures))
 
 pub round-spec : {M : Type 1} → statement M
 round-spec =
     tie.close
-    (tie.spec take-requires add-formula formula-requires add-due due-requires same-length returns)
+    (tie.spec body-requires binder-requires alter-requires add-formula formula-requires add-due due-requires same-length returns)

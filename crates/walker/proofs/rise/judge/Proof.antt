@@ -13,7 +13,7 @@ use Rattle.walker.proofs.rise.judge.Statement.{statement}
 use Rattle.walker.proofs.rise.judge.Tie as tie
 
 -- what is known at the start
-known : (c : tie.After-put) →
+known : (c : tie.After-set-todo) →
     (let s = c .before .before .before .before in
     let k = s .before .before .before .before in
     let a = k .before .before .before .before .args in
@@ -24,7 +24,7 @@ known c =
     let start = at-struct-known .before .before in
     (start .pre)
 
-token-small : (c : tie.After-put) →
+token-small : (c : tie.After-set-todo) →
     (let s = c .before .before .before .before in
     s .before .before .before .before .head-of .result < 1024)
 token-small c =
@@ -33,18 +33,18 @@ token-small c =
     omega (arith, (at-head-of .head-of .ensures), judge-small (known c .0))
 
 -- what was read at the node, which has nothing left to do now
-read : (c : tie.After-put) →
+read : (c : tie.After-set-todo) →
     (let inner = c .before .before .before .before in
     let head = inner .before .before .before .before in
     let a = head .before .before .before .before .args in
-    Judges (now (a .w)) (now (setVals (c .put .last .0) (a .w))) (a .r) (head .head-of .result) (inner .before .before .rest-of .result)
+    Judges (now (a .w)) (now (setVals (c .set-todo .last .0) (a .w))) (a .r) (head .head-of .result) (inner .before .before .rest-of .result)
     (inner .inner-of .result) (c .before .before .bad-of .result))
 read c =
     let at-inner-of = c .before .before .before .before in
     let at-rest-of = at-inner-of .before .before in
     let at-head-of = at-rest-of .before .before in
     judging (known c .0) (at-head-of .head-of .ensures) (at-rest-of .rest-of .ensures) (at-inner-of .inner-of .ensures) (c .before .before .bad-of .ensures)
-    (c .put .ensures)
+    (c .set-todo .ensures)
 
 sub-k : tie.Need-sub-k
 sub-k c = search needs
@@ -61,44 +61,32 @@ inner-of-requires c κs = search needs
 bad-of-requires : tie.Need-bad-of-requires
 bad-of-requires c κs = search needs
 
-cast-put : tie.Need-cast-put
-cast-put c = search needs
-
-mul-put : tie.Need-mul-put
-mul-put c = search needs
-
-add-put : tie.Need-add-put
-add-put c = search needs
-
-add-put-2 : tie.Need-add-put-2
-add-put-2 c = search needs
-
-put-requires : tie.Need-put-requires
-put-requires c κs = search needs
+set-todo-requires : tie.Need-set-todo-requires
+set-todo-requires c κs = search needs
 
 code-requires : tie.Need-code-requires
 code-requires c κs =
-    let at-put = c .before .before .before .before .before in
-    omega (arith, token-small at-put, known at-put .0 .path .size, simp length-set at (ap length (at-put .put .ensures)))
+    let at-set-todo = c .before .before .before .before .before in
+    omega (arith, token-small at-set-todo, known at-set-todo .0 .path .size, simp length-set at (ap length (at-set-todo .set-todo .ensures)))
 
 add-end : tie.Need-add-end
 add-end c =
     let at-struct-known2 = c .before .before .before .before .before in
-    let at-put = at-struct-known2 .before .before .before in
-    omega (arith, token-small at-put)
+    let at-set-todo = at-struct-known2 .before .before .before in
+    omega (arith, token-small at-set-todo)
 
 end-requires : tie.Need-end-requires
 end-requires c κs =
     let at-struct-known2 = c .before .before .before .before .before in
-    let at-put = at-struct-known2 .before .before .before in
-    omega (arith, token-small at-put, known at-put .0 .path .size, simp length-set at (ap length (at-put .put .ensures)))
+    let at-set-todo = at-struct-known2 .before .before .before in
+    omega (arith, token-small at-set-todo, known at-set-todo .0 .path .size, simp length-set at (ap length (at-set-todo .set-todo .ensures)))
 
 formula-requires : tie.Need-formula-requires
 formula-requires c κs =
     let at-code = c .before .before .before in
     let at-w = at-code .before .before .before .before .before in
-    let at-put = at-w .before in
-    omega (arith, judge-far (read at-put) (known at-put .0) (sym (at-code .code .ensures) ∙ (c .before .before .if2 .taken)) (c .end .ensures), known at-put .0 .path .size, simp length-set at (ap length (at-put .put .ensures)))
+    let at-set-todo = at-w .before in
+    omega (arith, judge-far (read at-set-todo) (known at-set-todo .0) (sym (at-code .code .ensures) ∙ (c .before .before .if2 .taken)) (c .end .ensures), known at-set-todo .0 .path .size, simp length-set at (ap length (at-set-todo .set-todo .ensures)))
 
 due-requires : tie.Need-due-requires
 due-requires c κs = search needs
@@ -111,9 +99,9 @@ returns c =
     let at-if2 = c .before .before .before .before in
     let at-code = at-if2 .before in
     let at-if1 = at-code .before .before in
-    let at-put = at-if1 .before .before .before .before in
+    let at-set-todo = at-if1 .before .before .before .before in
     rose-yes (c .due .ensures) (c .before .formula .ensures) (at-if1 .if1 .taken)
-    (λ d o. judge-imp (read at-put) (sym (at-code .code .ensures) ∙ (at-if2 .if2 .taken)) (c .before .before .end .ensures))
+    (λ d o. judge-imp (read at-set-todo) (sym (at-code .code .ensures) ∙ (at-if2 .if2 .taken)) (c .before .before .end .ensures))
 
 plain-due-requires : tie.Need-plain-due-requires
 plain-due-requires c κs = search needs
@@ -128,9 +116,9 @@ returns-2 : tie.Need-returns-2
 returns-2 c =
     let at-code = c .before .before .before in
     let at-if1 = at-code .before .before in
-    let at-put = at-if1 .before .before .before .before in
+    let at-set-todo = at-if1 .before .before .before .before in
     rose-yes (c .due2 .ensures) (c .before .plain-due .ensures) (at-if1 .if1 .taken)
-    (λ d o. judge-not (read at-put) (λ e. (c .before .before .if2 .left) ((at-code .code .ensures) ∙ e)))
+    (λ d o. judge-not (read at-set-todo) (λ e. (c .before .before .if2 .left) ((at-code .code .ensures) ∙ e)))
 
 error-due-requires : tie.Need-error-due-requires
 error-due-requires c κs = search needs
@@ -144,14 +132,14 @@ same-length-3 c = search needs
 returns-3 : tie.Need-returns-3
 returns-3 c =
     let at-if1 = c .before .before .before .before in
-    let at-put = at-if1 .before .before .before .before in
-    rose-up (c .due3 .ensures) (c .before .error-due .ensures) (son-finished (known at-put .1) (at-if1 .if1 .left)) (λ d o. judge-bad (read at-put) (c .before .before .if3 .taken))
+    let at-set-todo = at-if1 .before .before .before .before in
+    rose-up (c .due3 .ensures) (c .before .error-due .ensures) (son-finished (known at-set-todo .1) (at-if1 .if1 .left)) (λ d o. judge-bad (read at-set-todo) (c .before .before .if3 .taken))
 
 list-at-requires : tie.Need-list-at-requires
 list-at-requires c κs =
     let at-slice-known2 = c .before .before .before .before .before in
-    let at-put = at-slice-known2 .before .before in
-    judge-leads (read at-put) (known at-put .0)
+    let at-set-todo = at-slice-known2 .before .before in
+    judge-leads (read at-set-todo) (known at-set-todo .0)
 
 due-requires-4 : tie.Need-due-requires-4
 due-requires-4 c κs = search needs
@@ -163,10 +151,10 @@ returns-4 : tie.Need-returns-4
 returns-4 c =
     let at-if3 = c .before .before .before in
     let at-if1 = at-if3 .before .before in
-    let at-put = at-if1 .before .before .before .before in
-    rose-up (c .due4 .ensures) refl (son-finished (known at-put .1) (at-if1 .if1 .left)) (λ d o. judge-on (read at-put) (at-if3 .if3 .left) (c .before .list-at .ensures))
+    let at-set-todo = at-if1 .before .before .before .before in
+    rose-up (c .due4 .ensures) refl (son-finished (known at-set-todo .1) (at-if1 .if1 .left)) (λ d o. judge-on (read at-set-todo) (at-if3 .if3 .left) (c .before .list-at .ensures))
 
 pub judge-spec : {M : Type 1} → statement M
 judge-spec =
     tie.close
-    (tie.spec sub-k head-of-requires rest-of-requires inner-of-requires bad-of-requires cast-put mul-put add-put add-put-2 put-requires code-requires add-end end-requires formula-requires due-requires same-length returns plain-due-requires due-requires-2 same-length-2 returns-2 error-due-requires due-requires-3 same-length-3 returns-3 list-at-requires due-requires-4 same-length-4 returns-4)
+    (tie.spec sub-k head-of-requires rest-of-requires inner-of-requires bad-of-requires set-todo-requires code-requires add-end end-requires formula-requires due-requires same-length returns plain-due-requires due-requires-2 same-length-2 returns-2 error-due-requires due-requires-3 same-length-3 returns-3 list-at-requires due-requires-4 same-length-4 returns-4)

@@ -75,41 +75,14 @@ add-value c =
     let x = (start .pre) in
     omega (arith, (c .current-of .ensures), x .2, readable (x .0) .last)
 
-cast-put : tie.Need-cast-put
-cast-put c = search needs
+set-current-requires : tie.Need-set-current-requires
+set-current-requires c κs = search needs
 
-mul-put : tie.Need-mul-put
-mul-put c = search needs
-
-add-put : tie.Need-add-put
-add-put c = search needs
-
-add-put-2 : tie.Need-add-put-2
-add-put-2 c = search needs
-
-put-requires : tie.Need-put-requires
-put-requires c κs = search needs
-
-put-requires-2 : tie.Need-put-requires-2
-put-requires-2 c κs =
-    let at-put = c .before .before .before in
-    let at-slot-of = at-put .before .before .before .before in
-    omega (arith, slot-there at-slot-of, simp length-set at (ap length (at-put .put .ensures)))
-
-add-put-3 : tie.Need-add-put-3
-add-put-3 c = search needs
-
-put-requires-3 : tie.Need-put-requires-3
-put-requires-3 c κs =
-    let at-put2 = c .before .before .before in
-    let at-put = at-put2 .before .before .before .before in
-    let at-slot-of = at-put .before .before .before .before in
-    omega (
-      arith,
-      slot-there at-slot-of,
-      simp length-set at (ap length (at-put .put .ensures)),
-      simp length-set at (ap length (at-put2 .put2 .ensures)),
-    )
+set-slot-requires : tie.Need-set-slot-requires
+set-slot-requires c κs =
+    let at-set-current = c .before .before .before in
+    let at-slot-of = at-set-current .before .before .before .before in
+    omega (arith, slot-there (at-slot-of), simp length-set at (ap length (at-set-current .set-current .ensures)))
 
 due-requires : tie.Need-due-requires
 due-requires c κs = search needs
@@ -119,10 +92,9 @@ same-length c = search needs
 
 returns : tie.Need-returns
 returns c =
-    let at-put3 = c .before .before .before in
-    let at-put2 = at-put3 .before .before .before .before in
-    let at-put = at-put2 .before .before .before .before in
-    let at-current-of = at-put .before .before in
+    let at-set-slot = c .before .before .before in
+    let at-set-current = at-set-slot .before .before .before .before in
+    let at-current-of = at-set-current .before .before in
     let at-slot-of = at-current-of .before .before in
     let at-formula = at-slot-of .before .before in
     let at-rest-of = at-formula .before in
@@ -138,7 +110,6 @@ returns c =
       i = _;
       v = _;
       first = _;
-      second = _;
       some = x .0 .some;
       todo = x .0 .todo;
       more = x .2;
@@ -146,12 +117,11 @@ returns c =
       rest = (at-rest-of .rest-of .ensures);
       slot = (at-slot-of .slot-of .ensures);
       value = ap (λ n. n + 1) (at-current-of .current-of .ensures);
-      current = (at-put .put .ensures);
-      flag = (at-put2 .put2 .ensures);
-      word = (at-put3 .put3 .ensures);
+      current = (at-set-current .set-current .ensures);
+      words = (at-set-slot .set-slot .ensures);
     }) (at-end .end .ensures) (at-end2 .end2 .ensures))
 
 pub next-spec : {M : Type 1} → statement M
 next-spec =
     tie.close
-    (tie.spec sub-k head-of-requires add-end end-requires end-requires-2 rest-of-requires formula-requires slot-of-requires cast-i current-of-requires add-value cast-put mul-put add-put add-put-2 put-requires put-requires-2 add-put-3 put-requires-3 due-requires same-length returns)
+    (tie.spec sub-k head-of-requires add-end end-requires end-requires-2 rest-of-requires formula-requires slot-of-requires cast-i current-of-requires add-value set-current-requires set-slot-requires due-requires same-length returns)

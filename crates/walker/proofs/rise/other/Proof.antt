@@ -31,20 +31,8 @@ formula-requires c κs =
     let start = at-head-of .before .before .before .before in
     omega (arith, other-far (start .pre .0) (at-head-of .head-of .ensures) (c .before .before .end .ensures), (start .pre .0 .path .size))
 
-cast-put : tie.Need-cast-put
-cast-put c = search needs
-
-mul-put : tie.Need-mul-put
-mul-put c = search needs
-
-add-put : tie.Need-add-put
-add-put c = search needs
-
-add-put-2 : tie.Need-add-put-2
-add-put-2 c = search needs
-
-put-requires : tie.Need-put-requires
-put-requires c κs = search needs
+set-todo-requires : tie.Need-set-todo-requires
+set-todo-requires c κs = search needs
 
 due-requires : tie.Need-due-requires
 due-requires c κs = search needs
@@ -54,17 +42,17 @@ same-length c = search needs
 
 returns : tie.Need-returns
 returns c =
-    let at-put = c .before .before .before in
-    let at-formula = at-put .before .before in
+    let at-set-todo = c .before .before .before in
+    let at-formula = at-set-todo .before .before in
     let at-rest-of = at-formula .before in
     let at-end = at-rest-of .before .before in
     let at-head-of = at-end .before .before in
     let start = at-head-of .before .before .before .before in
     let x = (start .pre) in
     rose-up (c .due .ensures) (at-formula .formula .ensures) (x .1)
-    (λ d o. other-up (x .0 .some) (x .0 .todo) (at-head-of .head-of .ensures) (at-end .end .ensures) (at-rest-of .rest-of .ensures) (at-put .put .ensures))
+    (λ d o. other-up (x .0 .some) (x .0 .todo) (at-head-of .head-of .ensures) (at-end .end .ensures) (at-rest-of .rest-of .ensures) (at-set-todo .set-todo .ensures))
 
 pub other-spec : {M : Type 1} → statement M
 other-spec =
     tie.close
-    (tie.spec sub-k head-of-requires add-end end-requires rest-of-requires formula-requires cast-put mul-put add-put add-put-2 put-requires due-requires same-length returns)
+    (tie.spec sub-k head-of-requires add-end end-requires rest-of-requires formula-requires set-todo-requires due-requires same-length returns)

@@ -22,22 +22,12 @@ had-of-requires c κs = search needs
 old-of-requires : tie.Need-old-of-requires
 old-of-requires c κs = search needs
 
-put-requires : tie.Need-put-requires
-put-requires c κs =
-    let s = c .before .before .before .before .before in
-    let x = s .before .before .before .before .pre in
-    omega (arith, s .slot-of .ensures, slot-there x, x .at .path .size)
-
-add-put : tie.Need-add-put
-add-put c = search needs
-
-put-requires-2 : tie.Need-put-requires-2
-put-requires-2 c κs =
-    let p = c .before .before .before in
-    let old = p .before .before in
-    let s = old .before .before .before .before in
-    let x = s .before .before .before .before .pre in
-    omega (arith, s .slot-of .ensures, slot-there x, x .at .path .size, simp length-set at (ap length (p .put .ensures)))
+set-slot-requires : tie.Need-set-slot-requires
+set-slot-requires c κs =
+    let at-slot-of = c .before .before .before .before .before in
+    let start = at-slot-of .before .before .before .before in
+    let x = (start .pre) in
+    omega (arith, (at-slot-of .slot-of .ensures), slot-there x, x .at .path .size)
 
 pop-requires : tie.Need-pop-requires
 pop-requires c κs = search needs
@@ -47,13 +37,12 @@ same-length c = search needs
 
 returns : tie.Need-returns
 returns c =
-    let two = c .before .before .before in
-    let one = two .before .before .before .before in
-    let old = one .before .before in
-    let had = old .before .before in
-    let slot = had .before .before in
-    rw (c .pop .ensures)
-    (restored (slot .before .before .before .before .pre) (slot .slot-of .ensures) (had .had-of .ensures) (old .old-of .ensures) (one .put .ensures) (two .put2 .ensures))
+    let at-set-slot = c .before .before .before in
+    let at-old-of = at-set-slot .before .before in
+    let at-had-of = at-old-of .before .before in
+    let at-slot-of = at-had-of .before .before in
+    let start = at-slot-of .before .before .before .before in
+    rw (c .pop .ensures) (restored (start .pre) (at-slot-of .slot-of .ensures) (at-had-of .had-of .ensures) (at-old-of .old-of .ensures) (at-set-slot .set-slot .ensures))
 
 pub restore-spec : {M : Type 1} → statement M
 restore-spec =
@@ -64,9 +53,7 @@ restore-spec =
     cast-i
     had-of-requires
     old-of-requires
-    put-requires
-    add-put
-    put-requires-2
+    set-slot-requires
     pop-requires
     same-length
     returns)

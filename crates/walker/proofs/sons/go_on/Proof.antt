@@ -5,14 +5,14 @@ use Rattle.walker.proofs.Simple.{goes-leads, goes-down}
 use Rattle.walker.proofs.sons.go_on.Statement.{statement}
 use Rattle.walker.proofs.sons.go_on.Tie as tie
 
-pass-requires : tie.Need-pass-requires
-pass-requires c κs = search needs
+mark-requires : tie.Need-mark-requires
+mark-requires c κs = search needs
 
 list-at-requires : tie.Need-list-at-requires
 list-at-requires c κs =
-    let at-pass = c .before .before .before in
-    let start = at-pass .before .before .before in
-    goes-leads (at-pass .pass .ensures) (start .pre)
+    let at-mark = c .before .before .before in
+    let start = at-mark .before .before .before in
+    goes-leads (at-mark .mark .ensures) (start .pre)
 
 add-due : tie.Need-add-due
 add-due c = search needs
@@ -26,11 +26,11 @@ same-length c = search needs
 returns : tie.Need-returns
 returns c =
     let at-w = c .before .before .before .before .before in
-    let at-pass = at-w .before in
-    let start = at-pass .before .before .before in
-    stepped (c .due .ensures) (goes-down (at-pass .pass .ensures) (start .pre) (c .before .before .list-at .ensures))
+    let at-mark = at-w .before in
+    let start = at-mark .before .before .before in
+    stepped (c .due .ensures) (goes-down (at-mark .mark .ensures) (start .pre) (c .before .before .list-at .ensures))
 
 pub go-on-spec : {M : Type 1} → statement M
 go-on-spec =
     tie.close
-    (tie.spec pass-requires list-at-requires add-due due-requires same-length returns)
+    (tie.spec mark-requires list-at-requires add-due due-requires same-length returns)

@@ -5,8 +5,8 @@ use Rattle.walker.proofs.Simple.{leaf-down}
 use Rattle.walker.proofs.sons.to_leaf.Statement.{statement}
 use Rattle.walker.proofs.sons.to_leaf.Tie as tie
 
-pass-requires : tie.Need-pass-requires
-pass-requires c κs = search needs
+mark-requires : tie.Need-mark-requires
+mark-requires c κs = search needs
 
 add-due : tie.Need-add-due
 add-due c = search needs
@@ -19,11 +19,11 @@ same-length c = search needs
 
 returns : tie.Need-returns
 returns c =
-    let at-pass = c .before .before .before .before in
-    let start = at-pass .before .before .before in
-    stepped (c .due .ensures) (leaf-down (at-pass .pass .ensures) (start .pre))
+    let at-mark = c .before .before .before .before in
+    let start = at-mark .before .before .before in
+    stepped (c .due .ensures) (leaf-down (at-mark .mark .ensures) (start .pre))
 
 pub to-leaf-spec : {M : Type 1} → statement M
 to-leaf-spec =
     tie.close
-    (tie.spec pass-requires add-due due-requires same-length returns)
+    (tie.spec mark-requires add-due due-requires same-length returns)

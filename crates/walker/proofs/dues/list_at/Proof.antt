@@ -1,10 +1,10 @@
--- `nodes::list_at` meets its contract: the empty list, the second part of an `and`, or an `all` that goes on.
+-- `dues::list_at` meets its contract: the empty list, the second part of an `and`, or an `all` that goes on.
 use borrow.Author.Needs.{needs}
 use native.Mathlib.Omega.{arith}
 use mathlib.Core.Path.{sym, _∙_}
 use Rattle.walker.proofs.Listed.{leads, listed-none, listed-form, listed-again, second-small}
-use Rattle.walker.proofs.nodes.list_at.Statement.{statement}
-use Rattle.walker.proofs.nodes.list_at.Tie as tie
+use Rattle.walker.proofs.dues.list_at.Statement.{statement}
+use Rattle.walker.proofs.dues.list_at.Tie as tie
 
 plain-due-requires : tie.Need-plain-due-requires
 plain-due-requires c κs = search needs

@@ -1,7 +1,7 @@
--- `nodes::formula` meets its contract.
+-- `dues::formula` meets its contract.
 use borrow.Author.Needs.{needs}
-use Rattle.walker.proofs.nodes.formula.Statement.{statement}
-use Rattle.walker.proofs.nodes.formula.Tie as tie
+use Rattle.walker.proofs.dues.formula.Statement.{statement}
+use Rattle.walker.proofs.dues.formula.Tie as tie
 
 code-requires : tie.Need-code-requires
 code-requires c κs = search needs
