@@ -1,4 +1,5 @@
 -- The laws of the specification, in the order in which they lean on each other.
+pub mod Contradiction
 -- of lists, numbers and blocks
 pub mod Lists
 pub mod Print

@@ -1,6 +1,5 @@
 -- The demands (specs/Demands.antt) hold of every answered call. Assumes nothing.
 use Prim.Native.Nat.{ℕ, _≤_}
-use native.Mathlib.Omega.{arith}
 use mathlib.Core.Path.{_≡_, refl, sym, _∙_, ap, subst}
 use mathlib.Core.List.{List, _++_}
 use lib.ListN.{length, take, drop}
@@ -14,6 +13,7 @@ use Rattle.specification.specs.declared.Outcome.the-variants.{Refused, Ran}
 use Rattle.specification.specs.Bytes.{Bytes}
 use Rattle.specification.specs.Outcome.{Result, refusal, ran, call, written, outcome, outputAfter, wordsAfter}
 use Rattle.specification.specs.Report.{reportOf}
+use Rattle.specification.proofs.Laws.Contradiction.{contradiction}
 use Rattle.specification.proofs.Laws.Demand3.{Told, told}
 use Rattle.specification.proofs.Laws.CallRan.{call-refused}
 use Rattle.specification.proofs.Laws.CutShort.{shorter-refused}
@@ -23,7 +23,7 @@ use Rattle.vodlasim.specs.Demands.{Memory, Lists, Agrees, CutShort}
 
 -- a result by its outcome
 ran-of : (x : Result) (e : End) (t : Tallies) (n : ℕ) → outcome x ≡ Ran e t n → (w : Bytes) × (x ≡ ran e t w) × (length w ≡ n)
-ran-of (refusal k p) e t n h = let z : _≡_ {A = ℕ} 0 1 = cc in absurd (omega arith)
+ran-of (refusal k p) e t n h = contradiction cc
 ran-of (ran e′ t′ w) e t n h =
     let p : e′ ≡ e = cc in
     let q : t′ ≡ t = cc in
@@ -34,7 +34,7 @@ refused-of (refusal k′ p′) k p h =
     let a : k′ ≡ k = cc in
     let b : p′ ≡ p = cc in
     ap (λ x. refusal x p′) a ∙ ap (refusal k) b
-refused-of (ran e t w) k p h = let z : _≡_ {A = ℕ} 0 1 = cc in absurd (omega arith)
+refused-of (ran e t w) k p h = contradiction cc
 
 module _ (sheet : Bytes) (S : Setting) (work work' : List ℕ) (output output' : Bytes) (r : Outcome) (a : Answered sheet S work work' output output' r) where
   abbrev result : Result

@@ -15,6 +15,7 @@ use Rattle.specification.specs.Parser.{Reader, Read, refused, found}
 use Rattle.specification.specs.Sheet.{Sheet, read}
 use Rattle.specification.specs.WellFormed.{nowhere}
 use Rattle.specification.specs.Outcome.{refusal, afterReading, enoughMemory, call, outcome, outputAfter, wordsAfter}
+use Rattle.specification.proofs.Laws.Contradiction.{contradiction}
 use Rattle.specification.proofs.Laws.Parser.{of-found}
 use Rattle.specification.proofs.Laws.SheetLines.{sheet-lines}
 use Rattle.specification.proofs.Laws.ReadLines.{line-post}
@@ -42,7 +43,7 @@ read-shallow b s r e =
 
 both : (x y : Bool) → (x && y) ≡ true → (x ≡ true) × (y ≡ true)
 both true y e = (refl, e)
-both false y e = let z : _≡_ {A = ℕ} 0 1 = cc in absurd (omega arith)
+both false y e = contradiction cc
 
 pub memory-of : (path words : ℕ) → (between 1 32768 path && leb (6144 + 12 * path) words) ≡ true → (path ≤ 32768) × (6144 + 12 * path ≤ words)
 memory-of path words e =
@@ -94,7 +95,7 @@ record Found (b : Bytes) (S : Setting) (n : ℕ) (w : Words) (scalars arrays : �
 
 module _ (b : Bytes) (S : Setting) (n : ℕ) (limit : S .path ≤ 32768) (size : 6144 + 12 * S .path ≤ n) (w : Words) (scalars arrays : ℕ) where
   found-of : (x : Read Sheet) → read b ≡ x → reading.Read scalars arrays ≡ readingOf x → w ≡ wordsOf n x → Found b S n w scalars arrays
-  found-of (refused k p) e t h = let z : _≡_ {A = ℕ} 0 1 = cc in absurd (omega arith)
+  found-of (refused k p) e t h = contradiction cc
   found-of (found s r) e t h =
       let enough : 6144 ≤ n = omega (arith, size) in
       let count = read-counts b s r e in
@@ -139,7 +140,7 @@ module _ (b : Bytes) (S : Setting) (w w' : List ℕ) (o : Bytes) where
         let a : k′ ≡ k = cc in
         let b : p′ ≡ p = cc in
         ap (λ x. refused x p′) a ∙ ap (refused k) b
-    unread-of (found s r) k p h = let z : _≡_ {A = ℕ} 0 1 = cc in absurd (omega arith)
+    unread-of (found s r) k p h = contradiction cc
 
     pub unread-answers : (k p : ℕ) → reading.Refused k p ≡ readingOf (read b) → w' ≡ wordsOf (length w) (read b) → Answered b S w w' o o (outcomes.Refused k p)
     unread-answers k p t h =

@@ -9,6 +9,7 @@ use lib.ListN.{length, length-drop}
 use lib.Dec.{eqb}
 use Rattle.specification.specs.Bytes.{Bytes, Class, pick, between, run, begins}
 use Rattle.specification.specs.Parser.{Reader, Read, Parser, past, next, mark, exactly, taken, ended, finish}
+use Rattle.specification.proofs.Laws.Contradiction.{contradiction}
 use Rattle.specification.proofs.Laws.Parser.{and-true, Reading, refusal, holds, pick-post}
 
 -- ---- a sheet of N bytes
@@ -32,13 +33,13 @@ SafeParser N p = (r : Reader) → Inside N r → Safe N (p r)
 -- ---- the lengths of what is read
 
 next-one : (c : Class) (bs : Bytes) → next c bs ≡ true → 1 ≤ length bs
-next-one c [] e = let z : _≡_ {A = ℕ} 0 1 = cc in absurd (omega arith)
+next-one c [] e = contradiction cc
 next-one c (b ∷ bs) e = omega arith
 
 begins-length : (k bs : Bytes) → begins k bs ≡ true → length k ≤ length bs
 unfolding begins
 begins-length [] bs e = omega arith
-begins-length (k ∷ ks) [] e = let z : _≡_ {A = ℕ} 0 1 = cc in absurd (omega arith)
+begins-length (k ∷ ks) [] e = contradiction cc
 begins-length (k ∷ ks) (b ∷ bs) e = omega (arith, begins-length ks bs (and-true (eqb k b) (begins ks bs) e .1))
 
 run-length : (f : ℕ → Bool) (bs : Bytes) → length (run f bs) ≤ length bs

@@ -1,6 +1,5 @@
 -- A call that ran has read a sheet, and its result is that sheet's run; a call whose sheet is refused in reading is refused. Assumes nothing.
 use Prim.Native.Nat.{ℕ}
-use native.Mathlib.Omega.{arith}
 use mathlib.Core.Path.{_≡_, refl, sym, _∙_, ap}
 use mathlib.Core.Bool.{Bool, true, false}
 use lib.ListN.{length}
@@ -12,9 +11,10 @@ use Rattle.specification.specs.Bytes.{Bytes, pick}
 use Rattle.specification.specs.Parser.{Reader, Read, refused, found}
 use Rattle.specification.specs.Sheet.{Sheet, read}
 use Rattle.specification.specs.Outcome.{refusal, ran, resultOf, runOf, afterReading, enoughMemory, call}
+use Rattle.specification.proofs.Laws.Contradiction.{contradiction}
 
 refusal-not-ran : {A : Type 0} {n p : ℕ} {e : End} {t : Tallies} {w : Bytes} → refusal n p ≡ ran e t w → A
-refusal-not-ran h = let z : _≡_ {A = ℕ} 0 1 = cc in absurd (omega arith)
+refusal-not-ran h = contradiction cc
 
 pub call-ran : (sheet : Bytes) (S : Setting) (words size : ℕ) (e : End) (t : Tallies) (w : Bytes) → call sheet S words size ≡ ran e t w →
     (s : Sheet) × (r : Reader) × (read sheet ≡ found s r) × (resultOf (runOf s S size) ≡ ran e t w)

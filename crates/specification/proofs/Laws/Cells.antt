@@ -13,6 +13,7 @@ use Rattle.specification.specs.Value.{Slot, empty, full, Valuation}
 use Rattle.specification.specs.Listing.{Named, cellNames, namedIf, valued}
 use Rattle.specification.specs.Plain.{Filling}
 use Rattle.specification.specs.Lists.{Each, Some}
+use Rattle.specification.proofs.Laws.Contradiction.{contradiction}
 use Rattle.specification.proofs.Laws.Lists.{each-map, some-elim, some-and-each, each-of-map, some-of-map}
 use Rattle.specification.proofs.Laws.Names.{from, each-from, some-from, name-cells, Known, names-declared, names-below}
 
@@ -88,7 +89,7 @@ module _ (D : Declared) (β : Valuation) where
   rises : (ns : List CellName) (i k : ℕ) → map (cellOf D) ns ≡ from i k → Rising D (valued D β ns)
   unfolding from valued Rising
   rises [] i k e = tt
-  rises (n ∷ ns) i zero e = let z : _≡_ {A = ℕ} 0 1 = cc in absurd (omega arith)
+  rises (n ∷ ns) i zero e = contradiction cc
   rises (n ∷ ns) i (suc k) e =
       let p : cellOf D n ≡ i = cc in
       let q : map (cellOf D) ns ≡ from (suc i) k = cc in

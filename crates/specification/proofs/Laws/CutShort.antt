@@ -10,6 +10,7 @@ use lib.ListN.{length}
 use Rattle.specification.specs.Bytes.{Bytes, feed}
 use Rattle.specification.specs.Parser.{Reader, Read, refused, found, Parser, give, _>>_, andThen, mark, finish}
 use Rattle.specification.specs.Sheet.{Sheet, sheet, opened, read}
+use Rattle.specification.proofs.Laws.Contradiction.{contradiction}
 use Rattle.specification.proofs.Laws.Parser.{Post, refusal as refused-post, holds, of-found, bind-post}
 use Rattle.specification.proofs.Laws.SheetLines.{sheet-by}
 use Rattle.specification.proofs.Laws.Steady.{Left, withRest, end, extended, Alike, Steady, post-map, mark-always, exactly-steady}
@@ -77,5 +78,4 @@ shorter-refused p q s r h e = go (read p) refl
     go (refused n place) k = (n, place, k)
     go (found s′ r′) k =
         let l = longer-refused p q s′ r′ h k in
-        let z : _≡_ {A = ℕ} 0 1 = cc in
-        absurd (omega arith)
+        contradiction cc

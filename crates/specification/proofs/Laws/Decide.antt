@@ -14,6 +14,7 @@ use Rattle.specification.specs.Ast.{Term, Formula, truth, and, or, imp, 
 use Rattle.specification.specs.Arithmetic.{eqZ, test, count}
 use Rattle.specification.specs.Place.{local, put}
 use Rattle.specification.specs.Plain.{Env, valueOf, Has, SomeFrom, EachFrom, Truth}
+use Rattle.specification.proofs.Laws.Contradiction.{contradiction}
 use Rattle.specification.proofs.Laws.Range.{eqZ-eq, eqZ-refl, in32-range, range-in32, range-at, range-in}
 
 -- ---- decisions
@@ -69,7 +70,7 @@ module _ (D : Declared) (ρ : Env) where
     where
       go : (o : Option ℤ) → valueOf D ρ t ≡ o → Dec ((x : ℤ) × Has D ρ t x)
       go (just x) e = yes (x, e)
-      go none e = no (λ (x, f). let z : _≡_ {A = ℕ} 0 1 = cc in omega arith)
+      go none e = no (λ (x, f). contradiction cc)
 
   one-value : (t : Term) (x y : ℤ) → Has D ρ t x → Has D ρ t y → x ≡ y
   one-value t x y h k = cc

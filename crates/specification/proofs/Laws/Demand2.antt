@@ -19,6 +19,7 @@ use Rattle.specification.specs.Visits.{Visit}
 use Rattle.specification.specs.Run.{tallies, Stop, spent, path, output, Run, going, stopped, scan}
 use Rattle.specification.specs.Outcome.{Result, refusal, ran, endOf, resultOf, rootOf, visitsOf, runOf}
 use Rattle.specification.specs.Demand2.{leafCount, leavesBefore, listedBefore, Next, Ends, visited, ReadLeftToRight}
+use Rattle.specification.proofs.Laws.Contradiction.{contradiction}
 use Rattle.specification.proofs.Laws.Stops.{dueText, due, added, counted, atStop, Meets, Passes}
 use Rattle.specification.proofs.Laws.Run.{then-is-++, scan-append, scan-stopped, scan-going, scan-nodes, writtenBy}
 use Rattle.specification.proofs.Laws.Leaves.{leafOf, leavesIn, leavesIn-++, leavesIn-visits, leafCount-is}
@@ -144,8 +145,7 @@ module _ (s : Sheet) (S : Setting) (size : ℕ) where
       go (going u b) e k = (u, b, e, scan-going D S size x bs u b t w (ap (λ r. scan D S size r (x ∷ bs)) (sym e) ∙ k) .0)
       go (stopped f u b) e k =
           let q : stopped f u b ≡ going t w = sym (scan-stopped D S size f u b (x ∷ bs)) ∙ ap (λ r. scan D S size r (x ∷ bs)) (sym e) ∙ k in
-          let z : _≡_ {A = ℕ} 0 1 = cc in
-          absurd (omega arith)
+          contradiction cc
 
   no-end-before : (xs ys : List Visit) → visitsOf s ≡ xs ++ ys → (t : Tallies) (w : Bytes) → GoesTo xs t w →
       (n : ℕ) → n < length xs → (e : End) → ¬ Ends s S size e n

@@ -6,6 +6,7 @@ use mathlib.Core.Path.{_≡_, refl, subst}
 use mathlib.Core.Logic.{_⊎_, inl, inr, ⊎-elim}
 use Rattle.specification.specs.Value.{Valuation}
 use Rattle.specification.specs.Tree.{Tree, successLeaf, failureLeaf, errorLeaf, step, fork, fan, ask, Verdict, succeeds, fails, undecided, join, joined, verdict}
+use Rattle.specification.proofs.Laws.Contradiction.{contradiction}
 use Rattle.specification.proofs.Laws.Scope.{Every, Any}
 
 -- ---- verdicts of parts
@@ -36,7 +37,7 @@ joined-fails (suc n) i f e (suc j) h =
 
 joined-succeeds : (n i : ℕ) (f : ℕ → Verdict) → joined n i f ≡ succeeds → (j : ℕ) × (j < i + n) × (f j ≡ succeeds)
 unfolding joined
-joined-succeeds zero i f e = let z : _≡_ {A = ℕ} 0 1 = cc in absurd (omega arith)
+joined-succeeds zero i f e = contradiction cc
 joined-succeeds (suc n) i f e =
     ⊎-elim (λ q. (i, omega arith, q)) (λ q. let (j, h, g) = joined-succeeds n (suc i) f q in (j, omega arith, g))
     (join-succeeds (f i) (joined n (suc i) f) e)
@@ -46,9 +47,9 @@ joined-succeeds (suc n) i f e =
 -- failure leaves only: no success or error leaf
 pub fails-none : (Q : Valuation → Type 0) (T : Tree) → verdict T ≡ fails → Any Q T → ⊥
 unfolding Any verdict
-fails-none Q (successLeaf β) e a = let z : _≡_ {A = ℕ} 0 1 = cc in omega arith
+fails-none Q (successLeaf β) e a = contradiction cc
 fails-none Q failureLeaf e a = a
-fails-none Q (errorLeaf κ t β) e a = let z : _≡_ {A = ℕ} 0 1 = cc in omega arith
+fails-none Q (errorLeaf κ t β) e a = contradiction cc
 fails-none Q (step T) e a = fails-none Q T e a
 fails-none Q (fork T U) e (inl a) = fails-none Q T ((join-fails (verdict T) (verdict U) e) .0) a
 fails-none Q (fork T U) e (inr a) = fails-none Q U ((join-fails (verdict T) (verdict U) e) .1) a
@@ -59,8 +60,8 @@ fails-none Q (ask I T) e a = fails-none Q T e a
 pub succeeds-one : (P : Valuation → Type 0) (T : Tree) → verdict T ≡ succeeds → Every P T → (β : Valuation) × P β
 unfolding Every verdict
 succeeds-one P (successLeaf β) e a = (β, a)
-succeeds-one P failureLeaf e a = let z : _≡_ {A = ℕ} 0 1 = cc in absurd (omega arith)
-succeeds-one P (errorLeaf κ t β) e a = let z : _≡_ {A = ℕ} 0 1 = cc in absurd (omega arith)
+succeeds-one P failureLeaf e a = contradiction cc
+succeeds-one P (errorLeaf κ t β) e a = contradiction cc
 succeeds-one P (step T) e a = succeeds-one P T e a
 succeeds-one P (fork T U) e a =
     ⊎-elim (λ q. succeeds-one P T q (a .0)) (λ q. succeeds-one P U q (a .1)) (join-succeeds (verdict T) (verdict U) e)

@@ -11,6 +11,7 @@ use borrow.Author.Tests.{lt-ltb}
 use Rattle.specification.specs.Lines.{Declared, CellName, sum, cells, firstOf, lengthOf, isDeclared, cellOf}
 use Rattle.specification.specs.Listing.{scalarNames, elementNames, arrayNames, cellNames}
 use Rattle.specification.specs.Lists.{Each, Some}
+use Rattle.specification.proofs.Laws.Contradiction.{contradiction}
 use Rattle.specification.proofs.Laws.Lists.{each-map, each-++, each-of-map}
 
 -- ---- numbers in a row
@@ -42,8 +43,8 @@ some-from i (suc n) c l m = ⊎-map (λ e. e) (λ k. some-from (suc i) n c k (om
 next : (xs : List ℕ) (a n : ℕ) (ns : List ℕ) → drop a xs ≡ n ∷ ns →
     (getD xs a 0 ≡ n) × (sum (take (suc a) xs) ≡ sum (take a xs) + n) × (drop (suc a) xs ≡ ns)
 unfolding sum
-next [] zero n ns e = let z : _≡_ {A = ℕ} 0 1 = cc in absurd (omega arith)
-next [] (suc a) n ns e = let z : _≡_ {A = ℕ} 0 1 = cc in absurd (omega arith)
+next [] zero n ns e = contradiction cc
+next [] (suc a) n ns e = contradiction cc
 next (x ∷ xs) zero n ns e = let q : x ≡ n = cc in (q, omega arith, cc)
 next (x ∷ xs) (suc a) n ns e = let (l, s, d) = next xs a n ns e in (l, omega (arith, s), d)
 

@@ -1,26 +1,26 @@
 -- What holds of anything that is read, and of a refusal: a law for each way in which readers are put together. Assumes nothing.
 use Prim.Native.Nat.{ℕ}
-use native.Mathlib.Omega.{arith}
 use mathlib.Core.Path.{_≡_, refl, subst}
 use mathlib.Core.Bool.{Bool, true, false, not, _&&_}
 use mathlib.Core.Option.{Option, none, some}
 use lib.Dec.{T}
 use Rattle.specification.specs.Bytes.{pick}
 use Rattle.specification.specs.Parser.{Reader, Read, refused, found, Parser, require, present, andThen}
+use Rattle.specification.proofs.Laws.Contradiction.{contradiction}
 
 -- ---- tests
 
 pub true-T : (b : Bool) → b ≡ true → T b
 true-T true e = tt
-true-T false e = let z : _≡_ {A = ℕ} 0 1 = cc in absurd (omega arith)
+true-T false e = contradiction cc
 
 pub false-T : (b : Bool) → b ≡ false → T (not b)
-false-T true e = let z : _≡_ {A = ℕ} 0 1 = cc in absurd (omega arith)
+false-T true e = contradiction cc
 false-T false e = tt
 
 pub and-true : (a b : Bool) → a && b ≡ true → (a ≡ true) × (b ≡ true)
 and-true true b e = (refl, e)
-and-true false b e = let z : _≡_ {A = ℕ} 0 1 = cc in absurd (omega arith)
+and-true false b e = contradiction cc
 
 -- ---- what holds of a reading
 
@@ -36,14 +36,14 @@ module _ {A : Type 0} where
 
 module _ {R : ℕ → ℕ → Type 0} {A : Type 0} {P : A → Reader → Type 0} where
   pub of-found : {x : Read A} {a : A} {r : Reader} → Reading R P x → x ≡ found a r → P a r
-  of-found (refusal h) e = let z : _≡_ {A = ℕ} 0 1 = cc in absurd (omega arith)
+  of-found (refusal h) e = contradiction cc
   of-found {a = a} {r = r} (holds {a = b} {r = s} h) e =
       let f : b ≡ a = cc in
       let g : s ≡ r = cc in
       subst (λ x. P x r) f (subst (λ x. P b x) g h)
 
   pub of-refused : {x : Read A} {n p : ℕ} → Reading R P x → x ≡ refused n p → R n p
-  of-refused (holds h) e = let z : _≡_ {A = ℕ} 0 1 = cc in absurd (omega arith)
+  of-refused (holds h) e = contradiction cc
   of-refused {n = n} {p = p} (refusal {n = m} {p = q} h) e =
       let f : m ≡ n = cc in
       let g : q ≡ p = cc in

@@ -1,6 +1,5 @@
 -- Putting at a place; valuations and environments with a value put; and going in and out of a binder's scope. Assumes nothing.
 use Prim.Native.Nat.{ℕ}
-use native.Mathlib.Omega.{arith}
 use mathlib.Core.Path.{_≡_, refl, sym, _∙_, ap, subst}
 use mathlib.Core.Bool.{Bool, true, false, not}
 use lib.Dec.{T, T-not, eqb}
@@ -12,6 +11,7 @@ use Rattle.specification.specs.Place.{Place, cell, local, samePlace, put
 use Rattle.specification.specs.Value.{Slot, empty, full, Valuation, allowed}
 use Rattle.specification.specs.WellFormed.{Scope, enter, Valid}
 use Rattle.specification.specs.Plain.{Env}
+use Rattle.specification.proofs.Laws.Contradiction.{contradiction}
 use Rattle.specification.proofs.Laws.Scope.{In, Agree, Ext}
 
 -- ---- the same place or another
@@ -37,7 +37,7 @@ place-dec q p = go (samePlace q p) refl
   where
     go : (b : Bool) → samePlace q p ≡ b → Dec (q ≡ p)
     go true e = yes (same-eq q p e)
-    go false e = no (λ h. let t : samePlace q p ≡ true = rw h (same-true p) in let z : _≡_ {A = ℕ} 0 1 = cc in omega arith)
+    go false e = no (λ h. let t : samePlace q p ≡ true = rw h (same-true p) in contradiction cc)
 
 -- ---- put
 

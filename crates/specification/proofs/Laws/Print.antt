@@ -12,6 +12,7 @@ use borrow.Author.Tests.{ltb-true, ltb-false, le-leb, lt-leb, ne-eqb}
 use Rattle.specification.specs.Bytes.{Bytes, pick, digit, classOf, classNumber, isIn}
 use Rattle.specification.specs.Number.{allDigits, decimal, wellFormed, natural, integer, digits, printℕ, printℤ}
 use Rattle.specification.specs.Lists.{Each}
+use Rattle.specification.proofs.Laws.Contradiction.{contradiction}
 use Rattle.specification.proofs.Laws.Lists.{each-map, each-++}
 
 -- ---- digits
@@ -97,7 +98,7 @@ natural-printℕ n = let p = printℕ-numeral n in rw (p .formed, p .value)
 
 integer-digits : (bs : Bytes) (n : ℕ) → Each IsDigit bs → natural bs ≡ some n → integer bs ≡ some (pos n)
 unfolding Each integer isIn classNumber natural wellFormed
-integer-digits [] n h e = let z : _≡_ {A = ℕ} 0 1 = cc in absurd (omega arith)
+integer-digits [] n h e = contradiction cc
 integer-digits (b ∷ bs) n h e = rw (digit-class b (h .0), e)
 
 pub integer-printℤ : (z : ℤ) → integer (printℤ z) ≡ some z
@@ -117,7 +118,7 @@ pub printℕ-nonempty : (n : ℕ) → ¬ (printℕ n ≡ [])
 unfolding wellFormed
 printℕ-nonempty n e =
     let z : true ≡ false = sym (printℕ-numeral n .formed) ∙ ap wellFormed e in
-    let y : _≡_ {A = ℕ} 0 1 = cc in omega arith
+    contradiction cc
 
 -- the byte does not stand in these
 abbrev pub Lacks : ℕ → Bytes → Type 0

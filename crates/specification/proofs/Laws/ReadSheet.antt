@@ -1,7 +1,5 @@
 -- Whatever is read is well formed: a sheet that is read keeps document 01's limits, its given items are as they should be, and its formula is
 -- well scoped. Assumes nothing.
-use Prim.Native.Nat.{ℕ}
-use native.Mathlib.Omega.{arith}
 use mathlib.Core.Path.{_≡_}
 use mathlib.Core.List.{[]}
 use Rattle.specification.specs.Bytes.{Bytes, bytes}
@@ -9,6 +7,7 @@ use Rattle.specification.specs.Parser.{Reader, found}
 use Rattle.specification.specs.Formula.{Locals, has}
 use Rattle.specification.specs.Sheet.{Sheet, opened, read}
 use Rattle.specification.specs.WellFormed.{WellFormed}
+use Rattle.specification.proofs.Laws.Contradiction.{contradiction}
 use Rattle.specification.proofs.Laws.Parser.{of-found}
 use Rattle.specification.proofs.Laws.SheetLines.{sheet-lines}
 use Rattle.specification.proofs.Laws.ReadLines.{line-post, arrays-post, limits}
@@ -18,7 +17,7 @@ use Rattle.specification.proofs.Laws.ReadFormula.{formula-post}
 
 no-locals : (B : Locals) → Sub [] B
 unfolding has
-no-locals B j e = let z : _≡_ {A = ℕ} 0 1 = cc in absurd (omega arith)
+no-locals B j e = contradiction cc
 
 pub read-well-formed : (b : Bytes) (s : Sheet) (r : Reader) → read b ≡ found s r → WellFormed s
 unfolding read has

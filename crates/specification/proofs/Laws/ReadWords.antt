@@ -1,6 +1,5 @@
 -- The constant of a word that is read lies in 32 bits. Assumes nothing.
 use Prim.Native.Nat.{ℕ}
-use native.Mathlib.Omega.{arith}
 use mathlib.Core.Path.{_≡_, refl, subst}
 use mathlib.Core.Bool.{Bool, true, false}
 use mathlib.Core.List.{List, [], _∷_}
@@ -11,6 +10,7 @@ use Rattle.specification.specs.Bytes.{Bytes, bytes, pick, inNumber, same
 use Rattle.specification.specs.Number.{natural, integer, in32}
 use Rattle.specification.specs.Words.{TermWord, constantWord, scalarWord, localWord, arrayWord, opWord, Word, formulaWord, termWord, unknown, Entry, words, named, nameOf, find, constantOf, wordOf}
 use Rattle.specification.specs.Lists.{Each}
+use Rattle.specification.proofs.Laws.Contradiction.{contradiction}
 use Rattle.specification.proofs.Laws.Parser.{true-T}
 
 -- a constant lies in 32 bits; of another word nothing is asked
@@ -60,12 +60,12 @@ words-ok edition = (tt, (tt, (tt, (tt, (tt, (tt, (tt, (tt, (tt, (tt, (tt, (tt, (
 -- ---- constants and tokens
 
 constant-ok : (o : Option ℤ) (w : Word) → constantOf o ≡ just w → WordOk w
-constant-ok none w e = let z : _≡_ {A = ℕ} 0 1 = cc in absurd (omega arith)
+constant-ok none w e = contradiction cc
 constant-ok (just z) w e = go (in32 z) refl e
   where
     go : (b : Bool) → in32 z ≡ b → pick b (just (termWord (constantWord z))) none ≡ just w → WordOk w
     go true t q = let s : termWord (constantWord z) ≡ w = cc in subst WordOk s (record { inBits = true-T (in32 z) t })
-    go false t q = let z : _≡_ {A = ℕ} 0 1 = cc in absurd (omega arith)
+    go false t q = contradiction cc
 
 pub word-ok : (edition : ℕ) (t : Bytes) (w : Word) → wordOf edition t ≡ just w → WordOk w
 unfolding wordOf

@@ -12,6 +12,7 @@ use Rattle.specification.specs.Lines.{Declared}
 use Rattle.specification.specs.Visits.{Visit, _then_}
 use Rattle.specification.specs.Run.{Stop, Run, going, stopped, visit, scan}
 use Rattle.specification.specs.Outcome.{resultOf, written}
+use Rattle.specification.proofs.Laws.Contradiction.{contradiction}
 use Rattle.specification.proofs.Laws.Stops.{added, counted, counted-nodes, atStop, Meets, Passes, visit-stops, visit-passes, Comes, stops, passes, comes}
 
 -- ---- bytes written
@@ -65,7 +66,7 @@ module _ (D : Declared) (S : Setting) (size : ℕ) where
       where
         go : Comes D S size v t w →
             Passes D S size v t w × (scan D S size (going (counted (v .event) t) (w ++ added D (S .skip) t (v .event))) vs ≡ going t′ w′)
-        go (stops e m) = let q = scan-stops e m in let z : _≡_ {A = ℕ} 0 1 = cc in absurd (omega arith)
+        go (stops e m) = let q = scan-stops e m in contradiction cc
         go (passes m) = (m, sym (scan-passes m) ∙ h)
 
   -- what holds at the end of the visits, at each stop, and before a visit that is passed if it holds after it, holds of every run

@@ -17,6 +17,7 @@ use Rattle.specification.specs.Outcome.{start}
 use Rattle.specification.specs.Plain.{Filling, Keeps}
 use Rattle.specification.specs.Lists.{Each, Some}
 use Rattle.specification.specs.WellFormed.{Valid, Rising}
+use Rattle.specification.proofs.Laws.Contradiction.{contradiction}
 use Rattle.specification.proofs.Laws.Lists.{each-map, each-both, each-some}
 use Rattle.specification.proofs.Laws.ReadGiven.{rising-above}
 
@@ -39,7 +40,7 @@ start-has floor (i ∷ is) h = (
 
 pub start-only : (is : List Item) (c : ℕ) (v : ℤ) → start is (cell c) ≡ full v → Some (Gives c v) is
 unfolding start put Some
-start-only [] c v e = let z : _≡_ {A = ℕ} 0 1 = cc in absurd (omega arith)
+start-only [] c v e = contradiction cc
 start-only (i ∷ is) c v e = go (eqb c (i .cell)) refl e (start-only is c v)
   where
     go : (b : Bool) → eqb c (i .cell) ≡ b → pick b (full (i .value)) (start is (cell c)) ≡ full v →
@@ -54,7 +55,7 @@ start-local (i ∷ is) l = start-local is l
 
 pub start-valid : (D : Declared) (is : List Item) → Each (λ i. T (inRange D (i .cell) (i .value))) is → Valid D (start is)
 start-valid D is h (cell c) v e = each-some is (λ i t g. rw (g .0, g .1) at t) h (start-only is c v e)
-start-valid D is h (local l) v e = let z : _≡_ {A = ℕ} 0 1 = cc (start-local is l) in absurd (omega arith)
+start-valid D is h (local l) v e = contradiction (cc (start-local is l))
 
 -- ---- fillings that keep the given values are those that match it
 

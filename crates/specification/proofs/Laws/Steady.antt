@@ -13,6 +13,7 @@ use lib.Dec.{eqb, ltb}
 use Rattle.specification.specs.Bytes.{Bytes, Class, pick, run, begins}
 use Rattle.specification.specs.Parser.{Reader, Read, found, Parser, give, require, present, andThen, past, next, sees, spells, mark, exactly, taken}
 use Rattle.specification.specs.Formula.{numbered, has, bind}
+use Rattle.specification.proofs.Laws.Contradiction.{contradiction}
 use Rattle.specification.proofs.Laws.Parser.{and-true, Post, refusal, holds, bind-post, pick-post}
 
 -- ---- bytes, and more bytes after them
@@ -30,7 +31,7 @@ module _ (q : Bytes) where
   begins-more : (k bs : Bytes) → begins k bs ≡ true → begins k (bs ++ q) ≡ true
   unfolding begins
   begins-more [] bs e = refl
-  begins-more (k ∷ ks) [] e = let z : _≡_ {A = ℕ} 0 1 = cc in absurd (omega arith)
+  begins-more (k ∷ ks) [] e = contradiction cc
   begins-more (k ∷ ks) (b ∷ bs) e =
       let h = and-true (eqb k b) (begins ks bs) e in
       rw (h .0) (begins-more ks bs (h .1))
@@ -155,7 +156,7 @@ module _ {q : Bytes} where
   mark-more : (c : Class) (r : Reader) (bs : Bytes) → next c bs ≡ true →
       Same q (withRest bs r) (mark c (withRest (bs ++ q) r)) tt (past 1 (withRest bs r))
   unfolding mark
-  mark-more c r [] e = let z : _≡_ {A = ℕ} 0 1 = cc in absurd (omega arith)
+  mark-more c r [] e = contradiction cc
   mark-more c r (b ∷ bs) e = record { left = omega arith; sheet = omega arith; same = rw e }
 
   -- also where the byte read is the last

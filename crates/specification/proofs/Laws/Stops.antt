@@ -1,6 +1,5 @@
 -- What comes of a visit: the condition of each stop at it, and what the run is after it where none is met. Assumes nothing.
 use Prim.Native.Nat.{ℕ, suc, _+_, _≤_, _<_}
-use native.Mathlib.Omega.{arith}
 use mathlib.Core.Path.{_≡_, refl}
 use mathlib.Core.Bool.{Bool, true, false}
 use mathlib.Core.List.{[], _++_, append-nil}
@@ -16,6 +15,7 @@ use Rattle.specification.specs.Listing.{answerHead, errorHead, Block, bl
 use Rattle.specification.specs.Leaves.{answer, error, fail}
 use Rattle.specification.specs.Visits.{Event, node, leaf, Visit}
 use Rattle.specification.specs.Run.{addNode, addAnswer, addError, addFail, Stop, spent, path, output, Run, going, stopped, block, arrive, visit}
+use Rattle.specification.proofs.Laws.Contradiction.{contradiction}
 
 -- ---- the block of an event, and the tallies after it
 
@@ -136,7 +136,7 @@ module _ (D : Declared) (S : Setting) (size : ℕ) where
       byRoom n l b e false q = stops output (n, l, (b, e, leb-false (length w + length (blockText b)) size q))
 
       byDue : (¬ (t .nodes ≡ S .budget)) → v .depth ≤ S .path → (o : Option Block) → due D (S .skip) t (v .event) ≡ o → Comes v t w
-      byDue n l none e = passes (n, l, λ b e′. let z : _≡_ {A = ℕ} 0 1 = cc in absurd (omega arith))
+      byDue n l none e = passes (n, l, λ b e′. contradiction cc)
       byDue n l (some b) e = byRoom n l b e (leb (length w + length (blockText b)) size) refl
 
       byPath : (¬ (t .nodes ≡ S .budget)) → (c : Bool) → ltb (S .path) (v .depth) ≡ c → Comes v t w

@@ -15,6 +15,7 @@ use Rattle.specification.specs.Number.{decimal, integer, printℕ, print
 use Rattle.specification.specs.Lines.{scalar, element}
 use Rattle.specification.specs.Listing.{Label, answerLabel, errorLabel, kindLabel, tokenLabel, cellLabel, Line, _is_, labelText, linesText}
 use Rattle.specification.specs.Lists.{Each}
+use Rattle.specification.proofs.Laws.Contradiction.{contradiction}
 use Rattle.specification.proofs.Laws.Lists.{each-++}
 use Rattle.specification.proofs.Laws.Print.{IsDigit, Lacks, printℕ-numeral, printℕ-lacks, printℤ-lacks, integer-printℤ}
 
@@ -113,8 +114,8 @@ line-same : (l m : Line) → l .label ≡ m .label → l .value ≡ m .value →
 line-same l m p q = ap (_is l .value) p ∙ ap (m .label is_) q
 
 not-empty : (xs ys : Bytes) (c : ℕ) → ¬ ([] ≡ xs ++ c ∷ ys)
-not-empty [] ys c e = let z : _≡_ {A = ℕ} 0 1 = cc in omega arith
-not-empty (x ∷ xs) ys c e = let z : _≡_ {A = ℕ} 0 1 = cc in omega arith
+not-empty [] ys c e = contradiction cc
+not-empty (x ∷ xs) ys c e = contradiction cc
 
 no-text : (l : Line) (ls : List Line) → ¬ (linesText [] ≡ linesText (l ∷ ls))
 unfolding linesText

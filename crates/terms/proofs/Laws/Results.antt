@@ -11,6 +11,7 @@ use Rattle.specification.specs.Lines.{Declared}
 use Rattle.specification.specs.Ast.{Op, add, sub, mul, div, modulo}
 use Rattle.specification.specs.Arithmetic.{value, fault, compute}
 use Rattle.specification.specs.Value.{empty, full, Valuation, Side, val, bare, err, pairOf, operate}
+use Rattle.specification.proofs.Laws.Contradiction.{contradiction}
 use Rattle.values.specs.Word.{biased, signed}
 use Rattle.values.specs.Packed.{packed}
 use Rattle.values.specs.declared.Computed.{Computed}
@@ -80,10 +81,10 @@ module _ (c : Computed) (at : ℕ) where
   packs-value v e (value z) h =
       let same : v ≡ biased z = cc in
       ap (λ (v : ℕ). record { at = at; tag = 0; value = v }) same
-  packs-value v e (fault κ) h = let z : _≡_ {A = ℕ} 0 1 = cc in absurd (omega arith)
+  packs-value v e (fault κ) h = contradiction cc
 
   pub packs-fault : (k : ℕ) → {r : Stack} → r ≡ errorOf k at → c ≡ Fault k → Packs c at r
-  packs-fault k q e (value z) h = let z : _≡_ {A = ℕ} 0 1 = cc in absurd (omega arith)
+  packs-fault k q e (value z) h = contradiction cc
   packs-fault k q e (fault κ) h = let same : k ≡ κ = cc in q ∙ ap (λ (k : ℕ). errorOf k at) same
 
 -- an operation on two results, given by their tags and words

@@ -12,6 +12,7 @@ use borrow.Author.Tests.{eq-eqb, ne-eqb, eqb-true, eqb-false, leb-true}
 use Rattle.specification.specs.Bytes.{Bytes, pick, between, classOf, classNumber, isIn}
 use Rattle.specification.specs.Bytes.{Class, letter, digit, space, feed, minus, equals, comma, colon, point, other}
 use Rattle.specification.specs.Parser.{next, ended}
+use Rattle.specification.proofs.Laws.Contradiction.{contradiction}
 use Rattle.text.specs.Class.{headClass, classAt}
 
 -- no class has the number of the end
@@ -69,8 +70,8 @@ digit-range b e = range (leb 48 b) (leb b 57) refl refl
 
     range : (p q : Bool) → leb 48 b ≡ p → leb b 57 ≡ q → (p && q) ≡ true → (48 ≤ b) × (b ≤ 57)
     range true true l m e = (leb-true _ _ l, leb-true _ _ m)
-    range true false l m e = let z : _≡_ {A = ℕ} 0 1 = cc in absurd (omega arith)
-    range false q l m e = let z : _≡_ {A = ℕ} 0 1 = cc in absurd (omega arith)
+    range true false l m e = contradiction cc
+    range false q l m e = contradiction cc
 
 -- ---- of a place
 

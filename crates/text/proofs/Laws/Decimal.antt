@@ -15,6 +15,7 @@ use borrow.Author.Tests.{leb-true, leb-false, le-leb, lt-leb, ne-eqb}
 use Rattle.specification.specs.Bytes.{Bytes, pick, digit, minus, classNumber, isIn}
 use Rattle.specification.specs.Parser.{next}
 use Rattle.specification.specs.Number.{allDigits, decimal, wellFormed, natural, negated, unsigned, integer}
+use Rattle.specification.proofs.Laws.Contradiction.{contradiction}
 use Rattle.text.specs.declared.Decimal.the-variants.{Is}
 use Rattle.text.specs.Class.{classAt}
 use Rattle.text.proofs.Laws.Class.{class-next, class-not-next}
@@ -99,7 +100,7 @@ module _ (bs : Bytes) where
 
 head-minus : (s : Bytes) → next minus s ≡ true → integer s ≡ negated (natural (drop 1 s))
 unfolding integer
-head-minus [] e = let z : _≡_ {A = ℕ} 0 1 = cc in absurd (omega arith)
+head-minus [] e = contradiction cc
 head-minus (b ∷ bs) e = rw e
 
 head-plain : (s : Bytes) → next minus s ≡ false → integer s ≡ unsigned (natural s)

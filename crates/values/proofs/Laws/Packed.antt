@@ -10,6 +10,7 @@ use Rattle.specification.specs.Bytes.{pick}
 use Rattle.specification.specs.Number.{in32, least}
 use Rattle.specification.specs.Ast.{Op, add, sub, mul, div, modulo}
 use Rattle.specification.specs.Arithmetic.{Computed, value, fault, fit, divided, compute, outside32, zeroDivisor}
+use Rattle.specification.proofs.Laws.Contradiction.{contradiction}
 use Rattle.values.specs.Word.{signed}
 use Rattle.values.proofs.Laws.Word.{by-sign}
 
@@ -38,7 +39,7 @@ fit-value u z e = go (in32 u) (λ t. t) e
   where
     go : (b : Bool) → (T b → T (in32 u)) → pick b (value u) (fault outside32) ≡ value z → T (in32 z)
     go true f e = let same : u ≡ z = cc in subst (λ (v : ℤ). T (in32 v)) same (f tt)
-    go false f e = let z : _≡_ {A = ℕ} 0 1 = cc in absurd (omega arith)
+    go false f e = contradiction cc
 
 -- ---- division
 
@@ -54,7 +55,7 @@ divided-other y c n = by-sign (λ z. divided z c ≡ c) y (λ l. refl) (λ h. go
     go (suc k) f = refl
 
 divided-value : (y : ℤ) (c : Computed) (z : ℤ) → divided y c ≡ value z → c ≡ value z
-divided-value (pos zero) c z e = let n : _≡_ {A = ℕ} 0 1 = cc in absurd (omega arith)
+divided-value (pos zero) c z e = contradiction cc
 divided-value (pos (suc n)) c z e = e
 divided-value (negsuc n) c z e = e
 
