@@ -29,6 +29,7 @@ pub mod GivenLine
 pub mod Declares
 -- the formula's line
 pub mod Packed
+pub mod Lexed
 pub mod Bits
 pub mod Entries
 pub mod Opened

@@ -1,8 +1,9 @@
 -- Words by their numbers: a word's bytes packed into one number, by which the code looks it up, and the code that stands for it.
 -- Assumes nothing.
 use Prim.Native.Nat.{ℕ, _+_, _*_}
-use mathlib.Core.List.{List, [], _∷_, map}
+use mathlib.Core.List.{List, [], _∷_}
 use mathlib.Core.Option.{Option, none, some as just}
+use lib.Dec.{eqb}
 use Rattle.specification.specs.Bytes.{Bytes, pick, same}
 use Rattle.specification.specs.Words.{Entry}
 use Rattle.tables.specs.Codes.{unknownCode}
@@ -17,16 +18,15 @@ packed (b ∷ bs) = b + 256 * packed bs
 abbrev pub entryCode : Entry → ℕ
 entryCode e = tokenOf (just (e .word)) .code
 
-abbrev pub keysOf : List Entry → List ℕ
-keysOf es = map (λ e. packed (e .text)) es
-
-abbrev pub codesOf : List Entry → List ℕ
-codesOf es = map entryCode es
-
 -- the code of the first entry with these bytes, 0 where there is none
 unfoldable pub codeIn : Bytes → List Entry → ℕ
 codeIn t [] = 0
 codeIn t (e ∷ es) = let r = codeIn t es in pick (same t (e .text)) (entryCode e) r
+
+-- the same by the number of the bytes
+unfoldable pub codeBy : ℕ → List Entry → ℕ
+codeBy k [] = 0
+codeBy k (e ∷ es) = let r = codeBy k es in pick (eqb k (packed (e .text))) (entryCode e) r
 
 -- a name's token, by the code of its letter and its index
 abbrev pub indexed : ℕ → Option ℕ → Token

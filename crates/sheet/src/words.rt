@@ -1,82 +1,19 @@
 // The words of a formula: from a token's bytes to its code and operand.
 ghost use mathlib.Core.Path.{_≡_};
 ghost use mathlib.Core.Option.{some as just};
-ghost use Prim.Native.Nat.{_≤_, _<_};
-ghost use lib.ListN.{length, getD, drop};
+ghost use Prim.Native.Nat.{ℕ, _≤_, _<_};
+ghost use lib.ListN.{length, drop};
 ghost use Rattle.specification.specs.Bytes.{inNumber};
 ghost use Rattle.specification.specs.Number.{natural, integer};
 ghost use Rattle.specification.specs.Words.{words, nameOf, constantOf, wordOf};
 ghost use Rattle.sheet.specs.Codes.{indexWord, tokenOf};
-ghost use Rattle.sheet.specs.Packed.{packed, keysOf, codesOf, codeIn, indexed};
+ghost use Rattle.sheet.specs.Packed.{packed, codeBy, codeIn, indexed};
 use crate::Token;
 use tables::codes;
 use text::Decimal;
 use text::Word;
 
-// How many words there are, names and constants aside.
-const WORDS: usize = 19;
-
-// The words, each packed into a number: its first byte lowest, and a 1 above its last.
-const KEYS: [u64; 19] = [
-    5997163124,
-    23359073,
-    94831,
-    24145257,
-    24407918,
-    94565,
-    91502,
-    95340,
-    91500,
-    95335,
-    91495,
-    96357,
-    5996638067,
-    23882849,
-    23356513,
-    23229811,
-    23885165,
-    24537444,
-    23359341,
-];
-
-// Their codes.
-const CODES: [u32; 19] = [
-    codes::TRUE,
-    codes::AND,
-    codes::OR,
-    codes::IMP,
-    codes::NOT,
-    codes::EQ,
-    codes::NE,
-    codes::LT,
-    codes::LE,
-    codes::GT,
-    codes::GE,
-    codes::EX,
-    codes::SOME,
-    codes::ALL,
-    codes::ADD,
-    codes::SUB,
-    codes::MUL,
-    codes::DIV,
-    codes::MOD,
-];
-
-fn key(i: usize, edition: u32) -> u64
-    requires { ⌜ i < 19 ⌝ }
-    ensures { λ r. ⌜ r ≡ getD (keysOf (words edition)) i 0 ⌝ }
-{
-    KEYS[i]
-}
-
-fn code(i: usize, edition: u32) -> u32
-    requires { ⌜ i < 19 ⌝ }
-    ensures { λ r. ⌜ r ≡ getD (codesOf (words edition)) i 0 ⌝ }
-{
-    CODES[i]
-}
-
-// The number of at most four bytes.
+// The number of at most four bytes: the first byte lowest, and a 1 above the last.
 fn pack(t: &[u8]) -> u64
     requires { ⌜ length (now t) ≤ 4 ⌝ }
     ensures { λ r. ⌜ r ≡ packed (now (t .entry)) ⌝ }
@@ -90,22 +27,42 @@ fn pack(t: &[u8]) -> u64
     n
 }
 
-// The code of a word of the set, 0 for any other bytes.
+// The code of a word of edition 1 by the number of its bytes, 0 for any other: two digits a byte, the last byte first, and a 1 before them.
+fn first_edition(word: u64) -> u32
+    ensures { λ r. ⌜ ((edition : ℕ) → r ≡ codeBy word (words edition)) ⌝ }
+{
+    match word {
+        0x1_65_75_72_74 => codes::TRUE, // true
+        0x1_64_6e_61 => codes::AND, // and
+        0x1_72_6f => codes::OR, // or
+        0x1_70_6d_69 => codes::IMP, // imp
+        0x1_74_6f_6e => codes::NOT, // not
+        0x1_71_65 => codes::EQ, // eq
+        0x1_65_6e => codes::NE, // ne
+        0x1_74_6c => codes::LT, // lt
+        0x1_65_6c => codes::LE, // le
+        0x1_74_67 => codes::GT, // gt
+        0x1_65_67 => codes::GE, // ge
+        0x1_78_65 => codes::EX, // ex
+        0x1_65_6d_6f_73 => codes::SOME, // some
+        0x1_6c_6c_61 => codes::ALL, // all
+        0x1_64_64_61 => codes::ADD, // add
+        0x1_62_75_73 => codes::SUB, // sub
+        0x1_6c_75_6d => codes::MUL, // mul
+        0x1_76_69_64 => codes::DIV, // div
+        0x1_64_6f_6d => codes::MOD, // mod
+        _ => 0,
+    }
+}
+
+// The code of a word of the edition's set, 0 for any other bytes. There is one set so far.
 fn word_code(t: &[u8], edition: u32) -> u32
     ensures { λ r. ⌜ r ≡ codeIn (now (t .entry)) (words edition) ⌝ }
 {
     if 4 < t.len() {
         return 0;
     }
-    let k = pack(t);
-    let mut i: usize = 0;
-    while i < WORDS {
-        if key(i, edition) == k {
-            return code(i, edition);
-        }
-        i += 1;
-    }
-    0
+    first_edition(pack(t))
 }
 
 // Whether a token that begins with this byte is a constant.

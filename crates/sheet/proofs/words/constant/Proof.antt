@@ -1,7 +1,7 @@
 -- The token of the constant's word. Assumes nothing.
 use mathlib.Core.Path.{_∙_, sym, ap}
 use Rattle.specification.specs.Number.{integer}
-use Rattle.sheet.proofs.Packed.{constantToken, constant-token}
+use Rattle.sheet.proofs.Lexed.{constantToken, constant-token}
 use borrow.Author.Needs.{needs}
 use Rattle.sheet.proofs.words.constant.Statement.{statement}
 use Rattle.sheet.proofs.words.constant.Tie as tie

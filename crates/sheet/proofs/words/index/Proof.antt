@@ -2,7 +2,7 @@
 use mathlib.Core.Path.{_∙_, sym, ap}
 use lib.ListN.{drop}
 use Rattle.specification.specs.Number.{natural}
-use Rattle.sheet.proofs.Packed.{indexToken, index-token, rest-whole}
+use Rattle.sheet.proofs.Lexed.{indexToken, index-token, rest-whole}
 use borrow.Author.Needs.{needs}
 use Rattle.sheet.proofs.words.index.Statement.{statement}
 use Rattle.sheet.proofs.words.index.Tie as tie

@@ -2,7 +2,7 @@
 use native.Mathlib.Omega.{arith}
 use mathlib.Core.Path.{_∙_, sym, ap}
 use Rattle.sheet.specs.Codes.{tokenOf}
-use Rattle.sheet.proofs.Packed.{lex-none, lex-constant, lex-word, lex-name}
+use Rattle.sheet.proofs.Lexed.{lex-none, lex-constant, lex-word, lex-name}
 use borrow.Author.Needs.{needs}
 use Rattle.sheet.proofs.words.lex.Statement.{statement}
 use Rattle.sheet.proofs.words.lex.Tie as tie

@@ -1,7 +1,7 @@
 -- By the first byte. Assumes nothing.
 use mathlib.Core.Path.{sym}
 use borrow.Author.Tests.{eq-eqb, ne-eqb}
-use Rattle.sheet.proofs.Packed.{name-token}
+use Rattle.sheet.proofs.Lexed.{name-token}
 use borrow.Author.Needs.{needs}
 use Rattle.sheet.proofs.words.name.Statement.{statement}
 use Rattle.sheet.proofs.words.name.Tie as tie
