@@ -1,12 +1,12 @@
 -- The openness test over tokens: what each token asks, a pass over them from the first to the last, and the contract of `is_closed`.
 -- Assumes nothing.
-use Prim.Native.Nat.{ℕ, suc, _+_, _/_, _%_, _^_, _<_, _≤_}
+use Prim.Native.Nat.{ℕ, suc, _+_, _<_, _≤_}
 use mathlib.Core.Path.{_≡_}
 use mathlib.Core.Bool.{Bool, true, false, _&&_, _||_}
 use mathlib.Core.Logic.{_⊎_}
 use mathlib.Core.List.{List, [], _∷_}
 use lib.ListN.{length}
-use lib.Dec.{T, eqb}
+use lib.Dec.{T}
 use Rattle.specification.specs.Lines.{Declared, cells}
 use Rattle.specification.specs.Ast.{Term, constant, scalarAt, localAt, elementAt, apply, Formula, truth, and, or, imp, neg, eq, compare, ex, some, all}
 use Rattle.specification.specs.Place.{Place, cell, local, put}
@@ -15,35 +15,24 @@ use Rattle.specification.specs.WellFormed.{Scope, Ok}
 use Rattle.specification.specs.Closed.{filled, closed}
 use Rattle.specification.specs.Value as value
 use Rattle.specification.specs.Closed as specified
-use Rattle.tables.specs.Layout.{pathAt}
+use Rattle.tables.specs.Layout.{pathAt, maxTokens, maxLocals, maxCells}
+use Rattle.tables.specs.Locals.{inSet}
+use Rattle.tables.specs.Codes.{exCode, allCode, scalarCode, localCode}
 use Rattle.sheet.specs.Tables.{Words}
-use Rattle.sheet.specs.Held.{codeAt, operandAt, endAt, FormulaAt, SlotAt, Holds}
+use Rattle.sheet.specs.Held.{codeAt, operandAt, endAt, FormulaAt, Shallow, SlotAt, Holds}
 
 -- ---- the contract of `is_closed`
-
--- each binder's local has a slot
-unfoldable pub LowLocals : Formula → Type 0
-LowLocals truth = Unit {0}
-LowLocals (and F G) = LowLocals F × LowLocals G
-LowLocals (or F G) = LowLocals F × LowLocals G
-LowLocals (imp n F G) = LowLocals F × LowLocals G
-LowLocals (neg n F) = LowLocals F
-LowLocals (eq n s t) = Unit {0}
-LowLocals (compare n r s t) = Unit {0}
-LowLocals (ex l F) = (l < 32) × LowLocals F
-LowLocals (some n l a b F) = (l < 32) × LowLocals F
-LowLocals (all n l a b F) = (l < 32) × LowLocals F
 
 -- the formula F stands in the tokens from `from` up to `to`, in tables that hold α
 pub record Standing (w : Words) (from to : ℕ) (D : Declared) (α : Valuation) (F : Formula) : Type 0 where
   pub formula : FormulaAt w from F
   pub end : endAt w from ≡ to
   pub holds : Holds w α
-  pub cells : cells D ≤ 512
+  pub cells : cells D ≤ maxCells
   pub scope : Scope
-  pub locals : (l : ℕ) → T (scope l) → l < 32
+  pub locals : (l : ℕ) → T (scope l) → l < maxLocals
   pub ok : Ok D scope F
-  pub low : LowLocals F
+  pub shallow : Shallow F
   pub size : pathAt ≤ length w
 
 pub record AskedFormula (w : Words) (from to : ℕ) : Type 0 where
@@ -85,14 +74,14 @@ formulaMarks (all n l a b F) xs = bindMark l ∷ askMark (local l) ∷ termMarks
 
 -- the token i, and for a binder the local after it, has this mark
 abbrev pub MarkAt : Words → ℕ → Mark → Type 0
-MarkAt w i (bindMark l) = (11 < codeAt w i) × (codeAt w i < 15) × (operandAt w (i + 1) ≡ l) × (l < 32) × (i + 1 < 1024)
-MarkAt w i (askMark (cell c)) = (codeAt w i ≡ 41) × (operandAt w i ≡ c) × (c < 512)
-MarkAt w i (askMark (local l)) = (codeAt w i ≡ 42) × (operandAt w i ≡ l) × (l < 32)
-MarkAt w i plainMark = (codeAt w i < 12) ⊎ ((14 < codeAt w i) × (codeAt w i ≡ 41 → ⊥) × (codeAt w i ≡ 42 → ⊥))
+MarkAt w i (bindMark l) = (exCode ≤ codeAt w i) × (codeAt w i ≤ allCode) × (operandAt w (i + 1) ≡ l) × (l < maxLocals) × (i + 1 < maxTokens)
+MarkAt w i (askMark (cell c)) = (codeAt w i ≡ scalarCode) × (operandAt w i ≡ c) × (c < maxCells)
+MarkAt w i (askMark (local l)) = (codeAt w i ≡ localCode) × (operandAt w i ≡ l) × (l < maxLocals)
+MarkAt w i plainMark = (codeAt w i < exCode) ⊎ ((allCode < codeAt w i) × (codeAt w i ≡ scalarCode → ⊥) × (codeAt w i ≡ localCode → ⊥))
 
 abbrev pub MarksAt : Words → ℕ → ℕ → List Mark → Type 0
 MarksAt w i e [] = i ≡ e
-MarksAt w i e (x ∷ xs) = (i < 1024) × MarkAt w i x × MarksAt w (suc i) e xs
+MarksAt w i e (x ∷ xs) = (i < maxTokens) × MarkAt w i x × MarksAt w (suc i) e xs
 
 -- ---- a pass over the marks
 
@@ -114,16 +103,14 @@ pass K (x ∷ xs) = answered x (learnt x K) && pass (learnt x K) xs
 
 -- ---- sets of locals
 
-abbrev pub has : ℕ → ℕ → Bool
-has m l = eqb (m / 2 ^ l % 2) 1
-
-abbrev pub inSet : ℕ → Place → Bool
-inSet m (cell c) = false
-inSet m (local l) = has m l
+-- a local of the set m
+abbrev pub isBound : ℕ → Place → Bool
+isBound m (cell c) = false
+isBound m (local l) = inSet m l
 
 -- a place is known whose binder was met, or that has a value
 abbrev pub knownBy : Valuation → ℕ → specified.Known
-knownBy α m p = inSet m p || filled (α p)
+knownBy α m p = isBound m p || filled (α p)
 
 -- ---- one token
 
@@ -132,7 +119,7 @@ Filled w j r = (s : value.Slot) → SlotAt w j s → r ≡ filled s
 
 pub record Marked (w : Words) (i : ℕ) : Type 0 where
   pub mark : Mark
-  pub token : i < 1024
+  pub token : i < maxTokens
   pub at : MarkAt w i mark
   pub size : pathAt ≤ length w
 

@@ -11,7 +11,7 @@ use Rattle.specification.specs.Place.{Place}
 use Rattle.specification.specs.Value.{Slot, Valuation, Side, val, bare, err, look, side}
 use Rattle.specification.specs.WellFormed.{Scope, OkTerm, Valid}
 use Rattle.values.specs.Word.{biased}
-use Rattle.tables.specs.Layout.{duesAt, duesEnd, pathAt}
+use Rattle.tables.specs.Layout.{duesAt, duesEnd, pathAt, maxLocals, maxCells, maxArrays, maxNesting}
 use Rattle.sheet.specs.Tables.{Words}
 use Rattle.sheet.specs.Held.{TermsAt, height, SlotAt, slotOf, Holds, ArraysAt}
 use Rattle.terms.specs.declared.Stack.{Stack}
@@ -19,10 +19,20 @@ use Rattle.terms.specs.declared.Sides.{Sides}
 
 -- ---- results
 
+-- what a result's word is; src/tags.rt has the same numbers
+abbrev pub valueTag : ℕ
+valueTag = 0
+
+abbrev pub bareTag : ℕ
+bareTag = 1
+
+abbrev pub errorTag : ℕ
+errorTag = 2
+
 abbrev pub tagOf : Side → ℕ
-tagOf (val z) = 0
-tagOf (bare p) = 1
-tagOf (err κ) = 2
+tagOf (val z) = valueTag
+tagOf (bare p) = bareTag
+tagOf (err κ) = errorTag
 
 abbrev pub wordOf : Side → ℕ
 wordOf (val z) = biased z
@@ -44,14 +54,14 @@ pub record Given (w : Words) (from to : ℕ) (D : Declared) (α : Valuation) (s 
   pub holds : Holds w α
   pub arrays : ArraysAt w D
   pub valid : Valid D α
-  pub cells : cells D ≤ 512
-  pub few : length (D .arrays) ≤ 16
+  pub cells : cells D ≤ maxCells
+  pub few : length (D .arrays) ≤ maxArrays
   pub scope : Scope
-  pub locals : (l : ℕ) → T (scope l) → l < 32
+  pub locals : (l : ℕ) → T (scope l) → l < maxLocals
   pub left : OkTerm D scope s
   pub right : OkTerm D scope t
-  pub left-low : height s ≤ 64
-  pub right-low : height t ≤ 64
+  pub left-low : height s ≤ maxNesting
+  pub right-low : height t ≤ maxNesting
   pub size : pathAt ≤ length w
 
 pub record Asked (w : Words) (from to : ℕ) : Type 0 where
@@ -73,7 +83,7 @@ pub record Valued (w w' : Words) (from to : ℕ) (r : Sides) : Type 0 where
 -- ---- small functions
 
 abbrev pub errorOf : ℕ → ℕ → Stack
-errorOf κ at = record { at = at; tag = 2; value = κ }
+errorOf κ at = record { at = at; tag = errorTag; value = κ }
 
 -- the error of an operand that has no value
 abbrev pub raise : Side → Side

@@ -1,9 +1,11 @@
 // Terms and formulas over the tables in the work words: the values of two terms, and whether a formula is closed. Each is one loop over
 // the tokens; nothing recurses.
 pub mod evaluation;
+pub mod kinds;
 pub mod openness;
+pub mod tags;
 
-// What two terms are. A tag says what a word is: 0 the word of a value, 1 the first word of a bare place's slot, 2 an error kind.
+// What two terms are: of each a tag (tags.rt) and a word.
 pub struct Sides {
     pub ltag: u32,
     pub rtag: u32,

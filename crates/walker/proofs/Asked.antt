@@ -11,11 +11,14 @@ use Rattle.specification.specs.Bytes.{Bytes}
 use Rattle.specification.specs.Ast.{Formula, truth, and, or, imp, neg, eq, compare, ex, some, all}
 use Rattle.specification.specs.Closed.{closed}
 use Rattle.specification.specs.Tree.{enquire, grow}
+use Rattle.specification.specs.Arithmetic.{openVariable}
 use Rattle.tables.specs.Node.{Pushed}
+use Rattle.tables.specs.Codes.{impCode, notCode}
+use Rattle.tables.specs.Layout.{maxTokens}
 use Rattle.tables.proofs.Laws.Kept.{marked-kept}
 use Rattle.sheet.specs.Tables.{Words}
 use Rattle.sheet.specs.Held.{endAt, Shallow}
-use Rattle.terms.specs.Openness.{LowLocals, Standing, AskedFormula, Judged}
+use Rattle.terms.specs.Openness.{Standing, AskedFormula, Judged}
 use Rattle.walker.specs.declared.Due.{Due}
 use Rattle.walker.specs.declared.Regs.{Regs}
 use Rattle.walker.specs.Frame as frames
@@ -30,20 +33,6 @@ use Rattle.walker.proofs.Heads.{at-form, form-tree}
 use Rattle.walker.proofs.Pushes.{formula-job}
 use Rattle.walker.proofs.Onto.{askNode, down-asks}
 
--- binders' locals have slots
-low-locals : (F : Formula) → Shallow F → LowLocals F
-unfolding LowLocals
-low-locals truth h = tt
-low-locals (and F G) h = (low-locals F (h .0), low-locals G (h .1))
-low-locals (or F G) h = (low-locals F (h .0), low-locals G (h .1))
-low-locals (imp n F G) h = (low-locals F (h .0), low-locals G (h .1))
-low-locals (neg n F) h = low-locals F h
-low-locals (eq n s t) h = tt
-low-locals (compare n r s t) h = tt
-low-locals (ex l F) h = (h .0, low-locals F (h .1))
-low-locals (some n l a b F) h = (h .2, low-locals F (h .3))
-low-locals (all n l a b F) h = (h .2, low-locals F (h .3))
-
 -- ---- a node with a question
 
 -- the tree of the node whose token is h: the first operand F is asked for
@@ -52,7 +41,7 @@ pub record Questioned (c : World) (o : Bytes) (w : Words) (r : Regs) (i : In c o
   pub question : Question
   pub is : List Item
   pub first : Stands (c .declared) (c .tables) (suc (r .due .head)) F
-  pub near : suc (r .due .head) < 1024
+  pub near : suc (r .due .head) < maxTokens
   pub asks : Asks c (r .due .head) question
   pub rest : Pend c w (r .depth) (r .due .rest) is
   pub grown :
@@ -61,7 +50,7 @@ pub record Questioned (c : World) (o : Bytes) (w : Words) (r : Regs) (i : In c o
       (λ v β. sonOf (c .declared) (innerIn (i .fr)) (r .due .head) question is v β) (i .α)
 
 module _ {w : Words} {r : Regs} where
-  pub imp-asks : Entered w r 4 → (c : World) (o : Bytes) (i : In c o w r) → Questioned c o w r i
+  pub imp-asks : Entered w r impCode → (c : World) (o : Bytes) (i : In c o w r) → Questioned c o w r i
   unfolding grow treeItems
   imp-asks x c o i =
       let a = at-form i (x .formula) (x .code) in
@@ -77,7 +66,7 @@ module _ {w : Words} {r : Regs} where
         grown = form-tree i a ∙ rw (b .is);
       }
 
-  pub not-asks : Entered w r 5 → (c : World) (o : Bytes) (i : In c o w r) → Questioned c o w r i
+  pub not-asks : Entered w r notCode → (c : World) (o : Bytes) (i : In c o w r) → Questioned c o w r i
   unfolding grow treeItems
   not-asks x c o i =
       let a = at-form i (x .formula) (x .code) in
@@ -98,7 +87,7 @@ pub record Questions (w : Words) (r : Regs) : Type 0 where
   pub at : Visited w r
   pub all : (c : World) (o : Bytes) (i : In c o w r) → Questioned c o w r i
 
-pub questions : {w : Words} {r : Regs} → Entered w r 4 ⊎ Entered w r 5 → Questions w r
+pub questions : {w : Words} {r : Regs} → Entered w r impCode ⊎ Entered w r notCode → Questions w r
 questions (inl x) = record { at = x .at; all = imp-asks x }
 questions (inr x) = record { at = x .at; all = not-asks x }
 
@@ -117,7 +106,7 @@ module _ {w : Words} {r : Regs} (x : Questions w r) where
         scope = g .scope;
         locals = g .locals;
         ok = g .ok;
-        low = low-locals (q .F) (g .shallow);
+        shallow = g .shallow;
         size = omega (arith, i .path .size);
       }
 
@@ -130,11 +119,11 @@ module _ {w : Words} {r : Regs} (x : Questions w r) where
     closed-is : (c : World) (o : Bytes) (i : In c o w r) → closed (i .α) (x .all c o i .F) ≡ b
     closed-is c o i = sym (j (c .declared) (i .α) (x .all c o i .F) (standing c o i))
 
-    pub open-error : b ≡ false → OneLeaf w r (errorDue 5 (r .due .head))
+    pub open-error : b ≡ false → OneLeaf w r (errorDue openVariable (r .due .head))
     unfolding enquire
     open-error e = record {
       at = x .at;
-      son = λ c o i. (frames.error 5 (r .due .head), x .all c o i .grown ∙ rw (closed-is c o i, e), (refl, refl, refl), omega arith);
+      son = λ c o i. (frames.error openVariable (r .due .head), x .all c o i .grown ∙ rw (closed-is c o i, e), (refl, refl, refl), omega arith);
     }
 
     pub asks-down : {w' : Words} {d : Due} → b ≡ true → Pushed w w' (r .depth) (askNode r) → d ≡ formulaDue w' (r .due .head + 1) 0 →
@@ -149,12 +138,12 @@ module _ {w : Words} {r : Regs} (x : Questions w r) where
         (formula-job c w' (r .depth + 1) (suc (r .due .head)) 0 (q .F) [] (λ j h. m .tokens j h ∙ i .path .tokens j h) near (q .first) refl))
 
 -- by the job
-pub question-at : {w : Words} {r : Regs} → Visited w r → 4 ≤ r .due .job → r .due .job ≤ 5 → Questions w r
+pub question-at : {w : Words} {r : Regs} → Visited w r → impCode ≤ r .due .job → r .due .job ≤ notCode → Questions w r
 question-at {w} {r} v low high = go (eq-or-lt-of-le low)
   where
     go : (4 ≡ r .due .job) ⊎ (4 < r .due .job) → Questions w r
     go (inl e) = questions (inl (record { at = v; code = sym e; formula = (omega arith, omega arith) }))
     go (inr l) = questions (inr (record { at = v; code = omega arith; formula = (omega arith, omega arith) }))
 
-pub question-near : {w : Words} {r : Regs} → Questions w r → suc (r .due .head) < 1024
+pub question-near : {w : Words} {r : Regs} → Questions w r → suc (r .due .head) < maxTokens
 question-near x = x .all (x .at .c) (x .at .o) (x .at .ins) .near

@@ -14,7 +14,8 @@ use Rattle.specification.specs.Place.{Place, cell, local}
 use Rattle.specification.specs.Value.{full}
 use Rattle.specification.specs.Tree.{step, isElement, assign}
 use Rattle.specification.proofs.Laws.Allowed.{in32-allowed}
-use Rattle.tables.specs.Layout.{cellSlot, nodeEnd, localsAt, firstsAt, pathAt}
+use Rattle.specification.specs.Arithmetic.{noValue}
+use Rattle.tables.specs.Layout.{cellSlot, nodeEnd, localsAt, firstsAt, pathAt, maxCells}
 use Rattle.tables.specs.declared.nodes.Node.{Node}
 use Rattle.sheet.specs.Tables.{Words}
 use Rattle.sheet.specs.Held.{slotOf}
@@ -27,6 +28,7 @@ use Rattle.walker.specs.Sim.{In, Down}
 use Rattle.walker.specs.Steps.{Assignable, Leads, Listed, GoesOn, OneLeaf, Assigns, Sets, Tested}
 use Rattle.walker.specs.Registers.{dueOf, errorDue, dueRegs}
 use Rattle.walker.specs.Binding.{Alters}
+use Rattle.walker.specs.States.{failureJob, undoTodo}
 use Rattle.walker.proofs.Slots.{in-table as slot-within}
 use Rattle.walker.proofs.Heads.{room-words}
 use Rattle.walker.proofs.Pushes.{Replaces, replaces, replaces-kept, rest-onto, rest-leads}
@@ -37,7 +39,7 @@ use Rattle.walker.proofs.Onto.{down-undo}
 pub test-true : {w : Words} {r : Regs} {b : Bool} → Tested w r b → b ≡ true → GoesOn w r
 test-true x e = record { at = x .at; son = λ c o i. let q = x .son c o i in (q .0, q .1 ∙ rw e, q .2) }
 
-pub test-false : {w : Words} {r : Regs} {b : Bool} → Tested w r b → b ≡ false → OneLeaf w r (dueOf 17 0 0)
+pub test-false : {w : Words} {r : Regs} {b : Bool} → Tested w r b → b ≡ false → OneLeaf w r (dueOf failureJob 0 0)
 test-false x e = record { at = x .at; son = λ c o i. let q = x .son c o i in (frames.failure, q .1 ∙ rw e, refl, omega arith) }
 
 -- ---- whether a slot may be assigned
@@ -67,7 +69,7 @@ module _ {w : Words} {r : Regs} {slot value : ℕ} (x : Assigns w r slot value) 
   unfolding firstOf sum
   first-is c o i = i .path .arrays 0 (omega arith) ∙ omega arith
 
-  few-scalars : (c : World) (o : Bytes) (i : In c o w r) → c .declared .scalars ≤ 512
+  few-scalars : (c : World) (o : Bytes) (i : In c o w r) → c .declared .scalars ≤ maxCells
   unfolding cells
   few-scalars c o i = let h = i .path .cells in omega arith
 
@@ -116,13 +118,13 @@ module _ {w : Words} {r : Regs} {slot value : ℕ} (x : Assigns w r slot value) 
       go (inr (inl h)) = sets-scalar h
       go (inr (inr h)) = sets-local h
 
-  pub element-error : {b : Bool} → Assignable w (r .inner) slot b → b ≡ false → OneLeaf w r (errorDue 1 (r .due .head))
+  pub element-error : {b : Bool} → Assignable w (r .inner) slot b → b ≡ false → OneLeaf w r (errorDue noValue (r .due .head))
   element-error a e = record {
     at = x .at;
     son = λ c o i.
         let (is, p, v, tree, rest, place, word, inside, none, good) = x .son c o i in
         let n : ¬ (r .inner ≡ 0) = elsewhere .0 in
-        (frames.error 1 (r .due .head), tree ∙ rw (flag-inner c o i n, element c o i p place), (refl, refl, refl), omega arith);
+        (frames.error noValue (r .due .head), tree ∙ rw (flag-inner c o i n, element c o i p place), (refl, refl, refl), omega arith);
   }
     where
       elsewhere : Assignable w (r .inner) slot false
@@ -133,7 +135,7 @@ module _ {w : Words} {r : Regs} {slot value : ℕ} (x : Assigns w r slot value) 
       element c o i (local l) place = absurd (omega (arith, elsewhere .1, elsewhere .2))
 
   -- the word that the code reads
-  pub assigns-words : (firstsAt < length w) × (getD w firstsAt 0 ≤ 512)
+  pub assigns-words : (firstsAt < length w) × (getD w firstsAt 0 ≤ maxCells)
   assigns-words =
       let v = x .at in
       let f = first-is (v .c) (v .o) (v .ins) in
@@ -147,7 +149,7 @@ abbrev setNode : Words → Regs → ℕ → Node
 setNode w r slot = record {
   head = r .due .head;
   rest = r .due .rest;
-  todo = 2;
+  todo = undoTodo;
   slot = slot;
   had = 0;
   old = getD w (slot + 1) 0;

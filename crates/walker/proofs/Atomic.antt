@@ -10,7 +10,7 @@ use lib.IntN.{ℤ}
 use Rattle.specification.specs.Bytes.{Bytes}
 use Rattle.specification.specs.Lines.{Declared, cells}
 use Rattle.specification.specs.Ast.{ne, lt, le, gt, ge, Term, eq, compare}
-use Rattle.specification.specs.Arithmetic.{eqZ, test}
+use Rattle.specification.specs.Arithmetic.{eqZ, test, noValue}
 use Rattle.specification.specs.Place.{Place, cell, local}
 use Rattle.specification.specs.Value.{Valuation, Side, val, bare, err, pairOf, side}
 use Rattle.specification.specs.WellFormed as scopes
@@ -19,6 +19,8 @@ use Rattle.specification.proofs.Laws.Scope as places
 use Rattle.specification.proofs.Laws.Value.{sane-val, sane-bare}
 use Rattle.values.specs.Word.{biased, signed}
 use Rattle.values.proofs.Laws.Word.{signed-biased, signed-eq, signed-lt, signed-le}
+use Rattle.tables.specs.Codes.{eqCode}
+use Rattle.tables.specs.Layout.{maxLocals, maxCells}
 use Rattle.tables.proofs.Laws.Kept.{spare-kept}
 use Rattle.sheet.specs.Tables.{Words}
 use Rattle.sheet.specs.Held.{endAt, slotOf}
@@ -84,7 +86,7 @@ module _ {n : ℕ} {w : Words} {r : Regs} (x : Entered w r n) (low : 7 ≤ n) (h
 -- ---- `eq`
 
 -- a bare place that a term names has a slot in the tables
-in-table : (D : Declared) (S : scopes.Scope) → cells D ≤ 512 → ((l : ℕ) → T (S l) → l < 32) → (p : Place) → places.In D S p → InTable p
+in-table : (D : Declared) (S : scopes.Scope) → cells D ≤ maxCells → ((l : ℕ) → T (S l) → l < maxLocals) → (p : Place) → places.In D S p → InTable p
 in-table D S few small (cell c) h = omega arith
 in-table D S few small (local l) h = small l h
 
@@ -108,7 +110,7 @@ module _ (D : Declared) (m : Bool) (tok : ℕ) (x y : Side) (rest : Rest) (α : 
   unfolding equate
   equate-right p z e f = rw (e, f)
 
-module _ {w : Words} {r : Regs} (x : Entered w r 6) where
+module _ {w : Words} {r : Regs} (x : Entered w r eqCode) where
   unfoldable pub eq-terms : Terms w r (r .due .head + 1) (endAt w (r .due .head))
   eq-terms = record {
     at = x .at;
@@ -199,12 +201,12 @@ module _ {w : Words} {r : Regs} (x : Entered w r 6) where
         go D m tok (bare y) (err κ) rest α a b c d = ap (λ k. errorLeaf k tok α) (sym d)
         go D m tok (err y) (err κ) rest α a b c d = absurd (n a)
 
-    pub eq-both-bare : s .ltag ≡ 1 → s .rtag ≡ 1 → OneLeaf w' r (errorDue 1 (r .due .head))
+    pub eq-both-bare : s .ltag ≡ 1 → s .rtag ≡ 1 → OneLeaf w' r (errorDue noValue (r .due .head))
     unfolding equate
     eq-both-bare e f = leaf-by 1 go
       where
         go : (D : Declared) (m : Bool) (tok : ℕ) (p q : Side) (rest : Rest) (α : Valuation) →
-            s .ltag ≡ tagOf p → s .left ≡ wordOf p → s .rtag ≡ tagOf q → s .right ≡ wordOf q → equate D m tok p q rest α ≡ errorLeaf 1 tok α
+            s .ltag ≡ tagOf p → s .left ≡ wordOf p → s .rtag ≡ tagOf q → s .right ≡ wordOf q → equate D m tok p q rest α ≡ errorLeaf noValue tok α
         go D m tok (val y) q rest α a b c d = absurd (omega arith)
         go D m tok (err y) q rest α a b c d = absurd (omega arith)
         go D m tok (bare y) (val z) rest α a b c d = absurd (omega arith)

@@ -29,6 +29,7 @@ use Rattle.walker.specs.Sim.{no, Up, BlockOf, Leaf, Over, over, up}
 use Rattle.walker.specs.Registers.{leafRegs, stopRegs, counted}
 use Rattle.walker.specs.Loop.{Fixed, BlockDue, Blocked}
 use Rattle.walker.specs.Blocks.{HeadDue, headDue, passedTallies, passedRegs}
+use Rattle.walker.specs.States.{upMode, successJob, answerTally, errorTally, outputEnd}
 
 -- ---- the rest of the output
 
@@ -72,7 +73,7 @@ module _ {c : World} {o : Bytes} {n : ℕ} {b : Bytes} (p : Output c o n b) wher
 -- an answer's tally or an error's is one more
 passed-nodes : (r : Regs) → passedTallies r .nodes ≡ r .tallies .nodes
 unfolding passedTallies
-passed-nodes r = go (eqb (r .due .job) 16)
+passed-nodes r = go (eqb (r .due .job) successJob)
   where
     go : (t : Bool) → pick t (addAnswer (r .tallies)) (addError (r .tallies)) .nodes ≡ r .tallies .nodes
     go true = refl
@@ -81,7 +82,7 @@ passed-nodes r = go (eqb (r .due .job) 16)
 module _ {c : World} {o : Bytes} {w : Words} {r : Regs} (l : Leaf c o w r) where
   passed-count : Counted c (passedTallies r)
   unfolding passedTallies
-  passed-count = go (eqb (r .due .job) 16)
+  passed-count = go (eqb (r .due .job) successJob)
     where
       go : (t : Bool) → Counted c (pick t (addAnswer (r .tallies)) (addError (r .tallies)))
       go true = record { fits = l .count .fits; budget = l .count .budget; leaves = omega (arith, l .leaves) }
@@ -96,8 +97,8 @@ module _ {c : World} {o : Bytes} {w : Words} {r : Regs} (l : Leaf c o w r) where
           walks.leaf (c .declared) (c .setting) (length (c .output)) v (no c (l .fr) (l .e)) (r .tallies) (l .b) ≡ c .result →
           walks.onto (no c (l .fr) (l .e))
           (block (c .declared) (c .setting) (length (c .output)) (r .tallies) (passedTallies r) (l .b) (blockText (blockOf (c .declared) (headOf (headDue r)) (l .α)))) ≡ c .result
-      go (answer β) q h = rw (eq-eqb (r .due .job) 16 (q .0)) (rw (q .1) at h)
-      go (error κ tok β) q h = rw (ne-eqb (r .due .job) 16 (λ z. omega (arith, q .0)), q .1, q .2) (rw (q .3) at h)
+      go (answer β) q h = rw (eq-eqb (r .due .job) successJob (q .0)) (rw (q .1) at h)
+      go (error κ tok β) q h = rw (ne-eqb (r .due .job) successJob (λ z. omega (arith, q .0)), q .1, q .2) (rw (q .3) at h)
       go fail q h = absurd q
 
   -- ---- what it leads to
@@ -150,7 +151,7 @@ module _ {c : World} {o : Bytes} {w : Words} {r : Regs} (l : Leaf c o w r) where
 
     lacks : {ys : Bytes} →
         blocks.Wrote (blockText (blockOf (c .declared) (headOf (headDue r)) (l .α))) (midOf (r .written) (length o - r .written) o) ys Full →
-        Over c (putMid (r .written) (length o - r .written) o ys) (stopRegs r 3)
+        Over c (putMid (r .written) (length o - r .written) o ys) (stopRegs r outputEnd)
     unfolding block
     lacks q =
         let x = blockText (blockOf (c .declared) (headOf (headDue r)) (l .α)) in
@@ -205,7 +206,7 @@ module _ {w : Words} {o : Bytes} {r : Regs} {S : Setting} {scalars arrays : ℕ}
           out-size (filled (l .out) (blockText (blockOf (a .c .declared) (headOf (headDue r)) (l .α))) n (z .0) (z .1) (z .2)) ∙ sym (out-size (l .out));
     })
 
-    pub blocked-full : {q : Regs} → q ≡ stopRegs r 3 →
+    pub blocked-full : {q : Regs} → q ≡ stopRegs r outputEnd →
         blocks.Listed w scalars arrays (headDue r) (midOf (r .written) (length o - r .written) o) ys Full →
         Blocked w o (putMid (r .written) (length o - r .written) o ys) r q S scalars arrays
     blocked-full e p = rw e (record {
@@ -218,13 +219,13 @@ module _ {w : Words} {o : Bytes} {r : Regs} {S : Setting} {scalars arrays : ℕ}
 -- ---- the registers once it is passed
 
 module _ (r : Regs) {q : Regs} {t : Tallies} {n : ℕ} where
-  pub passed-answer : t ≡ counted (r .tallies) 1 → q ≡ leafRegs r 2 (r .bad) t n → r .due .job ≡ 16 → q ≡ passedRegs r n
+  pub passed-answer : t ≡ counted (r .tallies) answerTally → q ≡ leafRegs r upMode (r .bad) t n → r .due .job ≡ successJob → q ≡ passedRegs r n
   unfolding counted passedTallies
-  passed-answer u e j = e ∙ rw (u, eq-eqb (r .due .job) 16 j) refl
+  passed-answer u e j = e ∙ rw (u, eq-eqb (r .due .job) successJob j) refl
 
-  pub passed-error : t ≡ counted (r .tallies) 2 → q ≡ leafRegs r 2 (r .bad) t n → (r .due .job ≡ 16 → ⊥) → q ≡ passedRegs r n
+  pub passed-error : t ≡ counted (r .tallies) errorTally → q ≡ leafRegs r upMode (r .bad) t n → (r .due .job ≡ successJob → ⊥) → q ≡ passedRegs r n
   unfolding counted passedTallies
-  passed-error u e j = e ∙ rw (u, ne-eqb (r .due .job) 16 j) refl
+  passed-error u e j = e ∙ rw (u, ne-eqb (r .due .job) successJob j) refl
 
 -- where a block is written, its end is within the output
 pub written-inside : {w : Words} {o ys : Bytes} {r : Regs} {S : Setting} {scalars arrays : ℕ} (a : BlockDue w o r S scalars arrays) (n : ℕ) →

@@ -10,8 +10,9 @@ use lib.IntN.{ℤ}
 use Rattle.specification.specs.Bytes.{Bytes}
 use Rattle.specification.specs.Ast.{Formula}
 use Rattle.specification.specs.Tree.{grow, rounds}
-use Rattle.tables.specs.Layout.{nodeEnd, duesAt, duesEnd}
+use Rattle.tables.specs.Layout.{nodeEnd, duesAt, duesEnd, maxTokens}
 use Rattle.tables.specs.Node.{headAt, currentAt, lastAt}
+use Rattle.tables.specs.Codes.{allCode, firstFormula, lastFormula}
 use Rattle.tables.proofs.Laws.Kept.{spare-kept, spare-slots}
 use Rattle.sheet.specs.Tables.{Words}
 use Rattle.sheet.specs.Held.{codeAt}
@@ -21,6 +22,7 @@ use Rattle.walker.specs.Path.{World, Pend, Job}
 use Rattle.walker.specs.Stands.{Stands, Binds, LeftAfter}
 use Rattle.walker.specs.Sim.{tree, In}
 use Rattle.walker.specs.Steps.{Visited, Entered, Stepped}
+use Rattle.walker.specs.States.{emptyJob, againJob}
 use Rattle.walker.proofs.Here.{code-here}
 use Rattle.walker.proofs.Under.{Says}
 use Rattle.walker.proofs.Inverse.{says, code-range}
@@ -35,7 +37,7 @@ pub record AtForm (c : World) (w : Words) (r : Regs) (n : ℕ) (x : What) : Type
   pub F : Formula
   pub is : List Item
   pub due : x ≡ the (form F ∷ is)
-  pub small : r .due .head < 1024
+  pub small : r .due .head < maxTokens
   pub stands : Stands (c .declared) (c .tables) (r .due .head) F
   pub code : codeAt (c .tables) (r .due .head) ≡ n
   pub under : Says (c .declared) (c .tables) (r .due .head) n F
@@ -50,13 +52,13 @@ pub record AtAgain (c : World) (w : Words) (r : Regs) (x : What) : Type 0 where
   pub is : List Item
   pub due : x ≡ the (again l F m v ∷ is)
   pub below : (1 ≤ r .due .head) × (r .due .head ≤ r .depth)
-  pub code : codeAt (c .tables) (headAt w (r .due .head - 1)) ≡ 14
+  pub code : codeAt (c .tables) (headAt w (r .due .head - 1)) ≡ allCode
   pub binds : Binds (c .declared) (c .tables) (headAt w (r .due .head - 1)) l F
   pub left : LeftAfter (currentAt w (r .due .head - 1)) (lastAt w (r .due .head - 1)) m v
   pub rest : Pend c w (r .depth) (r .due .rest) is
 
 module _ {c : World} {o : Bytes} {w : Words} {r : Regs} (i : In c o w r) where
-  pub at-form : {n : ℕ} → (1 ≤ n) × (n ≤ 14) → r .due .job ≡ n → AtForm c w r n (i .x)
+  pub at-form : {n : ℕ} → (firstFormula ≤ n) × (n ≤ lastFormula) → r .due .job ≡ n → AtForm c w r n (i .x)
   at-form {n} j e = go (i .x) (i .job)
     where
       go : (x : What) → Job c w (r .depth) (r .due) x → AtForm c w r n x
@@ -71,12 +73,12 @@ module _ {c : World} {o : Bytes} {w : Words} {r : Regs} (i : In c o w r) where
 
   -- a formula's code
   code-of : {F : Formula} → r .due .job ≡ codeAt (c .tables) (r .due .head) → Stands (c .declared) (c .tables) (r .due .head) F →
-      (1 ≤ r .due .job) × (r .due .job ≤ 14)
+      (firstFormula ≤ r .due .job) × (r .due .job ≤ lastFormula)
   code-of {F} e s =
       let z = code-range (c .declared) (c .tables) (r .due .head) F s in
       (omega (arith, e, z .0), omega (arith, e, z .1))
 
-  pub at-again : r .due .job ≡ 15 → AtAgain c w r (i .x)
+  pub at-again : r .due .job ≡ againJob → AtAgain c w r (i .x)
   at-again j = go (i .x) (i .job)
     where
       go : (x : What) → Job c w (r .depth) (r .due) x → AtAgain c w r x
@@ -101,7 +103,7 @@ module _ {c : World} {o : Bytes} {w : Words} {r : Regs} (i : In c o w r) where
       go failure q = absurd (omega (arith, q))
       go (error κ tok) q = absurd (omega (arith, q .0))
 
-  pub at-empty : r .due .job ≡ 0 → i .x ≡ the []
+  pub at-empty : r .due .job ≡ emptyJob → i .x ≡ the []
   at-empty j = go (i .x) (i .job)
     where
       go : (x : What) → Job c w (r .depth) (r .due) x → x ≡ the []

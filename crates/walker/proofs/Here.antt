@@ -4,7 +4,7 @@ use native.Mathlib.Omega.{arith}
 use mathlib.Core.Path.{_≡_, refl, _∙_}
 use Rattle.specification.specs.Lines.{Declared}
 use Rattle.specification.specs.Ast.{Term, constant, scalarAt, localAt, elementAt, apply, Formula, truth, and, or, imp, neg, eq, compare, ex, some, all}
-use Rattle.tables.specs.Layout.{tokenSlot}
+use Rattle.tables.specs.Layout.{tokenSlot, maxTokens}
 use Rattle.tables.specs.Kept.{SameTokens}
 use Rattle.sheet.specs.Tables.{Words}
 use Rattle.sheet.specs.Held.{codeAt, operandAt, endAt, TokenAt, TermAt, TermsAt, LocalAt, FormulaAt}
@@ -15,7 +15,7 @@ use Rattle.walker.specs.Stands.{bodyOf, Binds}
 -- token i's subtree ends after it, within the table
 pub record Ends (t : Words) (i : ℕ) : Type 0 where
   pub after : i < endAt t i
-  pub inside : endAt t i ≤ 1024
+  pub inside : endAt t i ≤ maxTokens
 
 pub token-ends : {t : Words} {i k e : ℕ} → TokenAt t i k e → Ends t i
 token-ends q = record { after = omega (arith, q .end, q .after); inside = omega (arith, q .end, q .inside) }
@@ -43,13 +43,13 @@ module _ (t : Words) (i : ℕ) where
 -- ---- the same in the present words
 
 module _ (t w : Words) (s : SameTokens t w) where
-  pub code-here : {i : ℕ} → i < 1024 → codeAt w i ≡ codeAt t i
+  pub code-here : {i : ℕ} → i < maxTokens → codeAt w i ≡ codeAt t i
   code-here {i} h = s (tokenSlot i) (omega arith)
 
-  pub operand-here : {i : ℕ} → i < 1024 → operandAt w i ≡ operandAt t i
+  pub operand-here : {i : ℕ} → i < maxTokens → operandAt w i ≡ operandAt t i
   operand-here {i} h = s (tokenSlot i + 1) (omega arith)
 
-  pub end-here : {i : ℕ} → i < 1024 → endAt w i ≡ endAt t i
+  pub end-here : {i : ℕ} → i < maxTokens → endAt w i ≡ endAt t i
   end-here {i} h = s (tokenSlot i + 2) (omega arith)
 
   ended-here : {i : ℕ} → Ends t i → endAt w i ≡ endAt t i
@@ -57,12 +57,12 @@ module _ (t w : Words) (s : SameTokens t w) where
 
   pub token-here : {i k e : ℕ} → TokenAt t i k e → TokenAt w i k e
   token-here {i} {k} {e} q =
-      let h : i < 1024 = omega (arith, q .after, q .inside) in
+      let h : i < maxTokens = omega (arith, q .after, q .inside) in
       record { code = code-here h ∙ q .code; end = end-here h ∙ q .end; after = q .after; inside = q .inside }
 
   -- a token with its operand
   operand-kept : {i k e n : ℕ} → TokenAt t i k e → operandAt t i ≡ n → operandAt w i ≡ n
-  operand-kept {i} q o = let h : i < 1024 = omega (arith, q .after, q .inside) in operand-here h ∙ o
+  operand-kept {i} q o = let h : i < maxTokens = omega (arith, q .after, q .inside) in operand-here h ∙ o
 
   pub term-here : (x : Term) (i : ℕ) → TermAt t i x → TermAt w i x
   term-here (constant z) i q = (token-here (q .0), operand-kept (q .0) (q .1))

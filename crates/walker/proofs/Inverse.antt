@@ -9,6 +9,8 @@ use Rattle.specification.specs.Bytes.{pick}
 use Rattle.specification.specs.Lines.{Declared}
 use Rattle.specification.specs.Ast.{Rel, ne, lt, le, gt, ge, Term, Formula, truth, and, or, imp, neg, eq, compare, ex, some, all}
 use Rattle.specification.specs.WellFormed.{Scope, enter, OkTerm, Ok}
+use Rattle.tables.specs.Layout.{maxLocals, maxNesting}
+use Rattle.tables.specs.Codes.{firstFormula, allCode}
 use Rattle.sheet.specs.Tables.{Words}
 use Rattle.sheet.specs.Codes.{relCode}
 use Rattle.sheet.specs.Held.{codeAt, endAt, TermsAt, LocalAt, FormulaAt, height, Shallow}
@@ -18,11 +20,11 @@ use Rattle.walker.proofs.Under.{TermsIn, Both, Atom, Ranges, Compared, 
 
 -- ---- the scope under a binder
 
-enter-locals : (S : Scope) (l : ℕ) → ((j : ℕ) → T (S j) → j < 32) → l < 32 → (j : ℕ) → T (enter S l j) → j < 32
+enter-locals : (S : Scope) (l : ℕ) → ((j : ℕ) → T (S j) → j < maxLocals) → l < maxLocals → (j : ℕ) → T (enter S l j) → j < maxLocals
 unfolding enter
 enter-locals S l f h j q = go (eqb j l) refl q
   where
-    go : (b : Bool) → eqb j l ≡ b → T (pick b true (S j)) → j < 32
+    go : (b : Bool) → eqb j l ≡ b → T (pick b true (S j)) → j < maxLocals
     go true e x = let z : j ≡ l = eqb-true j l e in omega arith
     go false e x = f j x
 
@@ -31,14 +33,14 @@ module _ {D : Declared} where
   same-scope : {F : Formula} (g : Good D F) (G : Formula) → Ok D (g .scope) G → Shallow G → Good D G
   same-scope g G o s = record { scope = g .scope; locals = g .locals; ok = o; shallow = s }
 
-  in-scope : {F : Formula} (g : Good D F) (l : ℕ) (G : Formula) → l < 32 → Ok D (enter (g .scope) l) G → Shallow G → Good D G
+  in-scope : {F : Formula} (g : Good D F) (l : ℕ) (G : Formula) → l < maxLocals → Ok D (enter (g .scope) l) G → Shallow G → Good D G
   in-scope g l G h o s =
       record { scope = enter (g .scope) l; locals = enter-locals (g .scope) l (g .locals) h; ok = o; shallow = s }
 
 -- ---- the inversion
 
 terms-in : {D : Declared} {t : Words} {F : Formula} (g : Good D F) (i e : ℕ) (x y : Term) → TermsAt t i e x y → OkTerm D (g .scope) x →
-    OkTerm D (g .scope) y → height x ≤ 64 → height y ≤ 64 → TermsIn D t i e x y
+    OkTerm D (g .scope) y → height x ≤ maxNesting → height y ≤ maxNesting → TermsIn D t i e x y
 terms-in g i e x y q ox oy hx hy =
     record { terms = q; scope = g .scope; locals = g .locals; left = ox; right = oy; left-low = hx; right-low = hy }
 
@@ -63,7 +65,7 @@ module _ {D : Declared} {t : Words} {h : ℕ} where
       let z = term-ends t (suc h) x (q .terms .0) in
       record { left = x; right = y; is = e; terms = q; near = omega (arith, z .after, z .inside) }
 
-  ranges : (make : ℕ → Term → Term → Formula → Formula) (l : ℕ) (a b : Term) (A F : Formula) → F ≡ make l a b A → LocalAt t (suc h) l → l < 32 →
+  ranges : (make : ℕ → Term → Term → Formula → Formula) (l : ℕ) (a b : Term) (A F : Formula) → F ≡ make l a b A → LocalAt t (suc h) l → l < maxLocals →
       TermsIn D t (suc (suc h)) (bodyOf t h) a b → Stands D t (bodyOf t h) A → Ranges D t h make F
   ranges make l a b A F e q s ts f =
       let z = term-ends t (suc (suc h)) a (ts .terms .0) in
@@ -184,7 +186,7 @@ rel-code le = (omega arith, omega arith)
 rel-code gt = (omega arith, omega arith)
 rel-code ge = (omega arith, omega arith)
 
-pub code-range : (D : Declared) (t : Words) (h : ℕ) (F : Formula) → Stands D t h F → (1 ≤ codeAt t h) × (codeAt t h ≤ 14)
+pub code-range : (D : Declared) (t : Words) (h : ℕ) (F : Formula) → Stands D t h F → (firstFormula ≤ codeAt t h) × (codeAt t h ≤ allCode)
 code-range D t h truth s = (omega (arith, s .held .code), omega (arith, s .held .code))
 code-range D t h (and A B) s = (omega (arith, s .held .0 .code), omega (arith, s .held .0 .code))
 code-range D t h (or A B) s = (omega (arith, s .held .0 .code), omega (arith, s .held .0 .code))

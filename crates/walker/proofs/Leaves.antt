@@ -12,6 +12,7 @@ use Rattle.specification.specs.Leaves.{answer, error as errs}
 use Rattle.specification.specs.declared.Tallies.{Tallies}
 use Rattle.specification.specs.Run.{addFail, arrive}
 use Rattle.specification.specs.Ast.{Formula}
+use Rattle.tables.specs.Codes.{lastFormula}
 use Rattle.sheet.specs.Tables.{Words}
 use Rattle.walker.specs.declared.Regs.{Regs}
 use Rattle.walker.specs.Walk.{within, leaf}
@@ -22,6 +23,7 @@ use Rattle.walker.specs.Path.{World, Job, bit}
 use Rattle.walker.specs.Sim.{In, Up, Yes, Leaf, up, won, block}
 use Rattle.walker.specs.Registers.{leafRegs, counted}
 use Rattle.walker.specs.Loop.{AtLeaf, LeafDone}
+use Rattle.walker.specs.States.{upMode, wonMode, blockMode, successJob, failureJob, errorJob, failTally, maxWord}
 use Rattle.walker.proofs.Inverse.{code-range}
 
 bit-one : (m : Bool) → bit m ≡ 1 → m ≡ true
@@ -36,10 +38,10 @@ module _ {c : World} {o : Bytes} {w : Words} {r : Regs} (i : In c o w r) where
   -- ---- which leaf it is
 
   -- no formula: its job is a code
-  no-leaf : {F : Formula} → r .due .job ≡ codeAt (c .tables) (r .due .head) → Stands (c .declared) (c .tables) (r .due .head) F → r .due .job < 16
+  no-leaf : {F : Formula} → r .due .job ≡ codeAt (c .tables) (r .due .head) → Stands (c .declared) (c .tables) (r .due .head) F → r .due .job ≤ lastFormula
   no-leaf {F} e s = omega (arith, e, code-range (c .declared) (c .tables) (r .due .head) F s .1)
 
-  at-success : r .due .job ≡ 16 → i .x ≡ success
+  at-success : r .due .job ≡ successJob → i .x ≡ success
   at-success j = go (i .x) (i .job)
     where
       go : (x : What) → Job c w (r .depth) (r .due) x → x ≡ success
@@ -50,7 +52,7 @@ module _ {c : World} {o : Bytes} {w : Words} {r : Regs} (i : In c o w r) where
       go failure q = absurd (omega (arith, q))
       go (error κ tok) q = absurd (omega (arith, q .0))
 
-  at-failure : r .due .job ≡ 17 → i .x ≡ failure
+  at-failure : r .due .job ≡ failureJob → i .x ≡ failure
   at-failure j = go (i .x) (i .job)
     where
       go : (x : What) → Job c w (r .depth) (r .due) x → x ≡ failure
@@ -61,10 +63,10 @@ module _ {c : World} {o : Bytes} {w : Words} {r : Regs} (i : In c o w r) where
       go failure q = refl
       go (error κ tok) q = absurd (omega (arith, q .0))
 
-  at-error : 16 ≤ r .due .job → (r .due .job ≡ 16 → ⊥) → (r .due .job ≡ 17 → ⊥) → (r .due .job ≡ 18) × (i .x ≡ error (r .due .rest) (r .due .head))
+  at-error : successJob ≤ r .due .job → (r .due .job ≡ successJob → ⊥) → (r .due .job ≡ failureJob → ⊥) → (r .due .job ≡ errorJob) × (i .x ≡ error (r .due .rest) (r .due .head))
   at-error h n3 n4 = go (i .x) (i .job)
     where
-      go : (x : What) → Job c w (r .depth) (r .due) x → (r .due .job ≡ 18) × (x ≡ error (r .due .rest) (r .due .head))
+      go : (x : What) → Job c w (r .depth) (r .due) x → (r .due .job ≡ errorJob) × (x ≡ error (r .due .rest) (r .due .head))
       go (the []) q = absurd (omega (arith, q))
       go (the (form F ∷ is)) q = absurd (omega (arith, no-leaf (q .0) (q .2)))
       go (the (again l F m v ∷ is)) q = absurd (omega (arith, q .0))
@@ -80,7 +82,7 @@ module _ {c : World} {o : Bytes} {w : Words} {r : Regs} (i : In c o w r) where
 
   -- ---- what it leads to
 
-  inner-success : r .inner ≡ 1 → r .due .job ≡ 16 → Yes c o w (leafRegs r 3 (r .bad) (r .tallies) (r .written))
+  inner-success : r .inner ≡ 1 → r .due .job ≡ successJob → Yes c o w (leafRegs r wonMode (r .bad) (r .tallies) (r .written))
   unfolding within
   inner-success m j = record {
     fr = i .fr;
@@ -92,7 +94,7 @@ module _ {c : World} {o : Bytes} {w : Words} {r : Regs} (i : In c o w r) where
     result = rw (at-success j, inside-yes m) at (i .result);
   }
 
-  inner-failure : r .inner ≡ 1 → r .due .job ≡ 17 → Up c o w (leafRegs r 2 (r .bad) (r .tallies) (r .written))
+  inner-failure : r .inner ≡ 1 → r .due .job ≡ failureJob → Up c o w (leafRegs r upMode (r .bad) (r .tallies) (r .written))
   unfolding within
   inner-failure m j = record {
     fr = i .fr;
@@ -107,7 +109,7 @@ module _ {c : World} {o : Bytes} {w : Words} {r : Regs} (i : In c o w r) where
     result = rw (at-failure j, inside-yes m) at (i .result);
   }
 
-  inner-error : r .inner ≡ 1 → 16 ≤ r .due .job → (r .due .job ≡ 16 → ⊥) → (r .due .job ≡ 17 → ⊥) → Up c o w (leafRegs r 2 1 (r .tallies) (r .written))
+  inner-error : r .inner ≡ 1 → successJob ≤ r .due .job → (r .due .job ≡ successJob → ⊥) → (r .due .job ≡ failureJob → ⊥) → Up c o w (leafRegs r upMode 1 (r .tallies) (r .written))
   unfolding within
   inner-error m h n3 n4 = record {
     fr = i .fr;
@@ -122,7 +124,7 @@ module _ {c : World} {o : Bytes} {w : Words} {r : Regs} (i : In c o w r) where
     result = rw (at-error h n3 n4 .1, inside-yes m) at (i .result);
   }
 
-  main-failure : (r .inner ≡ 1 → ⊥) → r .due .job ≡ 17 → Up c o w (leafRegs r 2 (r .bad) (addFail (r .tallies)) (r .written))
+  main-failure : (r .inner ≡ 1 → ⊥) → r .due .job ≡ failureJob → Up c o w (leafRegs r upMode (r .bad) (addFail (r .tallies)) (r .written))
   unfolding within leaf arrive
   main-failure m j = record {
     fr = i .fr;
@@ -137,7 +139,7 @@ module _ {c : World} {o : Bytes} {w : Words} {r : Regs} (i : In c o w r) where
     result = rw (at-failure j, inside-no m) at (i .result);
   }
 
-  main-success : (r .inner ≡ 1 → ⊥) → r .due .job ≡ 16 → Leaf c o w (leafRegs r 4 (r .bad) (r .tallies) (r .written))
+  main-success : (r .inner ≡ 1 → ⊥) → r .due .job ≡ successJob → Leaf c o w (leafRegs r blockMode (r .bad) (r .tallies) (r .written))
   unfolding within
   main-success m j = record {
     v = answer (i .α);
@@ -156,8 +158,8 @@ module _ {c : World} {o : Bytes} {w : Words} {r : Regs} (i : In c o w r) where
     result = rw (at-success j, inside-no m) at (i .result);
   }
 
-  main-error : (r .inner ≡ 1 → ⊥) → 16 ≤ r .due .job → (r .due .job ≡ 16 → ⊥) → (r .due .job ≡ 17 → ⊥) →
-      Leaf c o w (leafRegs r 4 (r .bad) (r .tallies) (r .written))
+  main-error : (r .inner ≡ 1 → ⊥) → successJob ≤ r .due .job → (r .due .job ≡ successJob → ⊥) → (r .due .job ≡ failureJob → ⊥) →
+      Leaf c o w (leafRegs r blockMode (r .bad) (r .tallies) (r .written))
   unfolding within
   main-error m h n3 n4 =
       let x = at-error h n3 n4 in
@@ -181,33 +183,33 @@ module _ {c : World} {o : Bytes} {w : Words} {r : Regs} (i : In c o w r) where
 -- ---- the steps
 
 module _ {r q : Regs} where
-  pub done-success : q ≡ leafRegs r 3 (r .bad) (r .tallies) (r .written) → r .inner ≡ 1 → r .due .job ≡ 16 → LeafDone r q
+  pub done-success : q ≡ leafRegs r wonMode (r .bad) (r .tallies) (r .written) → r .inner ≡ 1 → r .due .job ≡ successJob → LeafDone r q
   done-success e m j = rw e (record { sim = λ c o w i. won refl (inner-success i m j); nodes = refl; falls = omega arith })
 
-  pub done-failure : q ≡ leafRegs r 2 (r .bad) (r .tallies) (r .written) → r .inner ≡ 1 → r .due .job ≡ 17 → LeafDone r q
+  pub done-failure : q ≡ leafRegs r upMode (r .bad) (r .tallies) (r .written) → r .inner ≡ 1 → r .due .job ≡ failureJob → LeafDone r q
   done-failure e m j = rw e (record { sim = λ c o w i. up refl (inner-failure i m j); nodes = refl; falls = omega arith })
 
-  pub done-error : q ≡ leafRegs r 2 1 (r .tallies) (r .written) → r .inner ≡ 1 → 16 ≤ r .due .job → (r .due .job ≡ 16 → ⊥) → (r .due .job ≡ 17 → ⊥) → LeafDone r q
+  pub done-error : q ≡ leafRegs r upMode 1 (r .tallies) (r .written) → r .inner ≡ 1 → successJob ≤ r .due .job → (r .due .job ≡ successJob → ⊥) → (r .due .job ≡ failureJob → ⊥) → LeafDone r q
   done-error e m h n3 n4 = rw e (record { sim = λ c o w i. up refl (inner-error i m h n3 n4); nodes = refl; falls = omega arith })
 
-  pub failure-done : {t : Tallies} → t ≡ counted (r .tallies) 3 → q ≡ leafRegs r 2 (r .bad) t (r .written) → (r .inner ≡ 1 → ⊥) → r .due .job ≡ 17 → LeafDone r q
+  pub failure-done : {t : Tallies} → t ≡ counted (r .tallies) failTally → q ≡ leafRegs r upMode (r .bad) t (r .written) → (r .inner ≡ 1 → ⊥) → r .due .job ≡ failureJob → LeafDone r q
   unfolding counted
   failure-done h e m j = rw (e, h) (record { sim = λ c o w i. up refl (main-failure i m j); nodes = refl; falls = omega arith })
 
   -- an answer or an error
-  pub block-done : q ≡ leafRegs r 4 (r .bad) (r .tallies) (r .written) → (r .inner ≡ 1 → ⊥) → 16 ≤ r .due .job → (r .due .job ≡ 17 → ⊥) → LeafDone r q
-  block-done e m h n4 = rw e (record { sim = λ c o w i. block refl (main i (eqb (r .due .job) 16) refl); nodes = refl; falls = omega arith })
+  pub block-done : q ≡ leafRegs r blockMode (r .bad) (r .tallies) (r .written) → (r .inner ≡ 1 → ⊥) → successJob ≤ r .due .job → (r .due .job ≡ failureJob → ⊥) → LeafDone r q
+  block-done e m h n4 = rw e (record { sim = λ c o w i. block refl (main i (eqb (r .due .job) successJob) refl); nodes = refl; falls = omega arith })
     where
-      main : {c : World} {o : Bytes} {w : Words} → In c o w r → (t : Bool) → eqb (r .due .job) 16 ≡ t → Leaf c o w (leafRegs r 4 (r .bad) (r .tallies) (r .written))
-      main i true j = main-success i m (eqb-true (r .due .job) 16 j)
-      main i false j = main-error i m h (eqb-false (r .due .job) 16 j) n4
+      main : {c : World} {o : Bytes} {w : Words} → In c o w r → (t : Bool) → eqb (r .due .job) successJob ≡ t → Leaf c o w (leafRegs r blockMode (r .bad) (r .tallies) (r .written))
+      main i true j = main-success i m (eqb-true (r .due .job) successJob j)
+      main i false j = main-error i m h (eqb-false (r .due .job) successJob j) n4
 
 -- ---- room for one more
 
 -- in the tally n, which is not that of nodes
-pub room-for : (t : Tallies) (n : ℕ) → (n ≡ 0 → ⊥) → t .answers + t .errors + t .fails < 4294967295 →
-    (n ≡ 0 → t .nodes < 4294967295) × (t .answers < 4294967295) × (t .errors < 4294967295) × (t .fails < 4294967295)
+pub room-for : (t : Tallies) (n : ℕ) → (n ≡ 0 → ⊥) → t .answers + t .errors + t .fails < maxWord →
+    (n ≡ 0 → t .nodes < maxWord) × (t .answers < maxWord) × (t .errors < maxWord) × (t .fails < maxWord)
 room-for t n z h = (λ e. absurd (z e), omega arith, omega arith, omega arith)
 
-pub leaf-room : {r : Regs} → AtLeaf r → r .tallies .answers + r .tallies .errors + r .tallies .fails < 4294967295
+pub leaf-room : {r : Regs} → AtLeaf r → r .tallies .answers + r .tallies .errors + r .tallies .fails < maxWord
 leaf-room a = let i = a .at .ins in omega (arith, i .leaves, i .count .budget, i .count .fits)

@@ -14,6 +14,7 @@ use Rattle.walker.specs.Frame.{the}
 use Rattle.walker.specs.Path.{World}
 use Rattle.walker.specs.Sim.{Down, Leaf, Over, Sim, over, down, up, won, block}
 use Rattle.walker.specs.Loop.{Ups, IsUp, Rising, Rose, Fixed, BlockDue, Blocked, measure, VisitDue, Arrived, Goes, Went, Climbs, Climbed, Runs, Settled, Live, Moved}
+use Rattle.walker.specs.States.{overMode, downMode, blockMode}
 
 -- ---- the invariant by the mode
 
@@ -23,21 +24,21 @@ up-modes m (inl e) = (omega arith, omega arith)
 up-modes m (inr e) = (omega arith, omega arith)
 
 module _ {c : World} {o : Bytes} {w : Words} {r : Regs} where
-  sim-down : r .mode ≡ 1 → Sim c o w r → Down c o w r
+  sim-down : r .mode ≡ downMode → Sim c o w r → Down c o w r
   sim-down m (over e s) = absurd (omega arith)
   sim-down m (down e s) = s
   sim-down m (up e s) = absurd (omega arith)
   sim-down m (won e s) = absurd (omega arith)
   sim-down m (block e s) = absurd (omega arith)
 
-  sim-leaf : r .mode ≡ 4 → Sim c o w r → Leaf c o w r
+  sim-leaf : r .mode ≡ blockMode → Sim c o w r → Leaf c o w r
   sim-leaf m (over e s) = absurd (omega arith)
   sim-leaf m (down e s) = absurd (omega arith)
   sim-leaf m (up e s) = absurd (omega arith)
   sim-leaf m (won e s) = absurd (omega arith)
   sim-leaf m (block e s) = s
 
-  pub sim-over : r .mode ≡ 0 → Sim c o w r → Over c o r
+  pub sim-over : r .mode ≡ overMode → Sim c o w r → Over c o r
   sim-over m (over e s) = s
   sim-over m (down e s) = absurd (omega arith)
   sim-over m (up e s) = absurd (omega arith)
@@ -58,7 +59,7 @@ module _ {c : World} {o : Bytes} {w : Words} {r : Regs} where
   sim-rose m u (won e s) = u .yes c o e s
   sim-rose m u (block e s) = absurd (omega (arith, up-modes (r .mode) m))
 
-  sim-mode : Sim c o w r → r .mode ≤ 4
+  sim-mode : Sim c o w r → r .mode ≤ blockMode
   sim-mode (over e s) = omega arith
   sim-mode (down e s) = omega arith
   sim-mode (up e s) = omega arith
@@ -68,7 +69,7 @@ module _ {c : World} {o : Bytes} {w : Words} {r : Regs} where
 -- ---- down
 
 module _ {w : Words} {r : Regs} {path budget : ℕ} where
-  pub visit-due : Goes w r path budget → r .mode ≡ 1 → VisitDue w r path budget
+  pub visit-due : Goes w r path budget → r .mode ≡ downMode → VisitDue w r path budget
   visit-due a m = record { c = a .c; o = a .o; path-is = a .path-is; budget-is = a .budget-is; mode = m; ins = sim-down m (a .sim) }
 
 -- the invariant of `descend`: what is so far of its contract
@@ -89,7 +90,7 @@ module _ {w w1 : Words} {r q : Regs} {path budget : ℕ} (g : Going w w1 r q pat
     sim = g .sim (a .c) (a .o) (a .path-is) (a .budget-is) (a .sim);
   }
 
-  pub going-on : {w' : Words} {q' : Regs} → q .mode ≡ 1 → Arrived w1 w' q q' path budget → Going w w' r q' path budget
+  pub going-on : {w' : Words} {q' : Regs} → q .mode ≡ downMode → Arrived w1 w' q q' path budget → Going w w' r q' path budget
   going-on {q' = q'} m v = record {
     sim = λ c o p b s. v .sim c o p b (sim-down m (g .sim c o p b s));
     falls = less (g .falls);
@@ -99,7 +100,7 @@ module _ {w w1 : Words} {r q : Regs} {path budget : ℕ} (g : Going w w1 r q pat
       less (inl e) = inr (rw e at (v .falls))
       less (inr h) = inr (omega (arith, v .falls))
 
-  pub went : (q .mode ≡ 1 → ⊥) → Went w w1 r q path budget
+  pub went : (q .mode ≡ downMode → ⊥) → Went w w1 r q path budget
   went n = record { sim = g .sim; falls = g .falls; stops = n }
 
 -- ---- up
@@ -153,10 +154,10 @@ module _ {w w1 : Words} {r q : Regs} (g : Climbing w w1 r q) where
 -- ---- a block
 
 module _ {w : Words} {o : Bytes} {r : Regs} {S : Setting} {scalars arrays : ℕ} where
-  pub block-due : Runs w o r S scalars arrays → r .mode ≡ 4 → BlockDue w o r S scalars arrays
+  pub block-due : Runs w o r S scalars arrays → r .mode ≡ blockMode → BlockDue w o r S scalars arrays
   block-due a m = record { c = a .c; fixed = a .fixed; leaf = sim-leaf m (a .sim) }
 
-  pub settles : {o' : Bytes} {q : Regs} → r .mode ≡ 4 → Blocked w o o' r q S scalars arrays → Settled w o o' r q S scalars arrays
+  pub settles : {o' : Bytes} {q : Regs} → r .mode ≡ blockMode → Blocked w o o' r q S scalars arrays → Settled w o o' r q S scalars arrays
   settles m v = record {
     sim = λ c f s. v .sim c f (sim-leaf m s);
     nodes = v .nodes;
@@ -164,7 +165,7 @@ module _ {w : Words} {o : Bytes} {r : Regs} {S : Setting} {scalars arrays : ℕ}
     size = v .size;
   }
 
-  pub settled : (r .mode ≡ 4 → ⊥) → Settled w o o r r S scalars arrays
+  pub settled : (r .mode ≡ blockMode → ⊥) → Settled w o o r r S scalars arrays
   settled n = record { sim = λ c f s. s; nodes = refl; falls = inl (refl, n); size = refl }
 
 -- ---- all three
@@ -206,10 +207,10 @@ module _ {S : Setting} {scalars arrays : ℕ} where
             level : Regs → ℕ
             level t = 2 * t .depth + t .mode
 
-            less : (d ≡ r) ⊎ (measure (S .budget) d < measure (S .budget) r) → ((s ≡ d) × (d .mode ≡ 4 → ⊥)) ⊎ (level s < level d) →
+            less : (d ≡ r) ⊎ (measure (S .budget) d < measure (S .budget) r) → ((s ≡ d) × (d .mode ≡ blockMode → ⊥)) ⊎ (level s < level d) →
                 (q ≡ s) ⊎ (level q < level s) → measure (S .budget) q < measure (S .budget) r
             less (inl e) (inl f) (inl g) =
-                absurd (still (sim-mode (a .runs .sim)) (a .on) (subst (λ t. t .mode ≡ 1 → ⊥) e (x .stops)) (subst (λ t. t .mode ≡ 4 → ⊥) e (f .1))
+                absurd (still (sim-mode (a .runs .sim)) (a .on) (subst (λ t. t .mode ≡ downMode → ⊥) e (x .stops)) (subst (λ t. t .mode ≡ blockMode → ⊥) e (f .1))
                 (subst (λ t. Ups (t .mode) → ⊥) (g ∙ f .0 ∙ e) (z .stops)))
             less (inl e) (inl f) (inr g) = let m = ap level (f .0) in let n = ap (measure (S .budget)) e in omega (arith, y .nodes, z .nodes)
             less (inl e) (inr f) (inl g) = let m = ap level g in let n = ap (measure (S .budget)) e in omega (arith, y .nodes, z .nodes)

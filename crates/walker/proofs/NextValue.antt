@@ -16,7 +16,7 @@ use Rattle.specification.specs.Value.{full, Valuation}
 use Rattle.specification.proofs.Laws.Place.{valid-put}
 use Rattle.values.specs.Word.{signed, biased}
 use Rattle.values.proofs.Laws.Word.{biased-signed, signed-in32, signed-add}
-use Rattle.tables.specs.Layout.{nodeSlot, firstsAt, pathAt}
+use Rattle.tables.specs.Layout.{nodeSlot, firstsAt, pathAt, maxTokens}
 use Rattle.tables.specs.Node.{currentWord, headAt, restAt, todoAt, slotAt, currentAt, lastAt}
 use Rattle.tables.specs.Kept.{Kept}
 use Rattle.tables.proofs.Laws.Kept.{kept-both, word-kept, word-slots}
@@ -30,6 +30,7 @@ use Rattle.walker.specs.Stands.{bodyOf, LeftAfter}
 use Rattle.walker.specs.Sim.{no, Down, Up}
 use Rattle.walker.specs.Registers.{formulaDue, dueRegs}
 use Rattle.walker.specs.Loop.{Topped}
+use Rattle.walker.specs.States.{nextTodo}
 use Rattle.walker.proofs.Keep.{pend-keep}
 use Rattle.walker.proofs.Here.{code-here, end-here, body-here}
 use Rattle.walker.proofs.Slots.{in-table, Altered, alter, holds-keep, holds-again}
@@ -62,13 +63,13 @@ module _ {current last n : ℕ} (x : ℤ) (i : ℕ) (a : LeftAfter current last 
 
 -- what is read lies in the tables
 pub record Readable (w : Words) (k : ℕ) : Type 0 where
-  pub near : headAt w k + 2 < 1024
-  pub middle : endAt w (headAt w k + 2) < 1024
-  pub inside : bodyOf w (headAt w k) < 1024
+  pub near : headAt w k + 2 < maxTokens
+  pub middle : endAt w (headAt w k + 2) < maxTokens
+  pub inside : bodyOf w (headAt w k) < maxTokens
   pub slot : slotAt w k + 1 < firstsAt
   pub last : lastAt w k < 4294967296
 
-pub readable : {w : Words} {r : Regs} → Topped w r 3 → Readable w (r .depth - 1)
+pub readable : {w : Words} {r : Regs} → Topped w r nextTodo → Readable w (r .depth - 1)
 readable {w} {r} t =
     top-range (λ fr. Readable w (r .depth - 1)) (t .some) (t .todo)
     (λ l x i n F is β fr P.
@@ -86,10 +87,10 @@ readable {w} {r} t =
       last = a .3 .fits;
     })) (t .fr) (t .path)
 
-pub middle-small : {w : Words} {k h e : ℕ} → Readable w k → h ≡ headAt w k → e ≡ endAt w (h + 2) → e < 1024
+pub middle-small : {w : Words} {k h e : ℕ} → Readable w k → h ≡ headAt w k → e ≡ endAt w (h + 2) → e < maxTokens
 middle-small x eh ee = rw (ee, eh) (x .middle)
 
-pub body-small : {w : Words} {k h e n : ℕ} → Readable w k → h ≡ headAt w k → e ≡ endAt w (h + 2) → n ≡ endAt w e → n < 1024
+pub body-small : {w : Words} {k h e n : ℕ} → Readable w k → h ≡ headAt w k → e ≡ endAt w (h + 2) → n ≡ endAt w e → n < maxTokens
 body-small {w} {k} {h} x eh ee en =
     let two : h + 2 ≡ suc (suc (headAt w k)) = omega arith in
     rw (en, ee, two) (x .inside)
@@ -100,7 +101,7 @@ pub record Follows (w w' : Words) (r : Regs) (h p : ℕ) : Type 0 where
   pub v : ℕ
   pub first : Words
   pub some : 0 < r .depth
-  pub todo : todoAt w (r .depth - 1) ≡ 3
+  pub todo : todoAt w (r .depth - 1) ≡ nextTodo
   pub more : currentAt w (r .depth - 1) < lastAt w (r .depth - 1)
   pub head : h ≡ headAt w (r .depth - 1)
   pub rest : p ≡ restAt w (r .depth - 1)

@@ -17,6 +17,7 @@ use Rattle.specification.proofs.Laws.Place.{valid-put}
 use Rattle.values.specs.Word.{signed}
 use Rattle.tables.specs.declared.nodes.Node.{Node}
 use Rattle.tables.specs.Node.{Marked, Linked, Pushed}
+use Rattle.tables.specs.Layout.{maxTokens}
 use Rattle.tables.proofs.Laws.Kept.{marked-kept, marked-slots}
 use Rattle.sheet.specs.Tables.{Words}
 use Rattle.sheet.specs.Held.{endAt}
@@ -30,6 +31,7 @@ use Rattle.walker.specs.Sim.{tree, yes, no, Down, In, down}
 use Rattle.walker.specs.Steps.{Stepped}
 use Rattle.walker.specs.Registers.{dueRegs}
 use Rattle.walker.specs.Binding.{binderNode}
+use Rattle.walker.specs.States.{noTodo, otherTodo, undoTodo, nextTodo, judgeTodo}
 use Rattle.walker.proofs.Walk.{within-ask}
 use Rattle.walker.proofs.Keep.{frame-keep}
 use Rattle.walker.proofs.Slots.{holds-keep, holds-put}
@@ -39,7 +41,7 @@ use Rattle.walker.proofs.Pushes.{Replaces, replaces-kept, rest-onto}
 -- the node that asks for an inner tree
 abbrev pub askNode : Regs → Node
 askNode r =
-    record { head = r .due .head; rest = r .due .rest; todo = 4; slot = 0; had = 0; old = 0; current = 0; last = 0; inner = r .inner; bad = r .bad }
+    record { head = r .due .head; rest = r .due .rest; todo = judgeTodo; slot = 0; had = 0; old = 0; current = 0; last = 0; inner = r .inner; bad = r .bad }
 
 module _ {c : World} {o : Bytes} {w : Words} {r : Regs} (i : In c o w r) where
   -- ---- the son
@@ -87,14 +89,14 @@ module _ {c : World} {o : Bytes} {w : Words} {r : Regs} (i : In c o w r) where
       (rw e (valid-put (c .declared) (i .α) p s (i .path .valid) (a .good)))
 
   -- nothing is left to do
-  pub down-pass : {w' : Words} → Marked w w' (r .depth) 0 → (x : What) →
+  pub down-pass : {w' : Words} → Marked w w' (r .depth) noTodo → (x : What) →
       tree c (i .fr) (i .x) (i .α) ≡ step (tree c (i .fr) x (i .α)) → {d : Due} → Job c w' (r .depth + 1) d x →
       Down c o w' (dueRegs r (r .depth + 1) d (r .inner) (r .bad))
   unfolding within
   down-pass g x e j = onto (pass (i .α)) x (i .e) (plain g (pass (i .α)) refl refl (g .left)) (i .inner) (i .bad) j (rw add-one (rw e at (i .result)))
 
   -- a slot to put back
-  pub down-undo : {w' : Words} {n : Node} (p : Place) (s : Slot) → Replaces (c .declared) w w' (r .depth) n (i .α) p s → n .todo ≡ 2 → (x : What) →
+  pub down-undo : {w' : Words} {n : Node} (p : Place) (s : Slot) → Replaces (c .declared) w w' (r .depth) n (i .α) p s → n .todo ≡ undoTodo → (x : What) →
       tree c (i .fr) (i .x) (i .α) ≡ step (tree c (i .fr) x (put (i .α) p s)) → {d : Due} → Job c w' (r .depth + 1) d x →
       Down c o w' (dueRegs r (r .depth + 1) d (r .inner) (r .bad))
   unfolding within
@@ -102,9 +104,9 @@ module _ {c : World} {o : Bytes} {w : Words} {r : Regs} (i : In c o w r) where
       onto (undo p s (i .α)) x (i .e) (changed p s a (undo p s (i .α)) refl refl (λ h. (a .pushed .linked .marked .left ∙ t, h))) (i .inner) (i .bad) j (rw add-one (rw e at (i .result)))
 
   -- the second son of `or`
-  pub down-other : {w' : Words} → Linked w w' (r .depth) (r .due .head) (r .due .rest) 1 → (x : What) (G : Formula) (is : List Item) →
+  pub down-other : {w' : Words} → Linked w w' (r .depth) (r .due .head) (r .due .rest) otherTodo → (x : What) (G : Formula) (is : List Item) →
       tree c (i .fr) (i .x) (i .α) ≡ fork (tree c (i .fr) x (i .α)) (treeItems (c .declared) (innerIn (i .fr)) (form G ∷ is) (i .α)) →
-      suc (r .due .head) < 1024 → endAt (c .tables) (suc (r .due .head)) < 1024 → Stands (c .declared) (c .tables) (endAt (c .tables) (suc (r .due .head))) G →
+      suc (r .due .head) < maxTokens → endAt (c .tables) (suc (r .due .head)) < maxTokens → Stands (c .declared) (c .tables) (endAt (c .tables) (suc (r .due .head))) G →
       Pend c w (r .depth) (r .due .rest) is → {d : Due} → Job c w' (r .depth + 1) d x →
       Down c o w' (dueRegs r (r .depth + 1) d (r .inner) (r .bad))
   unfolding within
@@ -116,7 +118,7 @@ module _ {c : World} {o : Bytes} {w : Words} {r : Regs} (i : In c o w r) where
 
   -- the next values of a `some`
   pub down-range : {w' : Words} {low high : ℕ} (l : ℕ) (x : ℤ) (n : ℕ) (F : Formula) (is : List Item) →
-      Replaces (c .declared) w w' (r .depth) (binderNode w r (r .due .head) 3 low high) (i .α) (local l) (full (x +ℤ pos 0)) →
+      Replaces (c .declared) w w' (r .depth) (binderNode w r (r .due .head) nextTodo low high) (i .α) (local l) (full (x +ℤ pos 0)) →
       tree c (i .fr) (i .x) (i .α) ≡ fan x (suc n) (λ j. treeItems (c .declared) (innerIn (i .fr)) (form F ∷ is) (put (i .α) (local l) (full (x +ℤ pos j)))) →
       Binds (c .declared) (c .tables) (r .due .head) l F → LeftAfter low high n (x +ℤ pos 1) → signed low ≡ x +ℤ pos 0 → Pend c w (r .depth) (r .due .rest) is →
       {d : Due} → Job c w' (r .depth + 1) d (the (form F ∷ is)) →
@@ -140,7 +142,7 @@ module _ {c : World} {o : Bytes} {w : Words} {r : Regs} (i : In c o w r) where
   pub down-asks : {w' : Words} → Pushed w w' (r .depth) (askNode r) → (F : Formula) (q : Question) (is : List Item) →
       (let I = treeItems (c .declared) true (form F ∷ []) (i .α) in
       tree c (i .fr) (i .x) (i .α) ≡ ask I (sonOf (c .declared) (innerIn (i .fr)) (r .due .head) q is (verdict I) (i .α))) →
-      r .due .head < 1024 → Asks c (r .due .head) q → Pend c w (r .depth) (r .due .rest) is → {d : Due} → Job c w' (r .depth + 1) d (the (form F ∷ [])) →
+      r .due .head < maxTokens → Asks c (r .due .head) q → Pend c w (r .depth) (r .due .rest) is → {d : Due} → Job c w' (r .depth + 1) d (the (form F ∷ [])) →
       Down c o w' (dueRegs r (r .depth + 1) d 1 0)
   down-asks g F q is e small a p j =
       let m = innerIn (i .fr) in

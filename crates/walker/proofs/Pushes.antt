@@ -15,8 +15,9 @@ use Rattle.specification.specs.Value.{Slot, Valuation}
 use Rattle.specification.proofs.Laws.Place.{SlotIn}
 use Rattle.tables.specs.Kept.{SameTokens, Kept}
 use Rattle.tables.specs.declared.nodes.Node.{Node}
-use Rattle.tables.specs.Layout.{pathAt}
+use Rattle.tables.specs.Layout.{pathAt, maxTokens}
 use Rattle.tables.specs.Node.{Linked, Pushed}
+use Rattle.tables.specs.Codes.{andCode, allCode}
 use Rattle.tables.proofs.Laws.Kept.{kept-both, marked-kept}
 use Rattle.sheet.specs.Tables.{Words}
 use Rattle.sheet.specs.Held.{codeAt, endAt, slotOf}
@@ -62,7 +63,7 @@ pub replaces-kept : {D : Declared} {w w' : Words} {d : ℕ} {n : Node} {α : Val
 replaces-kept {d = d} a = kept-both (marked-kept (a .pushed .linked .marked)) (altered-kept d (a .inside) (a .altered))
 
 -- a formula of the tables is due
-pub formula-job : (c : World) (w : Words) (n i p : ℕ) (F : Formula) (is : List Item) → SameTokens (c .tables) w → i < 1024 →
+pub formula-job : (c : World) (w : Words) (n i p : ℕ) (F : Formula) (is : List Item) → SameTokens (c .tables) w → i < maxTokens →
     Stands (c .declared) (c .tables) i F → Pend c w n p is → Job c w n (formulaDue w i p) (the (form F ∷ is))
 formula-job c w n i p F is s h st q = (code-here (c .tables) w s h, h, st, q)
 
@@ -87,7 +88,7 @@ module _ {c : World} {o : Bytes} {w : Words} {r : Regs} (i : In c o w r) where
 
   -- of an `and`: its second part
   pub cons-form : {w' : Words} {todo : ℕ} → Linked w w' (r .depth) (r .due .head) (r .due .rest) todo → (G : Formula) (is : List Item) →
-      suc (r .due .head) < 1024 → codeAt (c .tables) (r .due .head) ≡ 2 → endAt (c .tables) (suc (r .due .head)) < 1024 →
+      suc (r .due .head) < maxTokens → codeAt (c .tables) (r .due .head) ≡ andCode → endAt (c .tables) (suc (r .due .head)) < maxTokens →
       Stands (c .declared) (c .tables) (endAt (c .tables) (suc (r .due .head))) G → Pend c w (r .depth) (r .due .rest) is →
       Pend c w' (r .depth + 1) (r .depth + 1) (form G ∷ is)
   cons-form g G is small code far st q = (
@@ -104,7 +105,7 @@ module _ {c : World} {o : Bytes} {w : Words} {r : Regs} (i : In c o w r) where
   -- of an `all`: the same over the values left
   pub cons-again : {w' : Words} {h todo current last : ℕ} {α : Valuation} {p : Place} {s : Slot} →
       Replaces (c .declared) w w' (r .depth) (binderNode w r h todo current last) α p s →
-      (l : ℕ) (F : Formula) (n : ℕ) (v : ℤ) (is : List Item) → codeAt (c .tables) h ≡ 14 → Binds (c .declared) (c .tables) h l F →
+      (l : ℕ) (F : Formula) (n : ℕ) (v : ℤ) (is : List Item) → codeAt (c .tables) h ≡ allCode → Binds (c .declared) (c .tables) h l F →
       LeftAfter current last n v → Pend c w (r .depth) (r .due .rest) is → Pend c w' (r .depth + 1) (r .depth + 1) (again l F n v ∷ is)
   cons-again {w'} a l F n v is code bi le q =
       let g = a .pushed in

@@ -17,7 +17,8 @@ use Rattle.specification.proofs.Laws.Place.{SlotIn}
 use Rattle.values.specs.Word.{biased, signed}
 use Rattle.values.proofs.Laws.Word.{biased-signed, signed-in32}
 use Rattle.tables.specs.declared.nodes.Node.{Node}
-use Rattle.tables.specs.Layout.{localSlot}
+use Rattle.tables.specs.Layout.{localSlot, maxTokens, maxLocals}
+use Rattle.tables.specs.Codes.{exCode, someCode, allCode}
 use Rattle.sheet.specs.Tables.{Words}
 use Rattle.sheet.specs.Held.{operandAt, slotOf}
 use Rattle.walker.specs.declared.Due.{Due}
@@ -29,6 +30,7 @@ use Rattle.walker.specs.Sim.{In, Down}
 use Rattle.walker.specs.Steps.{Entered, Opens, Rounds}
 use Rattle.walker.specs.Registers.{formulaDue, dueRegs}
 use Rattle.walker.specs.Binding.{Local, Middle, binderSlot, binderNode, Alters}
+use Rattle.walker.specs.States.{undoTodo, nextTodo}
 use Rattle.walker.proofs.Here.{code-here, operand-here, end-here, local-operand, body-here}
 use Rattle.walker.proofs.Slots.{saved-here}
 use Rattle.walker.proofs.Heads.{at-form, form-tree}
@@ -37,7 +39,7 @@ use Rattle.walker.proofs.Onto.{down-undo, down-range}
 
 -- ---- the slot of the quantifier's local
 
-module _ {c : World} {o : Bytes} {w : Words} {r : Regs} (i : In c o w r) (h l : ℕ) (small : l < 32) (is : operandAt w (suc h) ≡ l) where
+module _ {c : World} {o : Bytes} {w : Words} {r : Regs} (i : In c o w r) (h l : ℕ) (small : l < maxLocals) (is : operandAt w (suc h) ≡ l) where
   slot-is : binderSlot w h ≡ slotOf (local l)
   slot-is = rw (add-one h, is)
 
@@ -53,7 +55,7 @@ module _ {c : World} {o : Bytes} {w : Words} {r : Regs} (i : In c o w r) (h l : 
 -- ---- the steps
 
 -- `ex`: the local starts without a value
-pub ex-down : {w w' : Words} {r : Regs} {d : Due} {n : Node} → Entered w r 12 → n ≡ binderNode w r (r .due .head) 2 0 0 → Alters w w' (r .depth) n 0 0 →
+pub ex-down : {w w' : Words} {r : Regs} {d : Due} {n : Node} → Entered w r exCode → n ≡ binderNode w r (r .due .head) undoTodo 0 0 → Alters w w' (r .depth) n 0 0 →
     d ≡ formulaDue w' (r .due .head + 2) (r .due .rest) →
     (c : World) (o : Bytes) → In c o w r → Down c o w' (dueRegs r (r .depth + 1) d (r .inner) (r .bad))
 unfolding grow treeItems
@@ -76,7 +78,7 @@ word-of value v e = sym (biased-signed value) ∙ ap biased e
 
 module _ {w w' : Words} {r : Regs} {d : Due} {n : Node} {value last b : ℕ} where
   -- `some` with its first value
-  pub open-down : Opens w r value last → b ≡ bodyOf w (r .due .head) → n ≡ binderNode w r (r .due .head) 3 value last →
+  pub open-down : Opens w r value last → b ≡ bodyOf w (r .due .head) → n ≡ binderNode w r (r .due .head) nextTodo value last →
       Alters w w' (r .depth) n 1 value → d ≡ formulaDue w' b (r .due .rest) →
       (c : World) (o : Bytes) → In c o w r → Down c o w' (dueRegs r (r .depth + 1) d (r .inner) (r .bad))
   open-down x eb e g k c o i =
@@ -92,7 +94,7 @@ module _ {w w' : Words} {r : Regs} {d : Due} {n : Node} {value last b : ℕ} whe
       (rest-onto i is (r .depth + 1) a (omega arith) rest)))
 
   -- `all` with one of its values: the node is the list's next cell
-  pub round-down : {h : ℕ} → Rounds w r h value last → b ≡ bodyOf w h → n ≡ binderNode w r h 2 value last → Alters w w' (r .depth) n 1 value →
+  pub round-down : {h : ℕ} → Rounds w r h value last → b ≡ bodyOf w h → n ≡ binderNode w r h undoTodo value last → Alters w w' (r .depth) n 1 value →
       d ≡ formulaDue w' b (r .depth + 1) →
       (c : World) (o : Bytes) → In c o w r → Down c o w' (dueRegs r (r .depth + 1) d (r .inner) (r .bad))
   round-down {h} x eb e g k c o i =
@@ -110,7 +112,7 @@ module _ {w w' : Words} {r : Regs} {d : Due} {n : Node} {value last b : ℕ} whe
 -- ---- what the functions need of the words
 
 module _ {c : World} {o : Bytes} {w : Words} {r : Regs} (i : In c o w r) {h : ℕ} where
-  local-of : {l : ℕ} → suc (suc h) < 1024 → operandAt w (suc h) ≡ l → l < 32 → Local w h
+  local-of : {l : ℕ} → suc (suc h) < maxTokens → operandAt w (suc h) ≡ l → l < maxLocals → Local w h
   local-of near is small =
       record { near = omega (arith, near); local = rw (add-one h, is) small; size = omega (arith, i .path .size) }
 
@@ -127,16 +129,16 @@ module _ {c : World} {o : Bytes} {w : Words} {r : Regs} (i : In c o w r) {h : �
       }
 
 module _ {w : Words} {r : Regs} where
-  pub ex-local : Entered w r 12 → Local w (r .due .head)
+  pub ex-local : Entered w r exCode → Local w (r .due .head)
   ex-local x =
       let i = x .at .ins in
       let b = at-form i (x .formula) (x .code) .under in
       local-of i (b .near) (operand-here (x .at .c .tables) w (i .path .tokens) (omega (arith, b .near)) ∙ b .local .1) (b .small)
 
-  pub some-middle : Entered w r 13 → Middle w (r .due .head)
+  pub some-middle : Entered w r someCode → Middle w (r .due .head)
   some-middle x = let i = x .at .ins in binds-middle i (at-form i (x .formula) (x .code) .under .binds)
 
-  pub all-middle : Entered w r 14 → Middle w (r .due .head)
+  pub all-middle : Entered w r allCode → Middle w (r .due .head)
   all-middle x = let i = x .at .ins in binds-middle i (at-form i (x .formula) (x .code) .under .binds)
 
   pub open-range : {low high : ℕ} → Opens w r low high → Local w (r .due .head) × Middle w (r .due .head)
@@ -145,13 +147,13 @@ module _ {w : Words} {r : Regs} where
       let q = x .sons (v .c) (v .o) (v .ins) .6 in
       (binds-local (v .ins) q, binds-middle (v .ins) q)
 
-  pub open-body : {low high : ℕ} → Opens w r low high → bodyOf w (r .due .head) < 1024
+  pub open-body : {low high : ℕ} → Opens w r low high → bodyOf w (r .due .head) < maxTokens
   open-body x =
       let v = x .at .at in
       let q = x .sons (v .c) (v .o) (v .ins) .6 in
       rw (body-here (v .c .tables) w (v .ins .path .tokens) q) (q .inside)
 
-  pub round-body : {h value last : ℕ} → Rounds w r h value last → bodyOf w h < 1024
+  pub round-body : {h value last : ℕ} → Rounds w r h value last → bodyOf w h < maxTokens
   round-body x =
       let v = x .at in
       let q = x .son (v .c) (v .o) (v .ins) .6 in

@@ -15,6 +15,7 @@ use Rattle.specification.specs.Tree.{Rest, bounded, sons, rounds, grow}
 use Rattle.specification.proofs.Laws.Value.{sane-val}
 use Rattle.values.specs.Word.{signed}
 use Rattle.values.proofs.Laws.Word.{signed-biased, signed-count, signed-add, biased-word}
+use Rattle.tables.specs.Codes.{someCode, allCode}
 use Rattle.sheet.specs.Tables.{Words}
 use lib.ListN.{length}
 use Rattle.tables.specs.Layout.{nodeEnd}
@@ -31,6 +32,7 @@ use Rattle.walker.specs.Stands.{Binds, bodyOf, LeftAfter}
 use Rattle.walker.specs.Sim.{tree, In}
 use Rattle.walker.specs.Steps.{Visited, Entered, GoesOn, OneLeaf, Opens, Rounds}
 use Rattle.walker.specs.Registers.{dueOf}
+use Rattle.walker.specs.States.{againJob, failureJob}
 use Rattle.walker.proofs.Here.{body-here, code-here}
 use Rattle.walker.proofs.Under.{Ranges, Says}
 use Rattle.walker.proofs.Keep.{pend-keep}
@@ -159,26 +161,26 @@ pub all-grows : (D : Declared) (m : Bool) (tok l : ℕ) (a b : Term) (F : Formul
 unfolding grow
 all-grows D m tok l a b F k α = refl
 
-abbrev pub some-terms : {w : Words} {r : Regs} → Entered w r 13 → Terms w r (r .due .head + 2) (bodyOf w (r .due .head))
+abbrev pub some-terms : {w : Words} {r : Regs} → Entered w r someCode → Terms w r (r .due .head + 2) (bodyOf w (r .due .head))
 some-terms x = range-terms 13 some someOf (λ D t h F q. q) some-grows x
 
-pub some-errs : {w : Words} {r : Regs} (x : Entered w r 13) → Errs w r (r .due .head + 2) (bodyOf w (r .due .head)) (some-terms x)
+pub some-errs : {w : Words} {r : Regs} (x : Entered w r someCode) → Errs w r (r .due .head + 2) (bodyOf w (r .due .head)) (some-terms x)
 some-errs x = range-errs 13 some someOf (λ D t h F q. q) some-grows x
 
-abbrev pub all-terms : {w : Words} {r : Regs} → Entered w r 14 → Terms w r (r .due .head + 2) (bodyOf w (r .due .head))
+abbrev pub all-terms : {w : Words} {r : Regs} → Entered w r allCode → Terms w r (r .due .head + 2) (bodyOf w (r .due .head))
 all-terms x = range-terms 14 all allOf (λ D t h F q. q) all-grows x
 
-pub all-errs : {w : Words} {r : Regs} (x : Entered w r 14) → Errs w r (r .due .head + 2) (bodyOf w (r .due .head)) (all-terms x)
+pub all-errs : {w : Words} {r : Regs} (x : Entered w r allCode) → Errs w r (r .due .head + 2) (bodyOf w (r .due .head)) (all-terms x)
 all-errs x = range-errs 14 all allOf (λ D t h F q. q) all-grows x
 
 module _ {w w' : Words} {r : Regs} {s : Sides} where
-  module _ (x : Entered w r 13) where
+  module _ (x : Entered w r someCode) where
     module _ (v : Valued w w' (r .due .head + 2) (bodyOf w (r .due .head)) s) (l : s .ltag ≡ 0) (h : s .rtag ≡ 0) where
       abbrev some-values : (c : World) (o : Bytes) (i : In c o w' r) → Valuable 13 some someOf (λ D t h F q. q) some-grows x v l h c o i
       some-values = valuable 13 some someOf (λ D t h F q. q) some-grows x v l h
 
       -- no value: a failure leaf
-      pub some-none : s .right < s .left → OneLeaf w' r (dueOf 17 0 0)
+      pub some-none : s .right < s .left → OneLeaf w' r (dueOf failureJob 0 0)
       unfolding sons
       some-none less = record {
         at = visited-spare w w' (v .kept) (v .size) (x .at);
@@ -208,7 +210,7 @@ module _ {w w' : Words} {r : Regs} {s : Sides} where
 
   -- ---- `all`
 
-  module _ (x : Entered w r 14) where
+  module _ (x : Entered w r allCode) where
     module _ (v : Valued w w' (r .due .head + 2) (bodyOf w (r .due .head)) s) (l : s .ltag ≡ 0) (h : s .rtag ≡ 0) where
       abbrev all-values : (c : World) (o : Bytes) (i : In c o w' r) → Valuable 14 all allOf (λ D t h F q. q) all-grows x v l h c o i
       all-values = valuable 14 all allOf (λ D t h F q. q) all-grows x v l h
@@ -245,7 +247,7 @@ module _ {w w' : Words} {r : Regs} {s : Sides} where
 
 -- ---- an `all` that goes on
 
-module _ {w : Words} {r : Regs} (x : Visited w r) (j : r .due .job ≡ 15) where
+module _ {w : Words} {r : Regs} (x : Visited w r) (j : r .due .job ≡ againJob) where
   -- the node that began it
   pub again-node : (1 ≤ r .due .head) × (nodeEnd (r .due .head - 1) ≤ length w)
   again-node =

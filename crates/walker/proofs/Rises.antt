@@ -24,15 +24,16 @@ use Rattle.walker.specs.Path.{World, bit, Saved, Changed, Path}
 use Rattle.walker.specs.Sim.{yes, no, Up, Yes, Sim, over, up, won}
 use Rattle.walker.specs.Registers.{popRegs, stopRegs}
 use Rattle.walker.specs.Loop.{Topped, Rising, Rose, Exhausted, Leaves, Restores}
+use Rattle.walker.specs.States.{upMode, wonMode, otherTodo, undoTodo, nextTodo, judgeTodo, doneEnd}
 use Rattle.walker.proofs.Slots.{in-table, Altered, alter, holds-back}
 use Rattle.walker.proofs.Whole.{altered-kept, path-pop}
 use Rattle.walker.proofs.Tops.{top-index, top-undo, top-range}
 
 -- by the mode, a son is finished
-pub son-finished : {w : Words} {r : Regs} → Rising w r → (r .mode ≡ 3 → ⊥) → r .mode ≡ 2
+pub son-finished : {w : Words} {r : Regs} → Rising w r → (r .mode ≡ wonMode → ⊥) → r .mode ≡ upMode
 son-finished {w} {r} u n = go (u .mode)
   where
-    go : (r .mode ≡ 2) ⊎ (r .mode ≡ 3) → r .mode ≡ 2
+    go : (r .mode ≡ upMode) ⊎ (r .mode ≡ wonMode) → r .mode ≡ upMode
     go (inl e) = e
     go (inr e) = absurd (n e)
 
@@ -42,8 +43,8 @@ topped u some t = record { c = u .c; α = u .α; fr = u .fr; path = u .path; som
 -- ---- nothing is left to do there
 
 module _ {w : Words} {r : Regs} (u : Rising w r) (some : 0 < r .depth) where
-  pub leaves : (todoAt w (r .depth - 1) ≡ 2 → ⊥) → (todoAt w (r .depth - 1) ≡ 3 → ⊥) → (todoAt w (r .depth - 1) ≡ 4 → ⊥) →
-      (todoAt w (r .depth - 1) ≡ 1 → r .mode ≡ 2 → ⊥) → Leaves w r
+  pub leaves : (todoAt w (r .depth - 1) ≡ undoTodo → ⊥) → (todoAt w (r .depth - 1) ≡ nextTodo → ⊥) → (todoAt w (r .depth - 1) ≡ judgeTodo → ⊥) →
+      (todoAt w (r .depth - 1) ≡ otherTodo → r .mode ≡ upMode → ⊥) → Leaves w r
   leaves n2 n3 n4 n1 = record { at = u; some = some; back = λ c α fr P. go c α fr P }
     where
       go : (c : World) (α : Valuation) (fr : List Frame) → Path c w (r .depth) α fr → (s : Exhausted c r fr) × (below (s .top) ≡ here (s .top))
@@ -70,7 +71,7 @@ module _ {w : Words} {r : Regs} (u : Rising w r) (some : 0 < r .depth) where
   Backed c fr =
       (s : Exhausted c r fr) × (p : Place) × (v : Slot) × (below (s .top) ≡ put (here (s .top)) p v) × Changed w (len (s .under)) p (here (s .top))
 
-  pub undo-restores : todoAt w (r .depth - 1) ≡ 2 → Restores w r
+  pub undo-restores : todoAt w (r .depth - 1) ≡ undoTodo → Restores w r
   undo-restores t = record {
     at = u;
     some = some;
@@ -85,7 +86,7 @@ module _ {w : Words} {r : Regs} (u : Rising w r) (some : 0 < r .depth) where
   unfolding sonsFrom
   none-left c l x i n F is β fr e = rw e
 
-  pub range-restores : todoAt w (r .depth - 1) ≡ 3 → (r .mode ≡ 2 → ¬ (currentAt w (r .depth - 1) < lastAt w (r .depth - 1))) → Restores w r
+  pub range-restores : todoAt w (r .depth - 1) ≡ nextTodo → (r .mode ≡ upMode → ¬ (currentAt w (r .depth - 1) < lastAt w (r .depth - 1))) → Restores w r
   range-restores t last = record {
     at = u;
     some = some;
@@ -121,7 +122,7 @@ module _ {c : World} {w : Words} {r : Regs} {α : Valuation} {fr : List Frame} (
   popped k h = path-pop parted k h
 
 module _ {c : World} {o : Bytes} {w w' : Words} {r : Regs} where
-  leave-up : (u : Up c o w r) (x : Exhausted c r (u .fr)) → r .mode ≡ 2 → Kept (len (x .under)) w w' → Holds w' (here (x .top)) → Sim c o w' (popRegs r)
+  leave-up : (u : Up c o w r) (x : Exhausted c r (u .fr)) → r .mode ≡ upMode → Kept (len (x .under)) w w' → Holds w' (here (x .top)) → Sim c o w' (popRegs r)
   leave-up u x m k h =
       up m
       (record {
@@ -137,7 +138,7 @@ module _ {c : World} {o : Bytes} {w w' : Words} {r : Regs} where
         result = ap (λ f. f (u .e) (r .tallies) (u .b)) (sym (x .same-no m)) ∙ u .result;
       })
 
-  leave-yes : (u : Yes c o w r) (x : Exhausted c r (u .fr)) → r .mode ≡ 3 → Kept (len (x .under)) w w' → Holds w' (here (x .top)) → Sim c o w' (popRegs r)
+  leave-yes : (u : Yes c o w r) (x : Exhausted c r (u .fr)) → r .mode ≡ wonMode → Kept (len (x .under)) w w' → Holds w' (here (x .top)) → Sim c o w' (popRegs r)
   leave-yes u x m k h =
       won m
       (record {
@@ -203,23 +204,23 @@ module _ {w : Words} {r : Regs} (x : Restores w r) where
 -- ---- the path has no node
 
 module _ {c : World} {o : Bytes} {w : Words} {r : Regs} (none : r .depth ≡ 0) where
-  over-up : Up c o w r → Sim c o w (stopRegs r 0)
+  over-up : Up c o w r → Sim c o w (stopRegs r doneEnd)
   over-up u = over refl (record { b = u .b; out = u .out; result = ap resultOf (go (u .fr) (u .path .deep) (u .result)) })
     where
       go : (fr : List Frame) → r .depth ≡ len fr → no c fr (u .e) (r .tallies) (u .b) ≡ c .result → going (r .tallies) (u .b) ≡ c .result
       go [] e q = q
       go (f ∷ fr) e q = absurd (omega arith)
 
-  over-yes : Yes c o w r → Sim c o w (stopRegs r 0)
+  over-yes : Yes c o w r → Sim c o w (stopRegs r doneEnd)
   over-yes u = over refl (record { b = u .b; out = u .out; result = ap resultOf (go (u .fr) (u .path .deep) (u .result)) })
     where
       go : (fr : List Frame) → r .depth ≡ len fr → yes c fr (r .tallies) (u .b) ≡ c .result → going (r .tallies) (u .b) ≡ c .result
       go [] e q = q
       go (f ∷ fr) e q = absurd (omega arith)
 
-pub finished : {w : Words} {r : Regs} → Rising w r → r .depth ≡ 0 → Rose w w r (stopRegs r 0)
+pub finished : {w : Words} {r : Regs} → Rising w r → r .depth ≡ 0 → Rose w w r (stopRegs r doneEnd)
 finished {w} {r} u none = record { ups = λ c o m. over-up none; yes = λ c o m. over-yes none; nodes = refl; falls = go (u .mode) }
   where
-    go : (r .mode ≡ 2) ⊎ (r .mode ≡ 3) → 2 * r .depth + 0 < 2 * r .depth + r .mode
+    go : (r .mode ≡ upMode) ⊎ (r .mode ≡ wonMode) → 2 * r .depth + 0 < 2 * r .depth + r .mode
     go (inl e) = omega arith
     go (inr e) = omega arith

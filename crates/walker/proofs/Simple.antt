@@ -7,6 +7,8 @@ use mathlib.Core.List.{[], _∷_}
 use Rattle.specification.specs.Bytes.{Bytes}
 use Rattle.specification.specs.Tree.{grow}
 use Rattle.tables.specs.Node.{Marked, Linked}
+use Rattle.tables.specs.Codes.{trueCode, andCode, orCode}
+use Rattle.tables.specs.Layout.{maxTokens}
 use Rattle.tables.proofs.Laws.Kept.{marked-kept}
 use Rattle.sheet.specs.Tables.{Words}
 use Rattle.walker.specs.declared.Due.{Due}
@@ -16,13 +18,14 @@ use Rattle.walker.specs.Path.{World, Job}
 use Rattle.walker.specs.Sim.{Down, In}
 use Rattle.walker.specs.Steps.{Leads, Listed, Entered, GoesOn, OneLeaf}
 use Rattle.walker.specs.Registers.{formulaDue, dueRegs}
+use Rattle.walker.specs.States.{successJob, noTodo, otherTodo}
 use Rattle.walker.proofs.Inverse.{code-range}
 use Rattle.walker.proofs.Heads.{at-form, form-tree}
 use Rattle.walker.proofs.Pushes.{formula-job, rest-onto, rest-leads, cons-form}
 use Rattle.walker.proofs.Onto.{down-pass, down-other}
 
 -- a leaf's words do not lie in memory
-leaf-job : (c : World) (w w' : Words) (n m : ℕ) (d : Due) (x : What) → 16 ≤ d .job → Job c w n d x → Job c w' m d x
+leaf-job : (c : World) (w w' : Words) (n m : ℕ) (d : Due) (x : What) → successJob ≤ d .job → Job c w n d x → Job c w' m d x
 leaf-job c w w' n m d (the []) h q = absurd (omega (arith, q))
 leaf-job c w w' n m d (the (form F ∷ is)) h q = absurd (omega (arith, h, q .0, code-range (c .declared) (c .tables) (d .head) F (q .2) .1))
 leaf-job c w w' n m d (the (again l F k v ∷ is)) h q = absurd (omega (arith, q .0))
@@ -30,7 +33,7 @@ leaf-job c w w' n m d success h q = q
 leaf-job c w w' n m d failure h q = q
 leaf-job c w w' n m d (error κ tok) h q = q
 
-module _ {w w' : Words} {r : Regs} (g : Marked w w' (r .depth) 0) where
+module _ {w w' : Words} {r : Regs} (g : Marked w w' (r .depth) noTodo) where
   -- the rest of the list can be read, and comes next
   pub goes-leads : GoesOn w r → Leads w' (r .due .rest)
   goes-leads x = let s = x .son (x .at .c) (x .at .o) (x .at .ins) in rest-leads (x .at .ins) (s .0) (marked-kept g) (s .2)
@@ -50,7 +53,7 @@ module _ {w w' : Words} {r : Regs} (g : Marked w w' (r .depth) 0) where
       down-pass i g (s .0) (s .1) (leaf-job c w w' (suc (r .depth)) (r .depth + 1) d (s .0) (s .3) (s .2))
 
 -- `true`
-pub true-goes : {w : Words} {r : Regs} → Entered w r 1 → GoesOn w r
+pub true-goes : {w : Words} {r : Regs} → Entered w r trueCode → GoesOn w r
 unfolding grow
 true-goes x = record {
   at = x .at;
@@ -58,18 +61,18 @@ true-goes x = record {
 }
 
 -- the token after a formula's is one of the table
-pub head-small : {w : Words} {r : Regs} {n : ℕ} → Entered w r n → r .due .head < 1024
+pub head-small : {w : Words} {r : Regs} {n : ℕ} → Entered w r n → r .due .head < maxTokens
 head-small x = at-form (x .at .ins) (x .formula) (x .code) .small
 
 -- and so is the first part of an `and` or `or`
-pub and-near : {w : Words} {r : Regs} → Entered w r 2 → r .due .head + 1 < 1024
+pub and-near : {w : Words} {r : Regs} → Entered w r andCode → r .due .head + 1 < maxTokens
 and-near x = omega (arith, at-form (x .at .ins) (x .formula) (x .code) .under .near)
 
-pub or-near : {w : Words} {r : Regs} → Entered w r 3 → r .due .head + 1 < 1024
+pub or-near : {w : Words} {r : Regs} → Entered w r orCode → r .due .head + 1 < maxTokens
 or-near x = omega (arith, at-form (x .at .ins) (x .formula) (x .code) .under .near)
 
 -- `and`: the node is the list's next cell
-pub and-down : {w w' : Words} {r : Regs} {d : Due} → Entered w r 2 → Linked w w' (r .depth) (r .due .head) (r .due .rest) 0 → d ≡ formulaDue w' (r .due .head + 1) (r .depth + 1) →
+pub and-down : {w w' : Words} {r : Regs} {d : Due} → Entered w r andCode → Linked w w' (r .depth) (r .due .head) (r .due .rest) noTodo → d ≡ formulaDue w' (r .due .head + 1) (r .depth + 1) →
     (c : World) (o : Bytes) → In c o w r → Down c o w' (dueRegs r (r .depth + 1) d (r .inner) (r .bad))
 unfolding grow treeItems
 and-down {w' = w'} {r = r} x g k c o i =
@@ -82,7 +85,7 @@ and-down {w' = w'} {r = r} x g k c o i =
     (b .left) (cons-form i g (b .second) (a .is) (b .near) (a .code) (b .far) (b .right) (a .rest))))
 
 -- `or`: its second part is left for later
-pub or-down : {w w' : Words} {r : Regs} {d : Due} → Entered w r 3 → Linked w w' (r .depth) (r .due .head) (r .due .rest) 1 → d ≡ formulaDue w' (r .due .head + 1) (r .due .rest) →
+pub or-down : {w w' : Words} {r : Regs} {d : Due} → Entered w r orCode → Linked w w' (r .depth) (r .due .head) (r .due .rest) otherTodo → d ≡ formulaDue w' (r .due .head + 1) (r .due .rest) →
     (c : World) (o : Bytes) → In c o w r → Down c o w' (dueRegs r (r .depth + 1) d (r .inner) (r .bad))
 unfolding grow treeItems
 or-down {w' = w'} {r = r} x g k c o i =

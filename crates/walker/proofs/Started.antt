@@ -21,6 +21,7 @@ use Rattle.walker.specs.Path.{World}
 use Rattle.walker.specs.Sim.{Down, Sim, over}
 use Rattle.walker.specs.Loop.{Fixed}
 use Rattle.walker.specs.Walked.{Ready, startRegs, Finished, Walked}
+use Rattle.walker.specs.States.{overMode}
 use Rattle.walker.proofs.Walk.{walk-run}
 use Rattle.walker.proofs.Moves.{sim-over}
 
@@ -67,7 +68,7 @@ module _ {w : Words} {o : Bytes} {S : Setting} {scalars arrays : ℕ} (s : Sheet
 -- ---- the end
 
 -- the registers of a walk that is over
-pub finished : {w w' : Words} {o o' : Bytes} {S : Setting} {scalars arrays : ℕ} {r : Regs} → r .mode ≡ 0 → length w' ≡ length w → length o' ≡ length o →
+pub finished : {w w' : Words} {o o' : Bytes} {S : Setting} {scalars arrays : ℕ} {r : Regs} → r .mode ≡ overMode → length w' ≡ length w → length o' ≡ length o →
     ((s : Sheet) → Ready w S scalars arrays s → Sim (worldOf w o S s) o' w' r) → Finished w w' o o' S scalars arrays r
 finished {o = o} m words size f = record {
   run = λ s a. let v = sim-over m (f s a) in (v .b, v .result, v .out .count, v .out .bytes ∙ ap (λ (n : ℕ). v .b ++ drop n o) (v .out .count));

@@ -13,6 +13,7 @@ use Rattle.tables.specs.Node.{todoAt}
 use Rattle.sheet.specs.Tables.{Words}
 use Rattle.walker.specs.Frame.{Item, Question, Frame, pass, other, undo, range, asks, len}
 use Rattle.walker.specs.Path.{World, Path}
+use Rattle.walker.specs.States.{otherTodo, undoTodo, nextTodo, judgeTodo}
 
 -- the topmost node is the one below the depth
 pub top-index : {c : World} {w : Words} {d : ℕ} {α : Valuation} {f : Frame} {fr : List Frame} → Path c w d α (f ∷ fr) → d - 1 ≡ len fr
@@ -26,7 +27,7 @@ module _ {c : World} {w : Words} {d : ℕ} {α : Valuation} (Q : List Frame → 
   wrong : {f : Frame} {fr : List Frame} (u v : ℕ) → Path c w d α (f ∷ fr) → todoAt w (len fr) ≡ u → todoAt w (d - 1) ≡ v → ¬ (u ≡ v) → Q (f ∷ fr)
   wrong u v P e h n = absurd (n (sym e ∙ ap (todoAt w) (sym (top-index P)) ∙ h))
 
-  pub top-other : todoAt w (d - 1) ≡ 1 →
+  pub top-other : todoAt w (d - 1) ≡ otherTodo →
       ((G : Formula) (is : List Item) (β : Valuation) (fr : List Frame) → Path c w d α (other G is β ∷ fr) → Q (other G is β ∷ fr)) →
       (fr : List Frame) → Path c w d α fr → Q fr
   top-other h k [] P = nothing P
@@ -36,7 +37,7 @@ module _ {c : World} {w : Words} {d : ℕ} {α : Valuation} (Q : List Frame → 
   top-other h k (range l x i n F is β ∷ fr) P = wrong 3 1 P (P .stack .0 .0) h (λ z. omega arith)
   top-other h k (asks tok q is β e ∷ fr) P = wrong 4 1 P (P .stack .0 .0) h (λ z. omega arith)
 
-  pub top-undo : todoAt w (d - 1) ≡ 2 →
+  pub top-undo : todoAt w (d - 1) ≡ undoTodo →
       ((p : Place) (s : Slot) (β : Valuation) (fr : List Frame) → Path c w d α (undo p s β ∷ fr) → Q (undo p s β ∷ fr)) →
       (fr : List Frame) → Path c w d α fr → Q fr
   top-undo h k [] P = nothing P
@@ -46,7 +47,7 @@ module _ {c : World} {w : Words} {d : ℕ} {α : Valuation} (Q : List Frame → 
   top-undo h k (range l x i n F is β ∷ fr) P = wrong 3 2 P (P .stack .0 .0) h (λ z. omega arith)
   top-undo h k (asks tok q is β e ∷ fr) P = wrong 4 2 P (P .stack .0 .0) h (λ z. omega arith)
 
-  pub top-range : todoAt w (d - 1) ≡ 3 →
+  pub top-range : todoAt w (d - 1) ≡ nextTodo →
       ((l : ℕ) (x : ℤ) (i n : ℕ) (F : Formula) (is : List Item) (β : Valuation) (fr : List Frame) →
       Path c w d α (range l x i n F is β ∷ fr) → Q (range l x i n F is β ∷ fr)) →
       (fr : List Frame) → Path c w d α fr → Q fr
@@ -57,7 +58,7 @@ module _ {c : World} {w : Words} {d : ℕ} {α : Valuation} (Q : List Frame → 
   top-range h k (range l x i n F is β ∷ fr) P = k l x i n F is β fr P
   top-range h k (asks tok q is β e ∷ fr) P = wrong 4 3 P (P .stack .0 .0) h (λ z. omega arith)
 
-  pub top-asks : todoAt w (d - 1) ≡ 4 →
+  pub top-asks : todoAt w (d - 1) ≡ judgeTodo →
       ((tok : ℕ) (q : Question) (is : List Item) (β : Valuation) (e : Bool) (fr : List Frame) → Path c w d α (asks tok q is β e ∷ fr) → Q (asks tok q is β e ∷ fr)) →
       (fr : List Frame) → Path c w d α fr → Q fr
   top-asks h k [] P = nothing P

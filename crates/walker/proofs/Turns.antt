@@ -12,8 +12,11 @@ use Rattle.specification.specs.Bytes.{Bytes}
 use Rattle.specification.specs.Lines.{Declared}
 use Rattle.specification.specs.Value.{Valuation}
 use Rattle.specification.specs.Tree.{Tree, errorLeaf, fails, undecided}
+use Rattle.specification.specs.Arithmetic.{undecidedInside}
 use Rattle.tables.specs.Node.{todoWord, headAt, restAt, todoAt, innerAt, badAt}
 use Rattle.tables.specs.Kept.{Kept}
+use Rattle.tables.specs.Codes.{impCode}
+use Rattle.tables.specs.Layout.{maxTokens}
 use Rattle.tables.proofs.Laws.Kept.{word-kept, word-slots}
 use Rattle.sheet.specs.Tables.{Words}
 use Rattle.sheet.specs.Held.{codeAt, endAt, Holds}
@@ -26,6 +29,7 @@ use Rattle.walker.specs.Sim.{yes, no, tree, Down, Up, Yes, down}
 use Rattle.walker.specs.Steps.{Leads, Listed}
 use Rattle.walker.specs.Registers.{dueOf, formulaDue, errorDue, dueRegs}
 use Rattle.walker.specs.Loop.{Topped, Rose}
+use Rattle.walker.specs.States.{upMode, wonMode, failureJob, otherTodo, judgeTodo}
 use Rattle.walker.proofs.Keep.{pend-onto}
 use Rattle.walker.proofs.Here.{code-here, end-here}
 use Rattle.walker.proofs.Slots.{holds-keep}
@@ -64,13 +68,13 @@ son-due {c} r {g} {fr} e b x P i a j o n q = record {
 
 module _ {w w' : Words} {r q : Regs} {d d′ : Due} {inner bad : ℕ} (e : q ≡ dueRegs r (r .depth) d inner bad) (e′ : d ≡ d′) where
   -- a step up, after a son is finished
-  pub rose-up : r .mode ≡ 2 → ((c : World) (o : Bytes) → Up c o w r → Down c o w' (dueRegs r (r .depth) d′ inner bad)) → Rose w w' r q
+  pub rose-up : r .mode ≡ upMode → ((c : World) (o : Bytes) → Up c o w r → Down c o w' (dueRegs r (r .depth) d′ inner bad)) → Rose w w' r q
   rose-up m f =
       rw (e, e′)
       (record { ups = λ c o h u. down refl (f c o u); yes = λ c o h u. absurd (omega arith); nodes = refl; falls = omega arith })
 
   -- a step up, after an inner tree has succeeded
-  pub rose-yes : r .mode ≡ 3 → ((c : World) (o : Bytes) → Yes c o w r → Down c o w' (dueRegs r (r .depth) d′ inner bad)) → Rose w w' r q
+  pub rose-yes : r .mode ≡ wonMode → ((c : World) (o : Bytes) → Yes c o w r → Down c o w' (dueRegs r (r .depth) d′ inner bad)) → Rose w w' r q
   rose-yes m f =
       rw (e, e′)
       (record { ups = λ c o h u. absurd (omega arith); yes = λ c o h u. down refl (f c o u); nodes = refl; falls = omega arith })
@@ -97,13 +101,13 @@ module _ {c : World} {w w' : Words} {d : ℕ} {α : Valuation} {f : Frame} {fr :
       (holds-keep (word-slots (todoWord (d - 1)) 0 (omega arith) e) (subst (Holds w) (P .chain .0 ∙ q) (P .holds))) (P .chain .1)
 
 -- the second son of an `or`
-pub other-small : {w : Words} {r : Regs} → Topped w r 1 → suc (headAt w (r .depth - 1)) < 1024
+pub other-small : {w : Words} {r : Regs} → Topped w r otherTodo → suc (headAt w (r .depth - 1)) < maxTokens
 other-small {w} {r} t =
-    top-other (λ fr. suc (headAt w (r .depth - 1)) < 1024) (t .some) (t .todo) (λ G is β fr P. rw (top-index P) (P .stack .0 .1)) (t .fr) (t .path)
+    top-other (λ fr. suc (headAt w (r .depth - 1)) < maxTokens) (t .some) (t .todo) (λ G is β fr P. rw (top-index P) (P .stack .0 .1)) (t .fr) (t .path)
 
-pub other-far : {w : Words} {r : Regs} {h n : ℕ} → Topped w r 1 → h ≡ headAt w (r .depth - 1) → n ≡ endAt w (h + 1) → n < 1024
+pub other-far : {w : Words} {r : Regs} {h n : ℕ} → Topped w r otherTodo → h ≡ headAt w (r .depth - 1) → n ≡ endAt w (h + 1) → n < maxTokens
 other-far {w} {r} {h} {n} t eh en =
-    top-other (λ fr. n < 1024) (t .some) (t .todo)
+    top-other (λ fr. n < maxTokens) (t .some) (t .todo)
     (λ G is β fr P.
     let a = P .stack .0 in
     let k = headAt w (len fr) in
@@ -111,7 +115,7 @@ other-far {w} {r} {h} {n} t eh en =
     let far : endAt w (suc k) ≡ endAt (t .c .tables) (suc k) = end-here (t .c .tables) w (P .tokens) (a .1) in
     rw (en, eh′, add-one k, far) (a .2)) (t .fr) (t .path)
 
-pub other-up : {c : World} {o : Bytes} {w w' : Words} {r : Regs} {h n p : ℕ} → 0 < r .depth → todoAt w (r .depth - 1) ≡ 1 → h ≡ headAt w (r .depth - 1) →
+pub other-up : {c : World} {o : Bytes} {w w' : Words} {r : Regs} {h n p : ℕ} → 0 < r .depth → todoAt w (r .depth - 1) ≡ otherTodo → h ≡ headAt w (r .depth - 1) →
     n ≡ endAt w (h + 1) → p ≡ restAt w (r .depth - 1) → w' ≡ set w (todoWord (r .depth - 1)) 0 → Up c o w r →
     Down c o w' (dueRegs r (r .depth) (formulaDue w n p) (r .inner) (r .bad))
 other-up {c} {o} {w} {w'} {r} {h} {n} {p} some t eh en ep ew u =
@@ -132,19 +136,19 @@ other-up {c} {o} {w} {w'} {r} {h} {n} {p} some t eh en ep ew u =
 -- what is read at the node
 pub record Judges (w w' : Words) (r : Regs) (h p inner bad : ℕ) : Type 0 where
   pub some : 0 < r .depth
-  pub todo : todoAt w (r .depth - 1) ≡ 4
+  pub todo : todoAt w (r .depth - 1) ≡ judgeTodo
   pub head : h ≡ headAt w (r .depth - 1)
   pub rest : p ≡ restAt w (r .depth - 1)
   pub inside : inner ≡ innerAt w (r .depth - 1)
   pub flag : bad ≡ badAt w (r .depth - 1)
   pub words : w' ≡ set w (todoWord (r .depth - 1)) 0
 
-pub judging : {w w' : Words} {r : Regs} {h p inner bad : ℕ} → Topped w r 4 → h ≡ headAt w (r .depth - 1) → p ≡ restAt w (r .depth - 1) →
+pub judging : {w w' : Words} {r : Regs} {h p inner bad : ℕ} → Topped w r judgeTodo → h ≡ headAt w (r .depth - 1) → p ≡ restAt w (r .depth - 1) →
     inner ≡ innerAt w (r .depth - 1) → bad ≡ badAt w (r .depth - 1) → w' ≡ set w (todoWord (r .depth - 1)) 0 → Judges w w' r h p inner bad
 judging t eh ep ei eb ew = record { some = t .some; todo = t .todo; head = eh; rest = ep; inside = ei; flag = eb; words = ew }
 
 module _ (D : Declared) (m : Bool) (tok : ℕ) (is : List Item) (α : Valuation) where
-  son-undecided : (q : Question) → sonOf D m tok q is undecided α ≡ errorLeaf 6 tok α
+  son-undecided : (q : Question) → sonOf D m tok q is undecided α ≡ errorLeaf undecidedInside tok α
   son-undecided denying = refl
   son-undecided (implying G) = refl
 
@@ -152,9 +156,9 @@ module _ (D : Declared) (m : Bool) (tok : ℕ) (is : List Item) (α : Valuation)
   son-fails denying = refl
   son-fails (implying G) = refl
 
-pub judge-small : {w : Words} {r : Regs} → Topped w r 4 → headAt w (r .depth - 1) < 1024
+pub judge-small : {w : Words} {r : Regs} → Topped w r judgeTodo → headAt w (r .depth - 1) < maxTokens
 judge-small {w} {r} t =
-    top-asks (λ fr. headAt w (r .depth - 1) < 1024) (t .some) (t .todo) (λ tok q is β e fr P. rw (top-index P, P .stack .0 .1) (P .stack .0 .2)) (t .fr)
+    top-asks (λ fr. headAt w (r .depth - 1) < maxTokens) (t .some) (t .todo) (λ tok q is β e fr P. rw (top-index P, P .stack .0 .1) (P .stack .0 .2)) (t .fr)
     (t .path)
 
 flag-on : (e : Bool) → bit e ≡ 1 → e ≡ true
@@ -184,7 +188,7 @@ module _ {w w' : Words} {r : Regs} {h p inner bad : ℕ} (g : Judges w w' r h p 
         son-due r e b x (turned P (g .words) refl) (g .inside ∙ ap (innerAt w) i ∙ P .stack .0 .4) (g .flag ∙ ap (badAt w) i ∙ P .stack .0 .5) j out n z
 
   -- the rest of the node's list can be read
-  pub judge-leads : Topped w r 4 → Leads w' p
+  pub judge-leads : Topped w r judgeTodo → Leads w' p
   judge-leads t =
       top-asks (λ fr. Leads w' p) (t .some) (t .todo)
       (λ tok q is β e fr P.
@@ -200,11 +204,11 @@ module _ {w w' : Words} {r : Regs} {h p inner bad : ℕ} (g : Judges w w' r h p 
 
   module _ {c : World} {o : Bytes} where
     -- the inner tree has had an error leaf, and no success leaf
-    pub judge-bad : r .bad ≡ 1 → Up c o w r → Down c o w' (dueRegs r (r .depth) (errorDue 6 h) inner bad)
+    pub judge-bad : r .bad ≡ 1 → Up c o w r → Down c o w' (dueRegs r (r .depth) (errorDue undecidedInside h) inner bad)
     judge-bad one u =
-        top-asks (λ fr. no c fr true (r .tallies) (u .b) ≡ c .result → Down c o w' (dueRegs r (r .depth) (errorDue 6 h) inner bad)) (g .some) (g .todo)
+        top-asks (λ fr. no c fr true (r .tallies) (u .b) ≡ c .result → Down c o w' (dueRegs r (r .depth) (errorDue undecidedInside h) inner bad)) (g .some) (g .todo)
         (λ tok q is β e fr P z.
-        judged P (u .b) (error 6 tok) (refl, refl, token-is P) (u .out) (u .count) (rw (son-undecided (c .declared) (innerIn fr) tok is β q) at z))
+        judged P (u .b) (error undecidedInside tok) (refl, refl, token-is P) (u .out) (u .count) (rw (son-undecided (c .declared) (innerIn fr) tok is β q) at z))
         (u .fr) (u .path) (rw (flag-on (u .e) (sym (u .bad) ∙ one)) at (u .result))
 
     -- it has had failure leaves only
@@ -217,18 +221,18 @@ module _ {w w' : Words} {r : Regs} {h p inner bad : ℕ} (g : Judges w w' r h p 
         (u .fr) (u .path) (rw (flag-off (u .e) (λ y. none (u .bad ∙ y))) at (u .result))
 
     -- it has had a success leaf, and the node is one of `not`
-    pub judge-not : (codeAt w' h ≡ 4 → ⊥) → Yes c o w r → Down c o w' (dueRegs r (r .depth) (dueOf 17 0 0) inner bad)
+    pub judge-not : (codeAt w' h ≡ impCode → ⊥) → Yes c o w r → Down c o w' (dueRegs r (r .depth) (dueOf failureJob 0 0) inner bad)
     judge-not code u =
-        top-asks (λ fr. yes c fr (r .tallies) (u .b) ≡ c .result → Down c o w' (dueRegs r (r .depth) (dueOf 17 0 0) inner bad)) (g .some) (g .todo)
+        top-asks (λ fr. yes c fr (r .tallies) (u .b) ≡ c .result → Down c o w' (dueRegs r (r .depth) (dueOf failureJob 0 0) inner bad)) (g .some) (g .todo)
         (λ tok q is β e fr P z. go q is P z) (u .fr) (u .path) (u .result)
       where
         go : {tok : ℕ} {β : Valuation} {e : Bool} {fr : List Frame} (q : Question) (is : List Item) → Path c w (r .depth) (u .α) (asks tok q is β e ∷ fr) →
-            yes c (asks tok q is β e ∷ fr) (r .tallies) (u .b) ≡ c .result → Down c o w' (dueRegs r (r .depth) (dueOf 17 0 0) inner bad)
+            yes c (asks tok q is β e ∷ fr) (r .tallies) (u .b) ≡ c .result → Down c o w' (dueRegs r (r .depth) (dueOf failureJob 0 0) inner bad)
         go denying is P z = judged P (u .b) failure refl (u .out) (u .count) z
         go (implying G) is P z = absurd (code (code-is P ∙ P .stack .0 .3 .0))
 
     -- the same of `imp`
-    pub judge-imp : {n : ℕ} → codeAt w' h ≡ 4 → n ≡ endAt w' (h + 1) → Yes c o w r → Down c o w' (dueRegs r (r .depth) (formulaDue w' n p) inner bad)
+    pub judge-imp : {n : ℕ} → codeAt w' h ≡ impCode → n ≡ endAt w' (h + 1) → Yes c o w r → Down c o w' (dueRegs r (r .depth) (formulaDue w' n p) inner bad)
     judge-imp {n} code en u =
         top-asks (λ fr. yes c fr (r .tallies) (u .b) ≡ c .result → Down c o w' (dueRegs r (r .depth) (formulaDue w' n p) inner bad)) (g .some) (g .todo)
         (λ tok q is β e fr P z. go q is P z) (u .fr) (u .path) (u .result)
@@ -243,11 +247,11 @@ module _ {w w' : Words} {r : Regs} {h p inner bad : ℕ} (g : Judges w w' r h p 
             judged P (u .b) (the (form G ∷ is)) (code-here (c .tables) w' s (rw at (a .2)), rw at (a .2), rw at (a .3), list-is P) (u .out) (u .count) z
 
   -- its second part is one of the table
-  pub judge-far : {n : ℕ} → Topped w r 4 → codeAt w' h ≡ 4 → n ≡ endAt w' (h + 1) → n < 1024
-  judge-far {n} t code en = top-asks (λ fr. n < 1024) (t .some) (t .todo) (λ tok q is β e fr P. go q is P) (t .fr) (t .path)
+  pub judge-far : {n : ℕ} → Topped w r judgeTodo → codeAt w' h ≡ impCode → n ≡ endAt w' (h + 1) → n < maxTokens
+  judge-far {n} t code en = top-asks (λ fr. n < maxTokens) (t .some) (t .todo) (λ tok q is β e fr P. go q is P) (t .fr) (t .path)
     where
       go : {tok : ℕ} {β : Valuation} {e : Bool} {fr : List Frame} (q : Question) (is : List Item) →
-          Path (t .c) w (r .depth) (t .α) (asks tok q is β e ∷ fr) → n < 1024
+          Path (t .c) w (r .depth) (t .α) (asks tok q is β e ∷ fr) → n < maxTokens
       go denying is P = absurd (omega (arith, code, code-is P, P .stack .0 .3))
       go {tok} (implying G) is P =
           let a = P .stack .0 .3 in

@@ -6,6 +6,8 @@ use lib.Dec.{T, eqb}
 use Rattle.specification.specs.Lines.{Declared}
 use Rattle.specification.specs.Ast.{Rel, Term, Formula, truth, and, or, imp, neg, eq, compare, ex, some, all}
 use Rattle.specification.specs.WellFormed.{Scope, OkTerm}
+use Rattle.tables.specs.Layout.{maxTokens, maxLocals, maxNesting}
+use Rattle.tables.specs.Codes.{trueCode, andCode, orCode, impCode, notCode, eqCode, exCode, someCode, allCode}
 use Rattle.sheet.specs.Tables.{Words}
 use Rattle.sheet.specs.Codes.{relCode}
 use Rattle.sheet.specs.Held.{endAt, TermsAt, LocalAt, height}
@@ -22,11 +24,11 @@ module _ (D : Declared) (t : Words) where
   pub record TermsIn (i e : ℕ) (x y : Term) : Type 0 where
     pub terms : TermsAt t i e x y
     pub scope : Scope
-    pub locals : (l : ℕ) → T (scope l) → l < 32
+    pub locals : (l : ℕ) → T (scope l) → l < maxLocals
     pub left : OkTerm D scope x
     pub right : OkTerm D scope y
-    pub left-low : height x ≤ 64
-    pub right-low : height y ≤ 64
+    pub left-low : height x ≤ maxNesting
+    pub right-low : height y ≤ maxNesting
 
   module _ (h : ℕ) where
     -- `and`, `or`, `imp`: two formulas
@@ -36,15 +38,15 @@ module _ (D : Declared) (t : Words) where
       pub is : F ≡ make first second
       pub left : Stands D t (suc h) first
       pub right : Stands D t (endAt t (suc h)) second
-      pub near : suc h < 1024
-      pub far : endAt t (suc h) < 1024
+      pub near : suc h < maxTokens
+      pub far : endAt t (suc h) < maxTokens
 
     -- `not`: one
     pub record Denied (F : Formula) : Type 0 where
       pub first : Formula
       pub is : F ≡ neg h first
       pub under : Stands D t (suc h) first
-      pub near : suc h < 1024
+      pub near : suc h < maxTokens
 
     -- an atom: two terms
     pub record Atom (make : Term → Term → Formula) (F : Formula) : Type 0 where
@@ -52,7 +54,7 @@ module _ (D : Declared) (t : Words) where
       pub right : Term
       pub is : F ≡ make left right
       pub terms : TermsIn (suc h) (endAt t h) left right
-      pub near : suc h < 1024
+      pub near : suc h < maxTokens
 
     -- `ex`: a local and a formula
     pub record Hides (F : Formula) : Type 0 where
@@ -60,9 +62,9 @@ module _ (D : Declared) (t : Words) where
       pub body : Formula
       pub is : F ≡ ex l body
       pub local : LocalAt t (suc h) l
-      pub small : l < 32
+      pub small : l < maxLocals
       pub under : Stands D t (suc (suc h)) body
-      pub near : suc (suc h) < 1024
+      pub near : suc (suc h) < maxTokens
 
     -- `some`, `all`: a local, two bounds and a formula
     pub record Ranges (make : ℕ → Term → Term → Formula → Formula) (F : Formula) : Type 0 where
@@ -78,16 +80,16 @@ module _ (D : Declared) (t : Words) where
     abbrev pub Compared : ℕ → Formula → Type 0
     Compared n F = (r : Rel) × (n ≡ relCode r) × Atom (compare h r) F
 
-    -- what the code n says of the formula at token h; 7 to 11 are the atoms that compare, and no formula has a code outside 1 to 14
+    -- what the code n says of the formula at token h; the other codes of formulas are those of the atoms that compare
     abbrev pub Says : ℕ → Formula → Type 0
     Says n F =
-        Either (eqb n 1) (F ≡ truth)
-        (Either (eqb n 2) (Both and F)
-        (Either (eqb n 3) (Both or F)
-        (Either (eqb n 4) (Both (imp h) F)
-        (Either (eqb n 5) (Denied F)
-        (Either (eqb n 6) (Atom (eq h) F)
-        (Either (eqb n 12) (Hides F)
-        (Either (eqb n 13) (Ranges (some h) F)
-        (Either (eqb n 14) (Ranges (all h) F)
+        Either (eqb n trueCode) (F ≡ truth)
+        (Either (eqb n andCode) (Both and F)
+        (Either (eqb n orCode) (Both or F)
+        (Either (eqb n impCode) (Both (imp h) F)
+        (Either (eqb n notCode) (Denied F)
+        (Either (eqb n eqCode) (Atom (eq h) F)
+        (Either (eqb n exCode) (Hides F)
+        (Either (eqb n someCode) (Ranges (some h) F)
+        (Either (eqb n allCode) (Ranges (all h) F)
         (Compared n F)))))))))

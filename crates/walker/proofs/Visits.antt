@@ -15,13 +15,14 @@ use Rattle.walker.specs.Sim.{Down, In, Over, over}
 use Rattle.walker.specs.Steps.{Visited, Stepped}
 use Rattle.walker.specs.Registers.{stopRegs, leafRegs, counted}
 use Rattle.walker.specs.Loop.{VisitDue, Arrived}
+use Rattle.walker.specs.States.{downMode, nodeTally, spentEnd, pathEnd, maxWord}
 
 -- the registers of a visit that is counted
 abbrev countedRegs : Regs → Regs
-countedRegs r = leafRegs r 1 (r .bad) (addNode (r .tallies)) (r .written)
+countedRegs r = leafRegs r downMode (r .bad) (addNode (r .tallies)) (r .written)
 
 module _ {c : World} {o : Bytes} {w : Words} {r : Regs} (d : Down c o w r) where
-  no-budget : r .tallies .nodes ≡ c .setting .budget → Over c o (stopRegs r 1)
+  no-budget : r .tallies .nodes ≡ c .setting .budget → Over c o (stopRegs r spentEnd)
   unfolding gated
   no-budget h = record {
     b = d .b;
@@ -30,7 +31,7 @@ module _ {c : World} {o : Bytes} {w : Words} {r : Regs} (d : Down c o w r) where
   }
 
   module _ (n : r .tallies .nodes ≡ c .setting .budget → ⊥) where
-    no-path : c .setting .path ≤ r .depth → Over c o (stopRegs r 2)
+    no-path : c .setting .path ≤ r .depth → Over c o (stopRegs r pathEnd)
     unfolding gated
     no-path h = record {
       b = d .b;
@@ -60,10 +61,10 @@ module _ {c : World} {o : Bytes} {w : Words} {r : Regs} (d : Down c o w r) where
 -- ---- the steps
 
 module _ {w : Words} {r q : Regs} {path budget : ℕ} where
-  pub stops-spent : q ≡ stopRegs r 1 → r .mode ≡ 1 → r .tallies .nodes ≡ budget → Arrived w w r q path budget
+  pub stops-spent : q ≡ stopRegs r spentEnd → r .mode ≡ downMode → r .tallies .nodes ≡ budget → Arrived w w r q path budget
   stops-spent e m h = rw e (record { sim = λ c o p b d. over refl (no-budget d (h ∙ sym b)); falls = omega arith })
 
-  pub stops-path : q ≡ stopRegs r 2 → r .mode ≡ 1 → (r .tallies .nodes ≡ budget → ⊥) → path ≤ r .depth → Arrived w w r q path budget
+  pub stops-path : q ≡ stopRegs r pathEnd → r .mode ≡ downMode → (r .tallies .nodes ≡ budget → ⊥) → path ≤ r .depth → Arrived w w r q path budget
   stops-path e m n h = rw e (record {
     sim = λ c o p b d. over refl (no-path d (λ z. n (z ∙ b)) (omega (arith, p)));
     falls = omega arith;
@@ -71,7 +72,7 @@ module _ {w : Words} {r q : Regs} {path budget : ℕ} where
 
 -- one more node has room
 pub visit-room : {w : Words} {r : Regs} {path budget : ℕ} → VisitDue w r path budget → (r .tallies .nodes ≡ budget → ⊥) →
-    (let t = r .tallies in (_≡_ {A = ℕ} 0 0 → t .nodes < 4294967295) × (t .answers < 4294967295) × (t .errors < 4294967295) × (t .fails < 4294967295))
+    (let t = r .tallies in (_≡_ {A = ℕ} 0 0 → t .nodes < maxWord) × (t .answers < maxWord) × (t .errors < maxWord) × (t .fails < maxWord))
 visit-room a n =
     let k = a .ins .count in
     let h : a .c .setting .budget < 4294967296 = k .fits in (
@@ -82,8 +83,8 @@ visit-room a n =
     )
 
 -- a visit that is counted, and what follows it
-module _ {w : Words} {r q : Regs} {t : Tallies} {path budget : ℕ} (a : VisitDue w r path budget) (u : t ≡ counted (r .tallies) 0)
-    (e : q ≡ leafRegs r 1 (r .bad) t (r .written)) (n : r .tallies .nodes ≡ budget → ⊥) (h : r .depth < path) where
+module _ {w : Words} {r q : Regs} {t : Tallies} {path budget : ℕ} (a : VisitDue w r path budget) (u : t ≡ counted (r .tallies) nodeTally)
+    (e : q ≡ leafRegs r downMode (r .bad) t (r .written)) (n : r .tallies .nodes ≡ budget → ⊥) (h : r .depth < path) where
   is-counted : q ≡ countedRegs r
   unfolding counted
   is-counted = rw (e, u) refl

@@ -1,4 +1,5 @@
 -- What the contracts of the walk cite: the walk with continuations, and how the work words hold it.
+pub mod States
 pub mod Walk
 pub mod Frame
 pub mod Stands

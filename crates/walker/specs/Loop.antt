@@ -19,6 +19,7 @@ use Rattle.walker.specs.Path as paths
 use Rattle.walker.specs.Path.{World, Changed}
 use Rattle.walker.specs.Sim.{yes, no, Down, In, Up, Yes, Leaf, Sim}
 use Rattle.walker.specs.Steps.{Visited}
+use Rattle.walker.specs.States.{overMode, downMode, upMode, wonMode, blockMode, successJob}
 
 -- ---- going up
 
@@ -33,7 +34,7 @@ pub record Topped (w : Words) (r : Regs) (u : ℕ) : Type 0 where
 
 -- a son is finished, or an inner tree has succeeded
 abbrev pub Ups : ℕ → Type 0
-Ups mode = (mode ≡ 2) ⊎ (mode ≡ 3)
+Ups mode = (mode ≡ upMode) ⊎ (mode ≡ wonMode)
 
 abbrev pub IsUp : ℕ → Bool → Type 0
 IsUp mode true = Ups mode
@@ -49,8 +50,8 @@ pub record Rising (w : Words) (r : Regs) : Type 0 where
 
 -- a step up
 pub record Rose (w w' : Words) (r r' : Regs) : Type 0 where
-  pub ups : (c : World) (o : Bytes) → r .mode ≡ 2 → Up c o w r → Sim c o w' r'
-  pub yes : (c : World) (o : Bytes) → r .mode ≡ 3 → Yes c o w r → Sim c o w' r'
+  pub ups : (c : World) (o : Bytes) → r .mode ≡ upMode → Up c o w r → Sim c o w' r'
+  pub yes : (c : World) (o : Bytes) → r .mode ≡ wonMode → Yes c o w r → Sim c o w' r'
   pub nodes : r' .tallies .nodes ≡ r .tallies .nodes
   pub falls : 2 * r' .depth + r' .mode < 2 * r .depth + r .mode
 
@@ -60,7 +61,7 @@ pub record Exhausted (c : World) (r : Regs) (fr : List Frame) : Type 0 where
   pub under : List Frame
   pub parts : fr ≡ top ∷ under
   pub same-inner : innerIn fr ≡ innerIn under
-  pub same-no : r .mode ≡ 2 → no c fr ≡ no c under
+  pub same-no : r .mode ≡ upMode → no c fr ≡ no c under
   pub same-yes : yes c fr ≡ yes c under
 
 -- it changed no slot
@@ -85,12 +86,12 @@ pub record Restores (w : Words) (r : Regs) : Type 0 where
 pub record AtLeaf (r : Regs) : Type 0 where
   pub w : Words
   pub at : Visited w r
-  pub leaf : 16 ≤ r .due .job
+  pub leaf : successJob ≤ r .due .job
 
 pub record LeafDone (r r' : Regs) : Type 0 where
   pub sim : (c : World) (o : Bytes) (w : Words) → In c o w r → Sim c o w r'
   pub nodes : r' .tallies .nodes ≡ r .tallies .nodes
-  pub falls : 2 * r' .depth + r' .mode ≤ 2 * r .depth + 4
+  pub falls : 2 * r' .depth + r' .mode ≤ 2 * r .depth + blockMode
 
 -- the world of these settings and of so many scalars and arrays
 pub record Fixed (c : World) (S : Setting) (scalars arrays : ℕ) : Type 0 where
@@ -107,7 +108,7 @@ pub record BlockDue (w : Words) (o : Bytes) (r : Regs) (S : Setting) (scalars ar
 pub record Blocked (w : Words) (o o' : Bytes) (r r' : Regs) (S : Setting) (scalars arrays : ℕ) : Type 0 where
   pub sim : (c : World) → Fixed c S scalars arrays → Leaf c o w r → Sim c o' w r'
   pub nodes : r' .tallies .nodes ≡ r .tallies .nodes
-  pub falls : 2 * r' .depth + r' .mode ≤ 2 * r .depth + 2
+  pub falls : 2 * r' .depth + r' .mode ≤ 2 * r .depth + upMode
   pub size : length o' ≡ length o
 
 -- ---- a step
@@ -122,7 +123,7 @@ pub record VisitDue (w : Words) (r : Regs) (path budget : ℕ) : Type 0 where
   pub o : Bytes
   pub path-is : c .setting .path ≡ path
   pub budget-is : c .setting .budget ≡ budget
-  pub mode : r .mode ≡ 1
+  pub mode : r .mode ≡ downMode
   pub ins : Down c o w r
 
 pub record Arrived (w w' : Words) (r r' : Regs) (path budget : ℕ) : Type 0 where
@@ -143,7 +144,7 @@ pub record Goes (w : Words) (r : Regs) (path budget : ℕ) : Type 0 where
 pub record Went (w w' : Words) (r r' : Regs) (path budget : ℕ) : Type 0 where
   pub sim : (c : World) (o : Bytes) → c .setting .path ≡ path → c .setting .budget ≡ budget → Sim c o w r → Sim c o w' r'
   pub falls : (r' ≡ r) ⊎ (measure budget r' < measure budget r)
-  pub stops : r' .mode ≡ 1 → ⊥
+  pub stops : r' .mode ≡ downMode → ⊥
 
 pub record Climbs (w : Words) (r : Regs) : Type 0 where
   pub c : World
@@ -169,13 +170,13 @@ pub record Runs (w : Words) (o : Bytes) (r : Regs) (S : Setting) (scalars arrays
 pub record Settled (w : Words) (o o' : Bytes) (r r' : Regs) (S : Setting) (scalars arrays : ℕ) : Type 0 where
   pub sim : (c : World) → Fixed c S scalars arrays → Sim c o w r → Sim c o' w r'
   pub nodes : r' .tallies .nodes ≡ r .tallies .nodes
-  pub falls : ((r' ≡ r) × (r .mode ≡ 4 → ⊥)) ⊎ (2 * r' .depth + r' .mode < 2 * r .depth + r .mode)
+  pub falls : ((r' ≡ r) × (r .mode ≡ blockMode → ⊥)) ⊎ (2 * r' .depth + r' .mode < 2 * r .depth + r .mode)
   pub size : length o' ≡ length o
 
 -- the walk is not over
 pub record Live (w : Words) (o : Bytes) (r : Regs) (S : Setting) (scalars arrays : ℕ) : Type 0 where
   pub runs : Runs w o r S scalars arrays
-  pub on : r .mode ≡ 0 → ⊥
+  pub on : r .mode ≡ overMode → ⊥
 
 pub record Moved (w w' : Words) (o o' : Bytes) (r r' : Regs) (S : Setting) (scalars arrays : ℕ) : Type 0 where
   pub sim : (c : World) → Fixed c S scalars arrays → Sim c o w r → Sim c o' w' r'

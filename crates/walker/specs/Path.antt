@@ -16,14 +16,16 @@ use Rattle.specification.specs.Value.{Slot, empty, full, Valuation}
 use Rattle.specification.specs.WellFormed.{Valid}
 use Rattle.specification.specs.Run.{Run}
 use Rattle.values.specs.Word.{biased, signed}
-use Rattle.tables.specs.Layout.{nodeSlot}
+use Rattle.tables.specs.Layout.{nodeSlot, maxTokens, maxLocals, maxCells, maxArrays, maxPath}
 use Rattle.tables.specs.Kept.{SameTokens}
 use Rattle.tables.specs.Node.{headAt, restAt, todoAt, slotAt, hadAt, oldAt, currentAt, lastAt, innerAt, badAt}
+use Rattle.tables.specs.Codes.{andCode, impCode, notCode, allCode}
 use Rattle.sheet.specs.Tables.{Words}
 use Rattle.sheet.specs.Held.{codeAt, endAt, slotOf, Holds, ArraysAt}
 use Rattle.walker.specs.declared.Due.{Due}
 use Rattle.walker.specs.Stands.{Stands, Binds, LeftAfter}
 use Rattle.walker.specs.Frame.{Item, form, again, What, the, success, failure, error, Question, denying, implying, Frame, pass, other, undo, range, asks, here, below, len, innerIn}
+use Rattle.walker.specs.States.{emptyJob, againJob, successJob, failureJob, errorJob, noTodo, otherTodo, undoTodo, nextTodo, judgeTodo}
 
 -- ---- what a run is about: the tables and the output at entry, the sheet's declarations, the setting, and the run's result
 
@@ -43,38 +45,37 @@ Pend c w n p (form G ∷ is) =
     (k : ℕ)
     × (p ≡ suc k)
     × (k < n)
-    × (suc (headAt w k) < 1024)
-    × (codeAt (c .tables) (headAt w k) ≡ 2)
-    × (endAt (c .tables) (suc (headAt w k)) < 1024)
+    × (suc (headAt w k) < maxTokens)
+    × (codeAt (c .tables) (headAt w k) ≡ andCode)
+    × (endAt (c .tables) (suc (headAt w k)) < maxTokens)
     × Stands (c .declared) (c .tables) (endAt (c .tables) (suc (headAt w k))) G
     × Pend c w k (restAt w k) is
 Pend c w n p (again l F m v ∷ is) =
     (k : ℕ)
     × (p ≡ suc k)
     × (k < n)
-    × (codeAt (c .tables) (headAt w k) ≡ 14)
+    × (codeAt (c .tables) (headAt w k) ≡ allCode)
     × Binds (c .declared) (c .tables) (headAt w k) l F
     × LeftAfter (currentAt w k) (lastAt w k) m v
     × Pend c w k (restAt w k) is
 
--- the words of what is due: job 0 the empty list, the code of a formula, 15 an `all` that goes on, 16 a success leaf, 17 a failure leaf, 18 an
--- error leaf
+-- the words of what is due, by the job
 abbrev pub Job : World → Words → ℕ → Due → What → Type 0
-Job c w n d (the []) = d .job ≡ 0
+Job c w n d (the []) = d .job ≡ emptyJob
 Job c w n d (the (form F ∷ is)) =
-    (d .job ≡ codeAt (c .tables) (d .head)) × (d .head < 1024) × Stands (c .declared) (c .tables) (d .head) F × Pend c w n (d .rest) is
+    (d .job ≡ codeAt (c .tables) (d .head)) × (d .head < maxTokens) × Stands (c .declared) (c .tables) (d .head) F × Pend c w n (d .rest) is
 Job c w n d (the (again l F m v ∷ is)) =
-    (d .job ≡ 15)
+    (d .job ≡ againJob)
     × (k : ℕ)
     × (d .head ≡ suc k)
     × (k < n)
-    × (codeAt (c .tables) (headAt w k) ≡ 14)
+    × (codeAt (c .tables) (headAt w k) ≡ allCode)
     × Binds (c .declared) (c .tables) (headAt w k) l F
     × LeftAfter (currentAt w k) (lastAt w k) m v
     × Pend c w n (d .rest) is
-Job c w n d success = d .job ≡ 16
-Job c w n d failure = d .job ≡ 17
-Job c w n d (error κ tok) = (d .job ≡ 18) × (d .rest ≡ κ) × (d .head ≡ tok)
+Job c w n d success = d .job ≡ successJob
+Job c w n d failure = d .job ≡ failureJob
+Job c w n d (error κ tok) = (d .job ≡ errorJob) × (d .rest ≡ κ) × (d .head ≡ tok)
 
 -- ---- frames
 
@@ -89,8 +90,8 @@ Saved had old (full z) = (had ≡ 1) × (old ≡ biased z)
 
 -- a place that has a slot in the tables
 abbrev pub InTable : Place → Type 0
-InTable (cell c) = c < 512
-InTable (local l) = l < 32
+InTable (cell c) = c < maxCells
+InTable (local l) = l < maxLocals
 
 -- node i changed p, and keeps what α had there
 pub record Changed (w : Words) (i : ℕ) (p : Place) (α : Valuation) : Type 0 where
@@ -100,34 +101,34 @@ pub record Changed (w : Words) (i : ℕ) (p : Place) (α : Valuation) : Type 0 w
 
 -- the question of the node whose token is h
 abbrev pub Asks : World → ℕ → Question → Type 0
-Asks c h denying = codeAt (c .tables) h ≡ 5
+Asks c h denying = codeAt (c .tables) h ≡ notCode
 Asks c h (implying G) =
-    (codeAt (c .tables) h ≡ 4)
-    × (suc h < 1024)
-    × (endAt (c .tables) (suc h) < 1024)
+    (codeAt (c .tables) h ≡ impCode)
+    × (suc h < maxTokens)
+    × (endAt (c .tables) (suc h) < maxTokens)
     × Stands (c .declared) (c .tables) (endAt (c .tables) (suc h)) G
 
 -- node i; m says whether it stands in an inner tree
 abbrev pub FrameAt : World → Words → ℕ → Bool → Frame → Type 0
-FrameAt c w i m (pass α) = todoAt w i ≡ 0
+FrameAt c w i m (pass α) = todoAt w i ≡ noTodo
 FrameAt c w i m (other G is α) =
-    (todoAt w i ≡ 1)
-    × (suc (headAt w i) < 1024)
-    × (endAt (c .tables) (suc (headAt w i)) < 1024)
+    (todoAt w i ≡ otherTodo)
+    × (suc (headAt w i) < maxTokens)
+    × (endAt (c .tables) (suc (headAt w i)) < maxTokens)
     × Stands (c .declared) (c .tables) (endAt (c .tables) (suc (headAt w i))) G
     × Pend c w i (restAt w i) is
-FrameAt c w i m (undo p s α) = (todoAt w i ≡ 2) × Changed w i p α
+FrameAt c w i m (undo p s α) = (todoAt w i ≡ undoTodo) × Changed w i p α
 FrameAt c w i m (range l x j n F is α) =
-    (todoAt w i ≡ 3)
+    (todoAt w i ≡ nextTodo)
     × Changed w i (local l) α
     × Binds (c .declared) (c .tables) (headAt w i) l F
     × LeftAfter (currentAt w i) (lastAt w i) n (x +ℤ pos (suc j))
     × (signed (currentAt w i) ≡ x +ℤ pos j)
     × Pend c w i (restAt w i) is
 FrameAt c w i m (asks tok q is α e) =
-    (todoAt w i ≡ 4)
+    (todoAt w i ≡ judgeTodo)
     × (headAt w i ≡ tok)
-    × (tok < 1024)
+    × (tok < maxTokens)
     × Asks c tok q
     × (innerAt w i ≡ bit m)
     × (badAt w i ≡ bit e)
@@ -147,11 +148,11 @@ Chain D α (f ∷ fr) = (α ≡ below f) × Valid D (here f) × Chain D (here f)
 -- d nodes, at most as many as the path limit
 pub record Path (c : World) (w : Words) (d : ℕ) (α : Valuation) (fr : List Frame) : Type 0 where
   pub size : nodeSlot (c .setting .path) ≤ length w
-  pub limit : c .setting .path ≤ 32768
+  pub limit : c .setting .path ≤ maxPath
   pub tokens : SameTokens (c .tables) w
   pub arrays : ArraysAt w (c .declared)
-  pub cells : cells (c .declared) ≤ 512
-  pub few : length (c .declared .arrays) ≤ 16
+  pub cells : cells (c .declared) ≤ maxCells
+  pub few : length (c .declared .arrays) ≤ maxArrays
   pub deep : d ≡ len fr
   pub inside : d ≤ c .setting .path
   pub stack : Stack c w fr

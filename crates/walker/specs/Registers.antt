@@ -8,6 +8,7 @@ use Rattle.sheet.specs.Tables.{Words}
 use Rattle.sheet.specs.Held.{codeAt}
 use Rattle.walker.specs.declared.Due.{Due}
 use Rattle.walker.specs.declared.Regs.{Regs}
+use Rattle.walker.specs.States.{errorJob, nodeTally, answerTally, errorTally, overMode, downMode}
 
 -- ---- what is due
 
@@ -19,14 +20,14 @@ abbrev pub formulaDue : Words → ℕ → ℕ → Due
 formulaDue w i rest = dueOf (codeAt w i) i rest
 
 abbrev pub errorDue : ℕ → ℕ → Due
-errorDue kind head = dueOf 18 head kind
+errorDue kind head = dueOf errorJob head kind
 
 -- ---- registers
 
 -- a visit is due
 abbrev pub dueRegs : Regs → ℕ → Due → ℕ → ℕ → Regs
 dueRegs r depth d inner bad =
-    record { mode = 1; depth = depth; due = d; inner = inner; bad = bad; end = r .end; tallies = r .tallies; written = r .written }
+    record { mode = downMode; depth = depth; due = d; inner = inner; bad = bad; end = r .end; tallies = r .tallies; written = r .written }
 
 -- the topmost node is left
 abbrev pub popRegs : Regs → Regs
@@ -40,8 +41,8 @@ leafRegs r mode bad t written =
 
 abbrev pub stopRegs : Regs → ℕ → Regs
 stopRegs r end =
-    record { mode = 0; depth = r .depth; due = r .due; inner = r .inner; bad = r .bad; end = end; tallies = r .tallies; written = r .written }
+    record { mode = overMode; depth = r .depth; due = r .due; inner = r .inner; bad = r .bad; end = end; tallies = r .tallies; written = r .written }
 
--- one more of a kind: 0 a node, 1 an answer, 2 an error, 3 a failure
+-- one more of a kind
 unfoldable pub counted : Tallies → ℕ → Tallies
-counted t leaf = pick (eqb leaf 0) (addNode t) (pick (eqb leaf 1) (addAnswer t) (pick (eqb leaf 2) (addError t) (addFail t)))
+counted t leaf = pick (eqb leaf nodeTally) (addNode t) (pick (eqb leaf answerTally) (addAnswer t) (pick (eqb leaf errorTally) (addError t) (addFail t)))

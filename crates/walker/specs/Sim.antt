@@ -17,6 +17,7 @@ use Rattle.walker.specs.declared.Regs.{Regs}
 use Rattle.walker.specs.Walk as walks
 use Rattle.walker.specs.Frame.{What, the, treeWhat, Frame, innerIn, resumeYes, resume}
 use Rattle.walker.specs.Path.{World, Job, bit, Path, Output, Count}
+use Rattle.walker.specs.States.{overMode, downMode, upMode, wonMode, blockMode, successJob, errorJob}
 
 -- ---- the states of a walk
 
@@ -91,8 +92,8 @@ pub record Yes (c : World) (o : Bytes) (w : Words) (r : Regs) : Type 0 where
 
 -- a leaf with a block
 abbrev pub BlockOf : Due → Valuation → TreeLeaf → Type 0
-BlockOf d α (answer β) = (d .job ≡ 16) × (β ≡ α)
-BlockOf d α (error κ tok β) = (d .job ≡ 18) × (d .rest ≡ κ) × (d .head ≡ tok) × (β ≡ α)
+BlockOf d α (answer β) = (d .job ≡ successJob) × (β ≡ α)
+BlockOf d α (error κ tok β) = (d .job ≡ errorJob) × (d .rest ≡ κ) × (d .head ≡ tok) × (β ≡ α)
 BlockOf d α fail = ⊥
 
 -- a leaf of the main tree is visited, and its block is due
@@ -119,8 +120,8 @@ pub record Over (c : World) (o : Bytes) (r : Regs) : Type 0 where
   pub result : ran (endFrom (r .end)) (r .tallies) b ≡ resultOf (c .result)
 
 pub data Sim (c : World) (o : Bytes) (w : Words) (r : Regs) : Type 0 where
-  over : r .mode ≡ 0 → Over c o r → Sim c o w r
-  down : r .mode ≡ 1 → Down c o w r → Sim c o w r
-  up : r .mode ≡ 2 → Up c o w r → Sim c o w r
-  won : r .mode ≡ 3 → Yes c o w r → Sim c o w r
-  block : r .mode ≡ 4 → Leaf c o w r → Sim c o w r
+  over : r .mode ≡ overMode → Over c o r → Sim c o w r
+  down : r .mode ≡ downMode → Down c o w r → Sim c o w r
+  up : r .mode ≡ upMode → Up c o w r → Sim c o w r
+  won : r .mode ≡ wonMode → Yes c o w r → Sim c o w r
+  block : r .mode ≡ blockMode → Leaf c o w r → Sim c o w r

@@ -7,12 +7,13 @@ use Rattle.specification.specs.Lines.{Declared}
 use Rattle.specification.specs.Ast.{Formula}
 use Rattle.specification.specs.WellFormed.{Scope, Ok}
 use Rattle.values.specs.Word.{signed}
+use Rattle.tables.specs.Layout.{maxTokens, maxLocals}
 use Rattle.sheet.specs.Tables.{Words}
 use Rattle.sheet.specs.Held.{endAt, LocalAt, FormulaAt, Shallow}
 
 pub record Good (D : Declared) (F : Formula) : Type 0 where
   pub scope : Scope
-  pub locals : (l : ℕ) → T (scope l) → l < 32
+  pub locals : (l : ℕ) → T (scope l) → l < maxLocals
   pub ok : Ok D scope F
   pub shallow : Shallow F
 
@@ -27,11 +28,11 @@ bodyOf t h = endAt t (endAt t (suc (suc h)))
 
 -- token h is a quantifier over the local l, of F
 pub record Binds (D : Declared) (t : Words) (h l : ℕ) (F : Formula) : Type 0 where
-  pub near : suc (suc h) < 1024
-  pub middle : endAt t (suc (suc h)) < 1024
+  pub near : suc (suc h) < maxTokens
+  pub middle : endAt t (suc (suc h)) < maxTokens
   pub local : LocalAt t (suc h) l
-  pub small : l < 32
-  pub inside : bodyOf t h < 1024
+  pub small : l < maxLocals
+  pub inside : bodyOf t h < maxTokens
   pub body : Stands D t (bodyOf t h) F
 
 -- n values are left after the word `current`, up to the word `last`, and v is the lowest

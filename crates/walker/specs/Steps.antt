@@ -11,22 +11,25 @@ use lib.IntN.{ℤ, pos, _+ℤ_}
 use Rattle.specification.specs.Bytes.{Bytes}
 use Rattle.specification.specs.Number.{in32}
 use Rattle.specification.specs.Ast.{Rel, Formula}
-use Rattle.specification.specs.Arithmetic.{test}
+use Rattle.specification.specs.Arithmetic.{test, noValue}
 use Rattle.specification.specs.Place.{Place, local, put}
 use Rattle.specification.specs.Value.{empty, full, allowed}
 use Rattle.specification.specs.Tree.{step, fan, check, assign}
 use Rattle.values.specs.Word.{biased, signed}
 use Rattle.tables.specs.Layout.{cellSlot, nodeSlot, localsAt, firstsAt}
 use Rattle.tables.specs.Kept.{SameTokens}
+use Rattle.tables.specs.Codes.{someCode, allCode, firstFormula, lastFormula}
 use Rattle.sheet.specs.Tables.{Words}
 use Rattle.sheet.specs.Held.{codeAt, slotOf}
 use Rattle.sheet.specs.Codes.{relCode}
+use Rattle.terms.specs.Results.{bareTag}
 use Rattle.walker.specs.declared.Due.{Due}
 use Rattle.walker.specs.declared.Regs.{Regs}
 use Rattle.walker.specs.Frame.{Item, form, again, What, the, treeItems, innerIn}
 use Rattle.walker.specs.Path.{World, Pend, Job, InTable}
 use Rattle.walker.specs.Stands.{Binds, LeftAfter}
 use Rattle.walker.specs.Sim.{tree, In, Sim}
+use Rattle.walker.specs.States.{successJob, blockMode}
 
 -- ---- lists
 
@@ -55,13 +58,13 @@ pub record Visited (w : Words) (r : Regs) : Type 0 where
 pub record Entered (w : Words) (r : Regs) (n : ℕ) : Type 0 where
   pub at : Visited w r
   pub code : r .due .job ≡ n
-  pub formula : (1 ≤ n) × (n ≤ 14)
+  pub formula : (firstFormula ≤ n) × (n ≤ lastFormula)
 
 -- what a function makes of it
 pub record Stepped (w w' : Words) (r r' : Regs) : Type 0 where
   pub sim : (c : World) (o : Bytes) → In c o w r → Sim c o w' r'
   pub nodes : r' .tallies .nodes ≡ r .tallies .nodes
-  pub falls : 2 * r' .depth + r' .mode ≤ 2 * r .depth + 4
+  pub falls : 2 * r' .depth + r' .mode ≤ 2 * r .depth + blockMode
 
 -- the node's one son is the tree of the rest of its list
 pub record GoesOn (w : Words) (r : Regs) : Type 0 where
@@ -75,7 +78,7 @@ pub record OneLeaf (w : Words) (r : Regs) (d : Due) : Type 0 where
   pub at : Visited w r
   pub son :
       (c : World) (o : Bytes) (i : In c o w r) →
-      (x : What) × (tree c (i .fr) (i .x) (i .α) ≡ step (tree c (i .fr) x (i .α))) × Job c w (suc (r .depth)) d x × (16 ≤ d .job)
+      (x : What) × (tree c (i .fr) (i .x) (i .α) ≡ step (tree c (i .fr) x (i .α))) × Job c w (suc (r .depth)) d x × (successJob ≤ d .job)
 
 -- the node's one son is what an `eq` makes of the value and the bare place whose slot begins with the word `slot`
 pub record Assigns (w : Words) (r : Regs) (slot value : ℕ) : Type 0 where
@@ -121,7 +124,7 @@ pub record Tested (w : Words) (r : Regs) (holds : Bool) : Type 0 where
 
 -- a `some` from the word `low` up to the word `high`
 pub record Opens (w : Words) (r : Regs) (low high : ℕ) : Type 0 where
-  pub at : Entered w r 13
+  pub at : Entered w r someCode
   pub sons :
       (c : World) (o : Bytes) (i : In c o w r) →
       (l : ℕ) × (F : Formula) × (n : ℕ) × (x : ℤ) × (is : List Item)
@@ -134,7 +137,7 @@ pub record Opens (w : Words) (r : Regs) (low high : ℕ) : Type 0 where
 -- an `all` at token h that takes the word `value`, and the values up to the word `last` later
 pub record Rounds (w : Words) (r : Regs) (h value last : ℕ) : Type 0 where
   pub at : Visited w r
-  pub code : codeAt w h ≡ 14
+  pub code : codeAt w h ≡ allCode
   pub son :
       (c : World) (o : Bytes) (i : In c o w r) →
       (l : ℕ) × (F : Formula) × (n : ℕ) × (v : ℤ) × (is : List Item)
@@ -146,7 +149,7 @@ pub record Rounds (w : Words) (r : Regs) (h value last : ℕ) : Type 0 where
 
 -- the kind of the error of a side without a value
 abbrev pub KindOf : ℕ → ℕ → ℕ → Type 0
-KindOf tag value k = (tag ≡ 1 → k ≡ 1) × ((tag ≡ 1 → ⊥) → k ≡ value)
+KindOf tag value k = (tag ≡ bareTag → k ≡ noValue) × ((tag ≡ bareTag → ⊥) → k ≡ value)
 
 -- a comparison of two values by their words
 abbrev pub Compares : ℕ → ℕ → ℕ → Bool → Type 0

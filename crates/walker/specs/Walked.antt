@@ -11,12 +11,13 @@ use Rattle.specification.specs.WellFormed.{WellFormed}
 use Rattle.specification.specs.Run.{tallies}
 use Rattle.specification.specs.Outcome.{ran, resultOf, start, runOf, outcome, outputAfter}
 use Rattle.specification.specs.Report.{endFrom}
-use Rattle.tables.specs.Layout.{nodeSlot}
+use Rattle.tables.specs.Layout.{nodeSlot, maxPath}
 use Rattle.sheet.specs.Tables.{Words}
 use Rattle.sheet.specs.Held.{Holds, ArraysAt}
 use Rattle.walker.specs.declared.Regs.{Regs}
 use Rattle.walker.specs.Stands.{Stands}
 use Rattle.walker.specs.Registers.{formulaDue}
+use Rattle.walker.specs.States.{downMode, doneEnd}
 
 -- the work words hold the sheet's tables, with room for the path
 pub record Ready (w : Words) (S : Setting) (scalars arrays : ℕ) (s : Sheet) : Type 0 where
@@ -26,7 +27,7 @@ pub record Ready (w : Words) (S : Setting) (scalars arrays : ℕ) (s : Sheet) : 
   pub firsts : ArraysAt w (s .declared)
   pub scalar-count : scalars ≡ s .declared .scalars
   pub array-count : arrays ≡ length (s .declared .arrays)
-  pub limit : S .path ≤ 32768
+  pub limit : S .path ≤ maxPath
   pub size : nodeSlot (S .path) ≤ length w
 
 pub record Readied (w : Words) (S : Setting) (scalars arrays : ℕ) : Type 0 where
@@ -36,12 +37,12 @@ pub record Readied (w : Words) (S : Setting) (scalars arrays : ℕ) : Type 0 whe
 -- before the first visit
 abbrev pub startRegs : Words → Regs
 startRegs w = record {
-  mode = 1;
+  mode = downMode;
   depth = 0;
   due = formulaDue w 0 0;
   inner = 0;
   bad = 0;
-  end = 0;
+  end = doneEnd;
   tallies = tallies 0 0 0 0;
   written = 0;
 }

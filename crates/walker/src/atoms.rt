@@ -1,18 +1,25 @@
 // Entering a node whose first formula is an atom.
 ghost use Prim.Native.Nat.{_≤_, _<_};
 ghost use lib.ListN.{length, getD};
-ghost use Rattle.tables.specs.Layout.{firstsAt};
+ghost use Rattle.tables.specs.Layout.{maxCells, firstsAt};
+ghost use Rattle.tables.specs.Codes.{eqCode, neCode, geCode};
 ghost use Rattle.walker.specs.Steps.{Entered, Stepped, Assignable, Assigns, Sets, Tested, KindOf, Compares};
 use crate::Regs;
 use crate::changes;
 use crate::dues;
 use crate::registers;
 use crate::sons;
+use crate::todos;
+use tables::codes;
 use tables::nodes::Node;
+use terms::kinds;
+use terms::tags;
 
 const CELLS: u32 = tables::CELLS as u32;
 
 const LOCALS: u32 = tables::LOCALS as u32;
+
+const SLOT_WORDS: u32 = tables::SLOT_WORDS as u32;
 
 // The value goes into the empty slot, then the rest.
 fn set(w: &mut [u32], r: Regs, slot: u32, value: u32) -> Regs
@@ -23,7 +30,7 @@ fn set(w: &mut [u32], r: Regs, slot: u32, value: u32) -> Regs
     let n = Node {
         head: r.due.head,
         rest: r.due.rest,
-        todo: 2,
+        todo: todos::UNDO,
         slot,
         had: 0,
         old,
@@ -39,14 +46,14 @@ fn set(w: &mut [u32], r: Regs, slot: u32, value: u32) -> Regs
 
 // Whether the slot may be assigned: in an inner tree no array element is.
 fn assignable(w: &[u32], inner: u32, slot: u32) -> bool
-    requires { ⌜ (firstsAt < length (now w)) × (getD (now w) firstsAt 0 ≤ 512) ⌝ }
+    requires { ⌜ (firstsAt < length (now w)) × (getD (now w) firstsAt 0 ≤ maxCells) ⌝ }
     ensures { λ b. ⌜ Assignable (now (w .entry)) inner slot b ⌝ }
 {
     if inner == 0 {
         return true;
     }
     // the first element's slot: array 0 begins after the scalars
-    if slot < CELLS + 2 * tables::first_cell(w, 0) {
+    if slot < CELLS + SLOT_WORDS * tables::first_cell(w, 0) {
         return true;
     }
     LOCALS <= slot
@@ -60,7 +67,7 @@ fn assign(w: &mut [u32], r: Regs, slot: u32, value: u32) -> Regs
     if assignable(w, r.inner, slot) {
         return set(w, r, slot, value);
     }
-    sons::err(w, r, 1)
+    sons::err(w, r, kinds::NO_VALUE)
 }
 
 fn check(w: &mut [u32], r: Regs, holds: bool) -> Regs
@@ -73,27 +80,27 @@ fn check(w: &mut [u32], r: Regs, holds: bool) -> Regs
     sons::fail(w, r)
 }
 
-// `eq`: a bare side raises nothing if the other side has an error of its own; two bare sides are kind 1.
+// `eq`: a bare side raises nothing if the other side has an error of its own; two bare sides have no value.
 pub(crate) fn enter_eq(w: &mut [u32], r: Regs) -> Regs
-    requires { ⌜ Entered (now w) r 6 ⌝ }
+    requires { ⌜ Entered (now w) r eqCode ⌝ }
     ensures { λ q. ⌜ Stepped (now (w .entry)) (now (w .exit)) r q ⌝ }
 {
     let h = r.due.head;
     let e = tables::end(w, h);
     let s = terms::evaluation::sides(w, h + 1, e);
-    if s.ltag == 2 {
+    if s.ltag == tags::ERROR {
         return sons::err(w, r, s.left);
     }
-    if s.rtag == 2 {
+    if s.rtag == tags::ERROR {
         return sons::err(w, r, s.right);
     }
-    if s.ltag == 1 {
-        if s.rtag == 1 {
-            return sons::err(w, r, 1);
+    if s.ltag == tags::BARE {
+        if s.rtag == tags::BARE {
+            return sons::err(w, r, kinds::NO_VALUE);
         }
         return assign(w, r, s.left, s.right);
     }
-    if s.rtag == 1 {
+    if s.rtag == tags::BARE {
         return assign(w, r, s.right, s.left);
     }
     check(w, r, s.left == s.right)
@@ -103,8 +110,8 @@ pub(crate) fn enter_eq(w: &mut [u32], r: Regs) -> Regs
 pub(crate) fn kind_of(tag: u32, value: u32) -> u32
     ensures { λ k. ⌜ KindOf tag value k ⌝ }
 {
-    if tag == 1 {
-        return 1;
+    if tag == tags::BARE {
+        return kinds::NO_VALUE;
     }
     value
 }
@@ -113,26 +120,26 @@ fn test(code: u32, x: u32, y: u32) -> bool
     ensures { λ b. ⌜ Compares code x y b ⌝ }
 {
     match code {
-        7 => x != y,
-        8 => x < y,
-        9 => x <= y,
-        10 => y < x,
+        codes::NE => x != y,
+        codes::LT => x < y,
+        codes::LE => x <= y,
+        codes::GT => y < x,
         _ => y <= x,
     }
 }
 
 // The atoms that compare: words compare as their values do.
 pub(crate) fn enter_compare(w: &mut [u32], r: Regs, code: u32) -> Regs
-    requires { ⌜ (Entered (now w) r code) × (7 ≤ code) × (code ≤ 11) ⌝ }
+    requires { ⌜ (Entered (now w) r code) × (neCode ≤ code) × (code ≤ geCode) ⌝ }
     ensures { λ q. ⌜ Stepped (now (w .entry)) (now (w .exit)) r q ⌝ }
 {
     let h = r.due.head;
     let e = tables::end(w, h);
     let s = terms::evaluation::sides(w, h + 1, e);
-    if s.ltag != 0 {
+    if s.ltag != tags::VALUE {
         return sons::err(w, r, kind_of(s.ltag, s.left));
     }
-    if s.rtag != 0 {
+    if s.rtag != tags::VALUE {
         return sons::err(w, r, kind_of(s.rtag, s.right));
     }
     check(w, r, test(code, s.left, s.right))

@@ -6,7 +6,9 @@ ghost use Rattle.tables.specs.Layout.{tokenSlot};
 ghost use Rattle.walker.specs.Steps.{Leads, Listed};
 ghost use Rattle.walker.specs.Registers.{formulaDue};
 use crate::Due;
+use crate::jobs;
 use crate::registers;
+use tables::codes;
 use tables::nodes;
 
 // The formula at token i.
@@ -24,13 +26,13 @@ pub(crate) fn list_at(w: &[u32], p: u32) -> Due
     ensures { λ d. ⌜ Listed (now (w .entry)) p d ⌝ }
 {
     if p == 0 {
-        return registers::plain_due(0, 0, 0);
+        return registers::plain_due(jobs::EMPTY, 0, 0);
     }
     let k = p - 1;
     let h = nodes::head_of(w, k);
     let q = nodes::rest_of(w, k);
-    if tables::code(w, h) == 2 {
+    if tables::code(w, h) == codes::AND {
         return formula(w, tables::end(w, h + 1), q);
     }
-    registers::plain_due(15, p, q)
+    registers::plain_due(jobs::AGAIN, p, q)
 }

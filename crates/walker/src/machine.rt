@@ -12,6 +12,8 @@ use crate::atoms;
 use crate::connectives;
 use crate::dues;
 use crate::inner;
+use crate::jobs;
+use crate::modes;
 use crate::quantifiers;
 use crate::registers;
 use crate::rise;
@@ -21,6 +23,7 @@ use specification::End;
 use specification::Outcome;
 use specification::Setting;
 use specification::Tallies;
+use tables::codes;
 
 // A leaf whose visit is counted. In an inner tree a success ends it and an error leaves its mark; in the main tree an answer or an error
 // has a block.
@@ -30,19 +33,19 @@ fn at_leaf(r: Regs) -> Regs
 {
     let t = r.tallies;
     if r.inner == 1 {
-        if r.due.job == 16 {
-            return registers::leaf(r, 3, r.bad, t, r.written);
+        if r.due.job == jobs::SUCCESS {
+            return registers::leaf(r, modes::WON, r.bad, t, r.written);
         }
-        if r.due.job == 17 {
-            return registers::leaf(r, 2, r.bad, t, r.written);
+        if r.due.job == jobs::FAILURE {
+            return registers::leaf(r, modes::UP, r.bad, t, r.written);
         }
-        return registers::leaf(r, 2, 1, t, r.written);
+        return registers::leaf(r, modes::UP, 1, t, r.written);
     }
-    if r.due.job == 17 {
-        let u = registers::counted(t, 3);
-        return registers::leaf(r, 2, r.bad, u, r.written);
+    if r.due.job == jobs::FAILURE {
+        let u = registers::counted(t, registers::FAILURE);
+        return registers::leaf(r, modes::UP, r.bad, u, r.written);
     }
-    registers::leaf(r, 4, r.bad, t, r.written)
+    registers::leaf(r, modes::BLOCK, r.bad, t, r.written)
 }
 
 // What is visited, its visit counted, by the job.
@@ -52,17 +55,17 @@ fn enter(w: &mut [u32], r: Regs) -> Regs
 {
     let job = r.due.job;
     match job {
-        0 => connectives::enter_empty(w, r),
-        1 => connectives::enter_true(w, r),
-        2 => connectives::enter_and(w, r),
-        3 => connectives::enter_or(w, r),
-        4 | 5 => inner::enter_inner(w, r),
-        6 => atoms::enter_eq(w, r),
-        12 => quantifiers::enter_ex(w, r),
-        13 => quantifiers::enter_some(w, r),
-        14 => quantifiers::enter_all(w, r),
-        15 => quantifiers::enter_again(w, r),
-        16 | 17 | 18 => at_leaf(r),
+        jobs::EMPTY => connectives::enter_empty(w, r),
+        codes::TRUE => connectives::enter_true(w, r),
+        codes::AND => connectives::enter_and(w, r),
+        codes::OR => connectives::enter_or(w, r),
+        codes::IMP | codes::NOT => inner::enter_inner(w, r),
+        codes::EQ => atoms::enter_eq(w, r),
+        codes::EX => quantifiers::enter_ex(w, r),
+        codes::SOME => quantifiers::enter_some(w, r),
+        codes::ALL => quantifiers::enter_all(w, r),
+        jobs::AGAIN => quantifiers::enter_again(w, r),
+        jobs::SUCCESS | jobs::FAILURE | jobs::ERROR => at_leaf(r),
         _ => atoms::enter_compare(w, r, job),
     }
 }
@@ -79,8 +82,8 @@ fn visit(w: &mut [u32], r: Regs, path: u32, budget: u32) -> Regs
     if path <= r.depth {
         return registers::stop(r, registers::PATH);
     }
-    let u = registers::counted(t, 0);
-    let q = registers::leaf(r, 1, r.bad, u, r.written);
+    let u = registers::counted(t, registers::NODE);
+    let q = registers::leaf(r, modes::DOWN, r.bad, u, r.written);
     enter(w, q)
 }
 
@@ -90,7 +93,7 @@ fn head(r: Regs) -> Head
     ensures { λ h. ⌜ h ≡ headDue r ⌝ }
 {
     let t = r.tallies;
-    if r.due.job == 16 {
+    if r.due.job == jobs::SUCCESS {
         return Head::Answer {
             number: t.answers + 1,
         };
@@ -108,12 +111,12 @@ fn passed(r: Regs, written: usize) -> Regs
     ensures { λ q. ⌜ q ≡ passedRegs r written ⌝ }
 {
     let t = r.tallies;
-    if r.due.job == 16 {
-        let u = registers::counted(t, 1);
-        return registers::leaf(r, 2, r.bad, u, written);
+    if r.due.job == jobs::SUCCESS {
+        let u = registers::counted(t, registers::ANSWER);
+        return registers::leaf(r, modes::UP, r.bad, u, written);
     }
-    let u = registers::counted(t, 2);
-    registers::leaf(r, 2, r.bad, u, written)
+    let u = registers::counted(t, registers::ERROR);
+    registers::leaf(r, modes::UP, r.bad, u, written)
 }
 
 // The block that is due: skipped, written into the rest of the output, or without room there.
@@ -140,7 +143,7 @@ fn descend(w: &mut [u32], r: Regs, path: u32, budget: u32) -> Regs
     ensures { λ q. ⌜ Went (now (w .entry)) (now (w .exit)) r q path budget ⌝ }
 {
     let mut q = r;
-    while q.mode == 1 {
+    while q.mode == modes::DOWN {
         q = visit(w, q, path, budget);
     }
     q
@@ -150,10 +153,10 @@ fn descend(w: &mut [u32], r: Regs, path: u32, budget: u32) -> Regs
 fn is_up(mode: u32) -> bool
     ensures { λ b. ⌜ IsUp mode b ⌝ }
 {
-    if mode == 2 {
+    if mode == modes::UP {
         return true;
     }
-    mode == 3
+    mode == modes::WON
 }
 
 // Steps up, until a visit is due or the walk is over.
@@ -173,7 +176,7 @@ fn settle(w: &[u32], out: &mut [u8], r: Regs, setting: Setting, scalars: u32, ar
     requires { ⌜ Runs (now w) (now out) r setting scalars arrays ⌝ }
     ensures { λ q. ⌜ Settled (now (w .entry)) (now (out .entry)) (now (out .exit)) r q setting scalars arrays ⌝ }
 {
-    if r.mode == 4 {
+    if r.mode == modes::BLOCK {
         return block(w, out, r, setting, scalars, arrays);
     }
     r
@@ -202,7 +205,7 @@ fn start(w: &[u32]) -> Regs
         fails: 0,
     };
     Regs {
-        mode: 1,
+        mode: modes::DOWN,
         depth: 0,
         due: d,
         inner: 0,
@@ -218,7 +221,7 @@ fn walk(w: &mut [u32], out: &mut [u8], setting: Setting, scalars: u32, arrays: u
     ensures { λ r. ⌜ Finished (now (w .entry)) (now (w .exit)) (now (out .entry)) (now (out .exit)) setting scalars arrays r ⌝ }
 {
     let mut r = start(w);
-    while r.mode != 0 {
+    while r.mode != modes::OVER {
         r = step(w, out, r, setting, scalars, arrays);
     }
     r

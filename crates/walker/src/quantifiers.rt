@@ -1,7 +1,9 @@
 // Entering a node whose first formula is a quantifier.
 ghost use mathlib.Core.Path.{_≡_};
 ghost use Prim.Native.Nat.{_+_};
+ghost use Rattle.tables.specs.Codes.{exCode, someCode, allCode};
 ghost use Rattle.terms.specs.Results.{Asked, Valued};
+ghost use Rattle.walker.specs.States.{againJob};
 ghost use Rattle.walker.specs.Stands.{bodyOf};
 ghost use Rattle.walker.specs.Binding.{Local, Middle, binderNode};
 ghost use Rattle.walker.specs.Steps.{Visited, Entered, Stepped, Opens, Rounds};
@@ -11,18 +13,25 @@ use crate::changes;
 use crate::dues;
 use crate::registers;
 use crate::sons;
+use crate::todos;
 use tables::nodes;
 use tables::nodes::Node;
 use terms::Sides;
+use terms::tags;
 
 const LOCALS: u32 = tables::LOCALS as u32;
+
+const SLOT_WORDS: u32 = tables::SLOT_WORDS as u32;
+
+// After the token of a quantifier comes that of its local, and then its bounds or its formula.
+pub(crate) const AFTER_LOCAL: u32 = 2;
 
 // The node of the quantifier at token `head`: the slot of the local that it binds is saved in it.
 fn binder(w: &[u32], r: Regs, head: u32, todo: u32, current: u32, last: u32) -> Node
     requires { ⌜ Local (now w) head ⌝ }
     ensures { λ n. ⌜ n ≡ binderNode (now (w .entry)) r head todo current last ⌝ }
 {
-    let slot = LOCALS + 2 * tables::operand(w, head + 1);
+    let slot = LOCALS + SLOT_WORDS * tables::operand(w, head + 1);
     let had = tables::word(w, slot);
     let old = tables::word(w, slot + 1);
     Node {
@@ -44,7 +53,7 @@ fn body(w: &[u32], h: u32) -> u32
     requires { ⌜ Middle (now w) h ⌝ }
     ensures { λ i. ⌜ i ≡ bodyOf (now (w .entry)) h ⌝ }
 {
-    let e = tables::end(w, h + 2);
+    let e = tables::end(w, h + AFTER_LOCAL);
     tables::end(w, e)
 }
 
@@ -54,17 +63,17 @@ fn bounds(w: &mut [u32], h: u32) -> Sides
     ensures { λ s. ⌜ Valued (now (w .entry)) (now (w .exit)) (h + 2) (bodyOf (now (w .entry)) h) s ⌝ }
 {
     let e = body(w, h);
-    terms::evaluation::sides(w, h + 2, e)
+    terms::evaluation::sides(w, h + AFTER_LOCAL, e)
 }
 
 // `ex`: its formula, the local without a value, then the rest.
 pub(crate) fn enter_ex(w: &mut [u32], r: Regs) -> Regs
-    requires { ⌜ Entered (now w) r 12 ⌝ }
+    requires { ⌜ Entered (now w) r exCode ⌝ }
     ensures { λ q. ⌜ Stepped (now (w .entry)) (now (w .exit)) r q ⌝ }
 {
-    let n = binder(w, r, r.due.head, 2, 0, 0);
+    let n = binder(w, r, r.due.head, todos::UNDO, 0, 0);
     changes::alter(w, r.depth, n, 0, 0);
-    let d = dues::formula(w, r.due.head + 2, r.due.rest);
+    let d = dues::formula(w, r.due.head + AFTER_LOCAL, r.due.rest);
     registers::due(r, r.depth + 1, d, r.inner, r.bad)
 }
 
@@ -74,21 +83,21 @@ fn open(w: &mut [u32], r: Regs, low: u32, high: u32) -> Regs
     ensures { λ q. ⌜ Stepped (now (w .entry)) (now (w .exit)) r q ⌝ }
 {
     let b = body(w, r.due.head);
-    let n = binder(w, r, r.due.head, 3, low, high);
+    let n = binder(w, r, r.due.head, todos::NEXT, low, high);
     changes::alter(w, r.depth, n, 1, low);
     let d = dues::formula(w, b, r.due.rest);
     registers::due(r, r.depth + 1, d, r.inner, r.bad)
 }
 
 pub(crate) fn enter_some(w: &mut [u32], r: Regs) -> Regs
-    requires { ⌜ Entered (now w) r 13 ⌝ }
+    requires { ⌜ Entered (now w) r someCode ⌝ }
     ensures { λ q. ⌜ Stepped (now (w .entry)) (now (w .exit)) r q ⌝ }
 {
     let s = bounds(w, r.due.head);
-    if s.ltag != 0 {
+    if s.ltag != tags::VALUE {
         return sons::err(w, r, atoms::kind_of(s.ltag, s.left));
     }
-    if s.rtag != 0 {
+    if s.rtag != tags::VALUE {
         return sons::err(w, r, atoms::kind_of(s.rtag, s.right));
     }
     if s.right < s.left {
@@ -104,21 +113,21 @@ fn round(w: &mut [u32], r: Regs, head: u32, value: u32, last: u32) -> Regs
     ensures { λ q. ⌜ Stepped (now (w .entry)) (now (w .exit)) r q ⌝ }
 {
     let b = body(w, head);
-    let n = binder(w, r, head, 2, value, last);
+    let n = binder(w, r, head, todos::UNDO, value, last);
     changes::alter(w, r.depth, n, 1, value);
     let d = dues::formula(w, b, r.depth + 1);
     registers::due(r, r.depth + 1, d, r.inner, r.bad)
 }
 
 pub(crate) fn enter_all(w: &mut [u32], r: Regs) -> Regs
-    requires { ⌜ Entered (now w) r 14 ⌝ }
+    requires { ⌜ Entered (now w) r allCode ⌝ }
     ensures { λ q. ⌜ Stepped (now (w .entry)) (now (w .exit)) r q ⌝ }
 {
     let s = bounds(w, r.due.head);
-    if s.ltag != 0 {
+    if s.ltag != tags::VALUE {
         return sons::err(w, r, atoms::kind_of(s.ltag, s.left));
     }
-    if s.rtag != 0 {
+    if s.rtag != tags::VALUE {
         return sons::err(w, r, atoms::kind_of(s.rtag, s.right));
     }
     if s.right < s.left {
@@ -129,7 +138,7 @@ pub(crate) fn enter_all(w: &mut [u32], r: Regs) -> Regs
 
 // An `all` that comes first again: the next value, or no value left.
 pub(crate) fn enter_again(w: &mut [u32], r: Regs) -> Regs
-    requires { ⌜ (Visited (now w) r) × (r .due .job ≡ 15) ⌝ }
+    requires { ⌜ (Visited (now w) r) × (r .due .job ≡ againJob) ⌝ }
     ensures { λ q. ⌜ Stepped (now (w .entry)) (now (w .exit)) r q ⌝ }
 {
     let k = r.due.head - 1;

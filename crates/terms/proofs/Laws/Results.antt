@@ -9,7 +9,7 @@ use lib.IntN.{ℤ}
 use Rattle.specification.specs.Bytes.{pick}
 use Rattle.specification.specs.Lines.{Declared}
 use Rattle.specification.specs.Ast.{Op, add, sub, mul, div, modulo}
-use Rattle.specification.specs.Arithmetic.{value, fault, compute}
+use Rattle.specification.specs.Arithmetic.{value, fault, compute, noValue}
 use Rattle.specification.specs.Value.{empty, full, Valuation, Side, val, bare, err, pairOf, operate}
 use Rattle.specification.proofs.Laws.Contradiction.{contradiction}
 use Rattle.values.specs.Word.{biased, signed}
@@ -17,6 +17,7 @@ use Rattle.values.specs.Packed.{packed}
 use Rattle.values.specs.declared.Computed.{Computed}
 use Rattle.values.specs.declared.Computed.the-variants.{Value, Fault}
 use Rattle.values.proofs.Laws.Word.{signed-biased}
+use Rattle.tables.specs.Codes.{addCode, subCode, mulCode, divCode}
 use Rattle.sheet.specs.Tables.{Words}
 use Rattle.sheet.specs.Codes.{opCode}
 use Rattle.terms.specs.declared.Stack.{Stack}
@@ -26,7 +27,7 @@ use Rattle.terms.specs.Machine.{In32, Calculated, Packs}
 -- ---- errors of operands
 
 module _ (tag value at : ℕ) where
-  pub raise-bare : {r : Stack} → r ≡ errorOf 1 at → tag ≡ 1 → Raised tag value at r
+  pub raise-bare : {r : Stack} → r ≡ errorOf noValue at → tag ≡ 1 → Raised tag value at r
   raise-bare q t (val z) e v = absurd (omega arith)
   raise-bare q t (bare p) e v = q
   raise-bare q t (err κ) e v = absurd (omega arith)
@@ -52,7 +53,7 @@ module _ (w : Words) (i at v : ℕ) where
 
 -- an operation by its code
 opOf : ℕ → Op
-opOf k = pick (eqb k 32) add (pick (eqb k 33) sub (pick (eqb k 34) mul (pick (eqb k 35) div modulo)))
+opOf k = pick (eqb k addCode) add (pick (eqb k subCode) sub (pick (eqb k mulCode) mul (pick (eqb k divCode) div modulo)))
 
 op-of-code : (o : Op) → opOf (opCode o) ≡ o
 unfolding opOf
@@ -68,7 +69,7 @@ module _ (k x y : ℕ) (r : Computed) where
       let same : o ≡ p = sym (op-of-code o) ∙ ap opOf (sym q ∙ n) ∙ op-of-code p in
       h ∙ ap (λ (p : Op). packed (compute p (signed x) (signed y))) same
 
-  pub calculated-last : (k ≡ 32 → ⊥) → (k ≡ 33 → ⊥) → (k ≡ 34 → ⊥) → (k ≡ 35 → ⊥) →
+  pub calculated-last : (k ≡ addCode → ⊥) → (k ≡ subCode → ⊥) → (k ≡ mulCode → ⊥) → (k ≡ divCode → ⊥) →
       r ≡ packed (compute modulo (signed x) (signed y)) → Calculated k x y r
   calculated-last a s m d h add n = absurd (a n)
   calculated-last a s m d h sub n = absurd (s n)

@@ -2,12 +2,10 @@
 use Prim.Native.Nat.{ℕ, suc, _+_, _<_, _≤_}
 use native.Mathlib.Omega.{arith}
 use native.Mathlib.Numerals.{add-one}
-use native.Mathlib.Nat.{div-eq-of-lt}
 use mathlib.Core.Path.{_≡_, refl, sym, _∙_, ap, ap₂}
 use mathlib.Core.Bool.{Bool, true, false, _&&_, and-true}
 use mathlib.Core.List.{List, [], _∷_}
 use lib.ListN.{length}
-use lib.Pow.{pow-pos}
 use Rattle.specification.specs.Lines.{Declared, cells}
 use Rattle.specification.specs.Ast.{Formula}
 use Rattle.specification.specs.Place.{Place, cell, local}
@@ -16,6 +14,7 @@ use Rattle.specification.specs.WellFormed.{Scope}
 use Rattle.specification.specs.Closed.{filled, closedFormula, closed}
 use Rattle.specification.specs.Closed as specified
 use Rattle.tables.specs.Layout.{pathAt}
+use Rattle.tables.proofs.Laws.Locals.{inSet-none}
 use Rattle.sheet.specs.Tables.{Words}
 use Rattle.sheet.specs.Held.{Holds}
 use Rattle.terms.specs.Openness.{Standing, Mark, formulaMarks, MarksAt, answered, pass, knownBy, Marked, Met, Known}
@@ -38,14 +37,14 @@ Left w from to i bound = (D : Declared) (α : Valuation) (F : Formula) → Stand
 -- no binder was met
 none-met : (α : Valuation) (S : Scope) (p : Place) → In S p → filled (α p) ≡ knownBy α 0 p
 none-met α S (cell c) i = refl
-none-met α S (local l) i = rw (div-eq-of-lt (pow-pos l)) refl
+none-met α S (local l) i = rw (inSet-none l) refl
 
 pub rest-start : (w : Words) (from to : ℕ) → Left w from to from 0
 unfolding pass closed
 rest-start w from to D α F s =
     record {
       marks = formulaMarks F [];
-      at = formula-marks w D (s .cells) (s .scope) (s .locals) from to F [] (s .ok) (s .low) (s .formula) (s .end);
+      at = formula-marks w D (s .cells) (s .scope) (s .locals) from to F [] (s .ok) (s .shallow) (s .formula) (s .end);
       decides =
           pass-formula D (s .scope) (λ p. filled (α p)) (knownBy α 0) (none-met α (s .scope)) F (s .ok) []
           ∙ and-true (closedFormula (λ p. filled (α p)) F);

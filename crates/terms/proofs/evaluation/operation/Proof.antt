@@ -3,6 +3,8 @@ use Prim.Native.Nat.{_+_, _-_}
 use native.Mathlib.Omega.{arith}
 use mathlib.Core.Path.{_≡_}
 use lib.ListN.{getD}
+use Rattle.terms.specs.Results.{valueTag}
+use Rattle.terms.specs.Machine.{resultWords}
 use Rattle.terms.proofs.Laws.Results.{operated-left, operated-right, operated-both}
 use Rattle.terms.proofs.Laws.Stack.{operation-made}
 use borrow.Author.Needs.{needs}
@@ -20,7 +22,7 @@ returns c =
     let test = c .before in
     let a = test .before .before .before .before .args in
     let w = a .w .now in
-    let at = a .s .at - 2 in
+    let at = a .s .at - resultWords in
     operation-made w (a .code) (a .s) _
     (operated-left (a .code) (a .s .tag) (a .s .value) (getD w at 0) (getD w (at + 1) 0) at (λ z. omega (arith, test .if1 .taken))
     (c .raised .ensures))
@@ -49,8 +51,8 @@ returns-2 c =
     let left = right .before .before .before in
     let a = left .before .before .before .before .args in
     let w = a .w .now in
-    let at = a .s .at - 2 in
-    let valued : a .s .tag ≡ 0 = omega (arith, left .if1 .left) in
+    let at = a .s .at - resultWords in
+    let valued : a .s .tag ≡ valueTag = omega (arith, left .if1 .left) in
     operation-made w (a .code) (a .s) _
     (operated-right (a .code) (a .s .tag) (a .s .value) (getD w at 0) (getD w (at + 1) 0) at valued (right .if2 .taken)
     (c .raised2 .ensures))
@@ -67,8 +69,8 @@ returns-3 c =
     let left = right .before .before .before in
     let a = left .before .before .before .before .args in
     let w = a .w .now in
-    let at = a .s .at - 2 in
-    let valued : a .s .tag ≡ 0 = omega (arith, left .if1 .left) in
+    let at = a .s .at - resultWords in
+    let valued : a .s .tag ≡ valueTag = omega (arith, left .if1 .left) in
     operation-made w (a .code) (a .s) _
     (operated-both (a .code) (a .s .tag) (a .s .value) (getD w at 0) (getD w (at + 1) 0) at valued (right .if2 .left)
     (c .before .calculated .ensures) (c .found .ensures))

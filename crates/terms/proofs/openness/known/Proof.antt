@@ -2,13 +2,14 @@
 use Prim.Native.Nat.{_<_}
 use native.Mathlib.Omega.{arith}
 use mathlib.Core.Path.{sym, _∙_}
+use Rattle.tables.specs.Layout.{maxCells}
 use Rattle.terms.proofs.Laws.Openness.Token.{scalar-low, local-low, known-scalar, known-local, known-bound, known-plain}
 use borrow.Author.Needs.{needs}
 use Rattle.terms.proofs.openness.known.Statement.{statement}
 use Rattle.terms.proofs.openness.known.Tie as tie
 
 -- the operands are in range
-scalar : (c : tie.After-operand) → c .operand .result < 512
+scalar : (c : tie.After-operand) → c .operand .result < maxCells
 scalar c =
     let read = c .before .before in
     omega (arith, scalar-low (read .before .before .pre) (sym (read .code .ensures) ∙ c .before .if1 .taken), c .operand .ensures)
@@ -49,8 +50,8 @@ returns-2 c =
 operand-requires-2 : tie.Need-operand-requires-2
 operand-requires-2 c κs = search needs
 
-contains-requires : tie.Need-contains-requires
-contains-requires c κs = local c
+has-requires : tie.Need-has-requires
+has-requires c κs = local c
 
 returns-3 : tie.Need-returns-3
 returns-3 c =
@@ -58,7 +59,7 @@ returns-3 c =
     let test = read .before in
     let a = test .before .before .before .before .args in
     known-bound (a .w .now) (a .i) (a .bound) _ (read .operand2 .ensures) (sym (test .before .before .code .ensures) ∙ test .if2 .left)
-    (sym (c .before .contains .ensures) ∙ c .if3 .taken)
+    (sym (c .before .has .ensures) ∙ c .if3 .taken)
 
 mul-filled-2 : tie.Need-mul-filled-2
 mul-filled-2 c = omega (arith, local (c .before .before))
@@ -75,7 +76,7 @@ returns-4 c =
     let test = read .before in
     let a = test .before .before .before .before .args in
     known-local (a .w .now) (a .i) (a .bound) _ (read .operand2 .ensures) (sym (test .before .before .code .ensures) ∙ test .if2 .left)
-    (sym (c .before .before .contains .ensures) ∙ c .before .if3 .left) (c .filled2 .ensures)
+    (sym (c .before .before .has .ensures) ∙ c .before .if3 .left) (c .filled2 .ensures)
 
 pub known-spec : {M : Type 1} → statement M
 known-spec =
@@ -89,7 +90,7 @@ known-spec =
     returns
     returns-2
     operand-requires-2
-    contains-requires
+    has-requires
     returns-3
     mul-filled-2
     add-filled-2

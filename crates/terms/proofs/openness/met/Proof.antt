@@ -2,6 +2,7 @@
 use native.Mathlib.Omega.{arith}
 use mathlib.Core.Path.{_∙_, ap}
 use Prim.Native.Nat.{ℕ, _+_, _^_, _<_}
+use Rattle.tables.specs.Layout.{maxTokens, maxLocals}
 use Rattle.sheet.specs.Held.{operandAt}
 use lib.Bits.{bitOr}
 use Rattle.terms.proofs.Laws.Openness.Token.{met-low, met-high, met-bound, bound-low}
@@ -10,8 +11,8 @@ use Rattle.terms.proofs.openness.met.Statement.{statement}
 use Rattle.terms.proofs.openness.met.Tie as tie
 
 -- the token after a binder is its local
-binder : (c : tie.Else2) → (c .before .before .before .before .args .i + 1 < 1024)
-    × (operandAt (c .before .before .before .before .args .w .now) (c .before .before .before .before .args .i + 1) < 32)
+binder : (c : tie.Else2) → (c .before .before .before .before .args .i + 1 < maxTokens)
+    × (operandAt (c .before .before .before .before .args .w .now) (c .before .before .before .before .args .i + 1) < maxLocals)
 binder c =
     let read = c .before .before in
     bound-low (read .before .before .pre) (omega (arith, read .code .ensures)) (omega (arith, read .code .ensures))

@@ -2,6 +2,7 @@
 use borrow.Author.Needs.{needs}
 use native.Mathlib.Omega.{arith}
 use mathlib.Core.Logic.{⊎-elim, inl, inr}
+use Rattle.tables.specs.Codes.{trueCode, andCode, orCode, eqCode, exCode, someCode, allCode}
 use Rattle.walker.proofs.Enters.{empty-leaf, entered, entered-inner, leaf-due, leaf-stepped, entered-compare}
 use Rattle.walker.proofs.machine.enter.Statement.{statement}
 use Rattle.walker.proofs.machine.enter.Tie as tie
@@ -14,37 +15,37 @@ enter-empty-requires c κs =
 enter-true-requires : tie.Need-enter-true-requires
 enter-true-requires c κs =
     let start = c .before .before .before in
-    entered 1 (start .pre) (c .before .match .keys2) (omega arith) (omega arith)
+    entered trueCode (start .pre) (c .before .match .keys2) (omega arith) (omega arith)
 
 enter-and-requires : tie.Need-enter-and-requires
 enter-and-requires c κs =
     let start = c .before .before .before in
-    entered 2 (start .pre) (c .before .match .keys3) (omega arith) (omega arith)
+    entered andCode (start .pre) (c .before .match .keys3) (omega arith) (omega arith)
 
 enter-or-requires : tie.Need-enter-or-requires
 enter-or-requires c κs =
     let start = c .before .before .before in
-    entered 3 (start .pre) (c .before .match .keys4) (omega arith) (omega arith)
+    entered orCode (start .pre) (c .before .match .keys4) (omega arith) (omega arith)
 
 enter-eq-requires : tie.Need-enter-eq-requires
 enter-eq-requires c κs =
     let start = c .before .before .before in
-    entered 6 (start .pre) (c .before .match .keys5) (omega arith) (omega arith)
+    entered eqCode (start .pre) (c .before .match .keys5) (omega arith) (omega arith)
 
 enter-ex-requires : tie.Need-enter-ex-requires
 enter-ex-requires c κs =
     let start = c .before .before .before in
-    entered 12 (start .pre) (c .before .match .keys6) (omega arith) (omega arith)
+    entered exCode (start .pre) (c .before .match .keys6) (omega arith) (omega arith)
 
 enter-some-requires : tie.Need-enter-some-requires
 enter-some-requires c κs =
     let start = c .before .before .before in
-    entered 13 (start .pre) (c .before .match .keys7) (omega arith) (omega arith)
+    entered someCode (start .pre) (c .before .match .keys7) (omega arith) (omega arith)
 
 enter-all-requires : tie.Need-enter-all-requires
 enter-all-requires c κs =
     let start = c .before .before .before in
-    entered 14 (start .pre) (c .before .match .keys8) (omega arith) (omega arith)
+    entered allCode (start .pre) (c .before .match .keys8) (omega arith) (omega arith)
 
 enter-again-requires : tie.Need-enter-again-requires
 enter-again-requires c κs =
@@ -61,13 +62,14 @@ at-leaf-requires : tie.Need-at-leaf-requires
 at-leaf-requires c κs =
     let at-match = c .before .before .before in
     let start = at-match .before .before in
-    leaf-due (start .pre) (at-match .match .rest .0 .0 .0 .1) (at-match .match .rest .0 .0 .1) (at-match .match .rest .0 .1) (at-match .match .rest .1) (c .before .if2 .left)
+    leaf-due (start .pre) (at-match .match .rest .1) (c .before .if2 .left)
 
 enter-compare-requires : tie.Need-enter-compare-requires
 enter-compare-requires c κs =
     let at-match = c .before .before .before in
     let start = at-match .before .before in
-    entered-compare (start .pre) (at-match .match .rest .0 .0 .0 .0 .1) (c .before .before .if1 .left) (⊎-elim (λ h. inl (h .taken)) (λ h. inr (h .1 .left)) (c .before .if2 .came))
+    let n = at-match .match .rest in
+    entered-compare (start .pre) (n .0 .0 .0 .0 .1) (n .0 .0 .0 .1) (n .0 .0 .1) (n .0 .1) (c .before .before .if1 .left) (⊎-elim (λ h. inl (h .taken)) (λ h. inr (h .1 .left)) (c .before .if2 .came))
 
 same-length : tie.Need-same-length
 same-length c = search needs

@@ -3,6 +3,7 @@ use native.Mathlib.Omega.{arith}
 use native.Mathlib.Numerals.{add-one}
 use borrow.Author.Tests.{eq-eqb, ne-eqb}
 use Rattle.walker.specs.Blocks.{headDue}
+use Rattle.walker.specs.States.{successJob}
 use Rattle.walker.proofs.machine.head.Statement.{statement}
 use Rattle.walker.proofs.machine.head.Tie as tie
 
@@ -13,7 +14,7 @@ add-t4 c =
 
 returns : tie.Need-returns
 unfolding headDue
-returns c = rw (eq-eqb _ 16 (c .before .if1 .taken), add-one)
+returns c = rw (eq-eqb _ successJob (c .before .if1 .taken), add-one)
 
 add-t5 : tie.Need-add-t5
 add-t5 c =
@@ -22,7 +23,7 @@ add-t5 c =
 
 returns-2 : tie.Need-returns-2
 unfolding headDue
-returns-2 c = rw (ne-eqb _ 16 (c .before .if1 .left), add-one)
+returns-2 c = rw (ne-eqb _ successJob (c .before .if1 .left), add-one)
 
 pub head-spec : {M : Type 1} → statement M
 head-spec = tie.close (tie.spec add-t4 returns add-t5 returns-2)

@@ -6,7 +6,9 @@ use denote.Ref.{now}
 use native.Mathlib.Omega.{arith}
 use mathlib.Core.Path.{refl, sym, _∙_, ap}
 use lib.ListN.{length, length-set}
+use Rattle.tables.specs.Layout.{maxTokens}
 use Rattle.walker.specs.Loop.{Topped, Rising}
+use Rattle.walker.specs.States.{judgeTodo}
 use Rattle.walker.proofs.Rises.{son-finished}
 use Rattle.walker.proofs.Turns.{rose-up, rose-yes, Judges, judging, judge-small, judge-leads, judge-bad, judge-on, judge-not, judge-imp, judge-far}
 use Rattle.walker.proofs.rise.judge.Statement.{statement}
@@ -17,7 +19,7 @@ known : (c : tie.After-set-todo) →
     (let s = c .before .before .before .before in
     let k = s .before .before .before .before in
     let a = k .before .before .before .before .args in
-    Topped (now (a .w)) (a .r) 4 × Rising (now (a .w)) (a .r))
+    Topped (now (a .w)) (a .r) judgeTodo × Rising (now (a .w)) (a .r))
 known c =
     let at-inner-of-arg = c .before .before .before .before .before in
     let at-struct-known = at-inner-of-arg .before .before .before .before .before in
@@ -26,7 +28,7 @@ known c =
 
 token-small : (c : tie.After-set-todo) →
     (let s = c .before .before .before .before in
-    s .before .before .before .before .head-of .result < 1024)
+    s .before .before .before .before .head-of .result < maxTokens)
 token-small c =
     let at-inner-of-arg = c .before .before .before .before .before in
     let at-head-of = at-inner-of-arg .before .before .before in

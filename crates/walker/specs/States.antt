@@ -1,0 +1,90 @@
+-- Names for the numbers that the registers and the path nodes hold. src has the same numbers for the code: modes.rt, jobs.rt, todos.rt and
+-- registers.rt. Assumes nothing.
+use Prim.Native.Nat.{ℕ, _+_}
+use Rattle.specification.specs.declared.End.the-variants.{Done, Spent, Path, Output}
+use Rattle.specification.specs.Report.{endNumber}
+use Rattle.tables.specs.Codes.{badConstantCode}
+
+-- ---- modes: the walk is over, a visit is due, a son is finished, an inner tree has succeeded, a block is due
+
+abbrev pub overMode : ℕ
+overMode = 0
+
+abbrev pub downMode : ℕ
+downMode = 1
+
+abbrev pub upMode : ℕ
+upMode = 2
+
+abbrev pub wonMode : ℕ
+wonMode = 3
+
+abbrev pub blockMode : ℕ
+blockMode = 4
+
+-- ---- jobs that are no formula's code: the empty list; above every code an `all` that goes on and the three leaves
+
+abbrev pub emptyJob : ℕ
+emptyJob = 0
+
+abbrev pub againJob : ℕ
+againJob = badConstantCode + 1
+
+abbrev pub successJob : ℕ
+successJob = badConstantCode + 2
+
+abbrev pub failureJob : ℕ
+failureJob = badConstantCode + 3
+
+abbrev pub errorJob : ℕ
+errorJob = badConstantCode + 4
+
+-- ---- what is left to do at a node: nothing, the second son of an `or`, a slot to put back, the next value of a `some`, an inner tree to judge
+
+abbrev pub noTodo : ℕ
+noTodo = 0
+
+abbrev pub otherTodo : ℕ
+otherTodo = 1
+
+abbrev pub undoTodo : ℕ
+undoTodo = 2
+
+abbrev pub nextTodo : ℕ
+nextTodo = 3
+
+abbrev pub judgeTodo : ℕ
+judgeTodo = 4
+
+-- ---- which tally grows
+
+abbrev pub nodeTally : ℕ
+nodeTally = 0
+
+abbrev pub answerTally : ℕ
+answerTally = 1
+
+abbrev pub errorTally : ℕ
+errorTally = 2
+
+abbrev pub failTally : ℕ
+failTally = 3
+
+-- ---- ends
+
+abbrev pub doneEnd : ℕ
+doneEnd = endNumber Done
+
+abbrev pub spentEnd : ℕ
+spentEnd = endNumber Spent
+
+abbrev pub pathEnd : ℕ
+pathEnd = endNumber Path
+
+abbrev pub outputEnd : ℕ
+outputEnd = endNumber Output
+
+-- ---- the largest word
+
+abbrev pub maxWord : ℕ
+maxWord = 4294967295
