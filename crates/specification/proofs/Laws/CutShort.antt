@@ -54,12 +54,7 @@ module _ (q : Bytes) (more : Left q) where
   sheet-over : (r : Reader) → Post (Over q r (sheet (extended q r))) (sheet r)
   sheet-over =
       sheet-by (λ A m. Steady q m) (λ m. (r : Reader) → Post (Over q r (m (extended q r))) (m r)) (λ A m f h k r. bind-over (h r) k)
-      (record {
-        number = line-steady;
-        arrays = arrays-steady;
-        given = given-steady;
-        start = exactly-steady 3;
-      })
+      (record { number = line-steady; arrays = arrays-steady; given = given-steady; start = exactly-steady 3 })
       (λ D is r. bind-over (formula-steady D 64 [] r) λ F r₁. end-over _ r₁)
 
 -- ---- the laws

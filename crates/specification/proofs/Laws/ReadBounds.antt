@@ -135,12 +135,7 @@ module _ (N : ℕ) where
   sheet-safe : SafeParser N sheet
   sheet-safe =
       sheet-by (λ A m. SafeParser N m) (SafeParser N) (λ A m f h k r i. bind-post (h r i) λ a r₁ i₁. k a r₁ i₁)
-      (record {
-        number = line-safe N;
-        arrays = arrays-safe N;
-        given = given-safe N;
-        start = λ k r i. exactly-safe N r i 3 k refl;
-      })
+      (record { number = line-safe N; arrays = arrays-safe N; given = given-safe N; start = λ k r i. exactly-safe N r i 3 k refl })
       (λ D is r i.
       bind-post (formula-safe D 64 [] r i) λ F r₁ i₁.
       bind-post (mark-safe N r₁ i₁ feed) λ u r₂ i₂.

@@ -1,9 +1,6 @@
 -- `evaluation::calculated` meets its contract: each function of values is the operation of its code. Assumes nothing.
-use mathlib.Core.Path.{_∙_, ap, sym}
 use Rattle.specification.specs.Ast.{add, sub, mul, div}
-use Rattle.values.specs.Word.{signed}
-use Rattle.values.specs.Packed.{packed}
-use Rattle.values.proofs.Laws.Packed.{compute-add, compute-sub, compute-mul, compute-div, compute-modulo}
+use Rattle.specification.specs.Arithmetic.{compute}
 use Rattle.terms.proofs.Laws.Results.{calculated-as, calculated-last}
 use borrow.Author.Needs.{needs}
 use Rattle.terms.proofs.evaluation.calculated.Statement.{statement}
@@ -25,35 +22,35 @@ remainder-requires : tie.Need-remainder-requires
 remainder-requires c κs = search needs
 
 returns : tie.Need-returns
+unfolding compute
 returns c =
     let a = c .before .before .args in
-    calculated-as (a .code) (a .x) (a .y) _ add (c .before .match .keys1)
-    (c .add .ensures ∙ ap packed (sym (compute-add (signed (a .x)) (signed (a .y)))))
+    calculated-as (a .code) (a .x) (a .y) _ add (c .before .match .keys1) (c .add .ensures)
 
 returns-2 : tie.Need-returns-2
+unfolding compute
 returns-2 c =
     let a = c .before .before .args in
-    calculated-as (a .code) (a .x) (a .y) _ sub (c .before .match .keys2)
-    (c .sub .ensures ∙ ap packed (sym (compute-sub (signed (a .x)) (signed (a .y)))))
+    calculated-as (a .code) (a .x) (a .y) _ sub (c .before .match .keys2) (c .sub .ensures)
 
 returns-3 : tie.Need-returns-3
+unfolding compute
 returns-3 c =
     let a = c .before .before .args in
-    calculated-as (a .code) (a .x) (a .y) _ mul (c .before .match .keys3)
-    (c .mul .ensures ∙ ap packed (sym (compute-mul (signed (a .x)) (signed (a .y)))))
+    calculated-as (a .code) (a .x) (a .y) _ mul (c .before .match .keys3) (c .mul .ensures)
 
 returns-4 : tie.Need-returns-4
+unfolding compute
 returns-4 c =
     let a = c .before .before .args in
-    calculated-as (a .code) (a .x) (a .y) _ div (c .before .match .keys4)
-    (c .quotient .ensures ∙ ap packed (sym (compute-div (signed (a .x)) (signed (a .y)))))
+    calculated-as (a .code) (a .x) (a .y) _ div (c .before .match .keys4) (c .quotient .ensures)
 
 returns-5 : tie.Need-returns-5
+unfolding compute
 returns-5 c =
     let a = c .before .before .args in
     let others = c .before .match .rest in
-    calculated-last (a .code) (a .x) (a .y) _ (others .0 .0 .0 .1) (others .0 .0 .1) (others .0 .1) (others .1)
-    (c .remainder .ensures ∙ ap packed (sym (compute-modulo (signed (a .x)) (signed (a .y)))))
+    calculated-last (a .code) (a .x) (a .y) _ (others .0 .0 .0 .1) (others .0 .0 .1) (others .0 .1) (others .1) (c .remainder .ensures)
 
 pub calculated-spec : {M : Type 1} → statement M
 calculated-spec =
