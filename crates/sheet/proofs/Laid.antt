@@ -126,7 +126,7 @@ laid ts w h =
 -- ---- a subtree among the tokens
 
 module _ (w : Words) where
-  skip : (xs rest : List Token) (i : ℕ) → Along (Entry w) i (xs ++ rest) → Along (Entry w) (i + length xs) rest
+  pub skip : (xs rest : List Token) (i : ℕ) → Along (Entry w) i (xs ++ rest) → Along (Entry w) (i + length xs) rest
   unfolding Along
   skip [] rest i a = rw add-zero a
   skip (x ∷ xs) rest i a =

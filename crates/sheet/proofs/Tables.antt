@@ -1,12 +1,15 @@
--- What the tables of a sheet hold: its formula from token 0 on, the given values and no others, the arrays' first cells; every other word
--- is zero. Assumes nothing.
-use Prim.Native.Nat.{ℕ, suc, _+_, _*_, _≤_, _<_}
+-- What the tables hold. A list of tokens: a formula among them, from its first token on. A sheet: its formula from token 0 on, the given
+-- values and no others, the arrays' first cells; every other word is zero. Assumes nothing.
+use Prim.Native.Nat.{ℕ, suc, _+_, _≤_, _<_}
 use native.Mathlib.Numerals.{add-one}
 use native.Mathlib.Omega.{arith}
 use mathlib.Core.Path.{_≡_, sym, _∙_, subst}
 use mathlib.Core.Logic.{_≢_}
-use mathlib.Core.List.{[], append-nil}
-use lib.ListN.{length, getD, replicate, length-replicate}
+use mathlib.Core.List.{List, [], _++_, append-nil}
+use lib.ListN.{length, getD, replicate, length-replicate, length-append}
+use Rattle.specification.specs.Lines.{Declared}
+use Rattle.specification.specs.Given.{Item}
+use Rattle.specification.specs.Ast.{Formula}
 use Rattle.specification.specs.Sheet.{Sheet}
 use Rattle.specification.specs.Place.{cell}
 use Rattle.specification.specs.Value.{Slot, empty, full}
@@ -15,52 +18,69 @@ use Rattle.specification.specs.Outcome.{start}
 use Rattle.specification.proofs.Laws.Lists.{each-map}
 use Rattle.specification.proofs.Laws.Start.{start-local}
 use Rattle.tables.specs.Layout.{maxTokens, maxCells, maxArrays, cellSlot, localSlot, firstSlot, tokenSlot, cellsAt, localsAt, firstsAt, duesAt, pathAt}
+use Rattle.sheet.specs.declared.Token.{Token}
 use Rattle.sheet.specs.Codes.{formulaTokens}
-use Rattle.sheet.specs.Tables.{Words, laidArrays, laidGiven, laidTokens, tables}
+use Rattle.sheet.specs.Tables.{Words, laidArrays, laidGiven, laidTokens, tablesOf, sheetTokens, tables}
 use Rattle.sheet.specs.Held.{FormulaAt, SlotAt, Holds, ArraysAt}
-use Rattle.sheet.specs.Numbered.{formulaSize, Numbered}
-use Rattle.sheet.proofs.Laid.{tokens-other, ends-other, tokens-length, ends-length, Along, Entry, laid}
+use Rattle.sheet.specs.Numbered.{Numbered}
+use Rattle.sheet.proofs.Laid.{tokens-other, ends-other, tokens-length, ends-length, Along, Entry, laid, skip}
 use Rattle.sheet.proofs.Held.{formula-at}
 use Rattle.sheet.proofs.Regions.{zeros, firsts-length, firsts-other, firsts-at, given-length, given-other, isFull, wordOf, CellWords, given-at}
 
-module _ (s : Sheet) (n : ℕ) (enough : pathAt ≤ n) (few : formulaSize (s .formula) ≤ maxTokens) where
-  -- arrays and given values, without tokens
+-- arrays and given values, without tokens
+abbrev arrayed : Declared → ℕ → Words
+arrayed D n = laidArrays D (replicate n 0)
+
+abbrev valued : Declared → List Item → ℕ → Words
+valued D is n = laidGiven is (arrayed D n)
+
+arrayed-length : (D : Declared) (n : ℕ) → length (arrayed D n) ≡ n
+unfolding laidArrays
+arrayed-length D n = firsts-length D 0 (suc maxArrays) (replicate n 0) ∙ length-replicate n 0
+
+valued-length : (D : Declared) (is : List Item) (n : ℕ) → length (valued D is n) ≡ n
+valued-length D is n = given-length is (arrayed D n) ∙ arrayed-length D n
+
+-- ---- a formula among the tokens
+
+-- stands from its first token on, if it carries the numbers of its tokens there
+pub formula-held : (D : Declared) (is : List Item) (xs : List Token) (F : Formula) (rest : List Token) (n : ℕ) → pathAt ≤ n →
+    length (xs ++ (formulaTokens F ++ rest)) ≤ maxTokens → Numbered (length xs) F → FormulaAt (tablesOf D is (xs ++ (formulaTokens F ++ rest)) n) (length xs) F
+formula-held D is xs F rest n enough few h =
+    let ts = xs ++ (formulaTokens F ++ rest) in
+    let w = tablesOf D is ts n in
+    let a = skip w xs (formulaTokens F ++ rest) 0 (laid ts (valued D is n) (omega (arith, valued-length D is n))) in
+    let e : 0 + length xs ≡ length xs = omega arith in
+    formula-at w F rest (length xs) (subst (λ j. Along (Entry w) j (formulaTokens F ++ rest)) e a) h
+    (omega (arith, length-append xs (formulaTokens F ++ rest), length-append (formulaTokens F) rest))
+
+module _ (s : Sheet) (n : ℕ) (enough : pathAt ≤ n) (few : length (sheetTokens s) ≤ maxTokens) where
   abbrev under : Words
-  under = laidArrays (s .declared) (replicate n 0)
+  under = arrayed (s .declared) n
 
   abbrev base : Words
-  base = laidGiven (s .given) under
-
-  under-length : length under ≡ n
-  unfolding laidArrays
-  under-length = firsts-length (s .declared) 0 (suc maxArrays) (replicate n 0) ∙ length-replicate n 0
-
-  base-length : length base ≡ n
-  base-length = given-length (s .given) under ∙ under-length
+  base = valued (s .declared) (s .given) n
 
   pub tables-length : length (tables s n) ≡ n
   unfolding tables
   tables-length =
-      let ts = formulaTokens (s .formula) in
-      ends-length 0 ts (laidTokens 0 ts base) ∙ tokens-length 0 ts base ∙ base-length
-
-  -- ---- the formula
+      let ts = sheetTokens s in
+      ends-length 0 ts (laidTokens 0 ts base) ∙ tokens-length 0 ts base ∙ valued-length (s .declared) (s .given) n
 
   pub held : Numbered 0 (s .formula) → FormulaAt (tables s n) 0 (s .formula)
   unfolding tables
   held h =
-      let ts = formulaTokens (s .formula) in
-      let a = subst (Along (Entry (tables s n)) 0) (sym (append-nil ts)) (laid ts base (omega (arith, base-length))) in
-      formula-at (tables s n) (s .formula) [] 0 a h (omega arith)
+      let e : sheetTokens s ++ [] ≡ sheetTokens s = append-nil (sheetTokens s) in
+      rw e at (formula-held (s .declared) (s .given) [] (s .formula) [] n enough (rw e few) h)
 
   -- ---- values and arrays
 
   -- beside the words of the tokens
-  beside : (j : ℕ) → ((m : ℕ) → m < formulaSize (s .formula) → (j ≢ tokenSlot m) × (j ≢ tokenSlot m + 1) × (j ≢ tokenSlot m + 2)) →
+  beside : (j : ℕ) → ((m : ℕ) → m < length (sheetTokens s) → (j ≢ tokenSlot m) × (j ≢ tokenSlot m + 1) × (j ≢ tokenSlot m + 2)) →
       getD (tables s n) j 0 ≡ getD base j 0
   unfolding tables
   beside j h =
-      let ts = formulaTokens (s .formula) in
+      let ts = sheetTokens s in
       ends-other j 0 ts (laidTokens 0 ts base) (λ m x y. h m (omega arith) .2) ∙
       tokens-other j 0 ts base (λ m x y. let k = h m (omega arith) in (k .0, k .1))
 
@@ -88,7 +108,7 @@ module _ (s : Sheet) (n : ℕ) (enough : pathAt ≤ n) (few : formulaSize (s .fo
     pub cells-held : (c : ℕ) → c < maxCells → CellWords c (tables s n) (start (s .given) (cell c))
     unfolding laidArrays
     cells-held c h =
-        let g = given-at c 0 (s .given) under (ok .rising) h (omega (arith, under-length)) (
+        let g = given-at c 0 (s .given) under (ok .rising) h (omega (arith, arrayed-length (s .declared) n)) (
           firsts-other (s .declared) (cellSlot c) 0 (suc maxArrays) (replicate n 0) (λ m x y. omega arith) ∙ zeros n (cellSlot c),
           firsts-other (s .declared) (cellSlot c + 1) 0 (suc maxArrays) (replicate n 0) (λ m x y. omega arith) ∙ zeros n (cellSlot c + 1),
         ) in

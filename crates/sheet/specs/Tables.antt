@@ -1,11 +1,5 @@
--- The tables that the reader leaves in the work words:
---   0     4 words a token: code, operand, end of its subtree, spare
---   4096  2 words a cell: 1 where it has a value, and the value's word
---   5120  2 words a local, zero
---   5184  the first cell of each of 16 arrays, and the end of the cells after the last
---   5201  387 words for what is due while the formula is read, zero afterwards
---   5588  spare, zero, up to 6144; and the words of the path, zero
--- Assumes nothing.
+-- The tables that the reader leaves in the work words (tables/specs/Layout.antt has the layout): tokens with the ends of their subtrees, the
+-- cells' given values, and the arrays' first cells; every other word is zero. Assumes nothing.
 use Prim.Native.Nat.{ℕ, zero, suc, _+_, _-_}
 use mathlib.Core.List.{List, [], _∷_}
 use lib.ListN.{length, set, replicate}
@@ -53,9 +47,15 @@ unfoldable pub laidEnds : ℕ → List Token → Words → Words
 laidEnds i [] w = w
 laidEnds i (t ∷ ts) w = laidEnds (suc i) ts (set w (tokenSlot i + 2) (suc i + length ts - length (after ts (arity (t .code)))))
 
--- ---- a sheet's tables, over so many work words
+-- ---- the tables, over so many work words
+
+-- of what is declared, the given items and a list of tokens
+abbrev pub tablesOf : Declared → List Item → List Token → ℕ → Words
+tablesOf D is ts n = laidEnds 0 ts (laidTokens 0 ts (laidGiven is (laidArrays D (replicate n 0))))
+
+-- the tokens of a sheet
+abbrev pub sheetTokens : Sheet → List Token
+sheetTokens s = formulaTokens (s .formula)
 
 unfoldable pub tables : Sheet → ℕ → Words
-tables s n =
-    let ts = formulaTokens (s .formula) in
-    laidEnds 0 ts (laidTokens 0 ts (laidGiven (s .given) (laidArrays (s .declared) (replicate n 0))))
+tables s n = tablesOf (s .declared) (s .given) (sheetTokens s) n
