@@ -1,19 +1,16 @@
 -- A sheet that is read: the first five lines read no token, so that its formula's tokens count from 0, and the tables hold the sheet.
 -- Assumes nothing.
-use Prim.Native.Nat.{ℕ, zero, suc, _-_, _≤_}
+use Prim.Native.Nat.{ℕ, _≤_}
 use native.Mathlib.Omega.{arith}
 use mathlib.Core.Path.{_≡_, refl}
 use mathlib.Core.Bool.{Bool}
 use mathlib.Core.List.{[]}
-use lib.Dec.{leb}
-use Rattle.specification.specs.Bytes.{Bytes, Class, bytes, between, feed, comma, colon, point, inNumber, begins}
-use Rattle.specification.specs.Number.{natural, integer, in32}
-use Rattle.specification.specs.Parser.{Reader, found, Parser, give, _>>_, next, mark, exactly, taken, finish}
-use Rattle.specification.specs.Lines.{index, count, value, line, Declared, lengths, arraysLine, isDeclared, cellOf}
-use Rattle.specification.specs.Given.{scalarName, elementName, name, item, items, givenLine}
+use Rattle.specification.specs.Bytes.{Bytes, Class, feed, begins}
+use Rattle.specification.specs.Parser.{Reader, found, Parser, next, mark, exactly, taken, finish}
 use Rattle.specification.specs.Sheet.{Sheet, sheet, opened, read}
 use Rattle.specification.specs.Outcome.{start}
-use Rattle.specification.proofs.Laws.Parser.{Post, refusal, holds, of-found, bind-post, after, require-post, present-post, choose-post, pick-post}
+use Rattle.specification.proofs.Laws.Parser.{Post, refusal, holds, of-found, bind-post, after, pick-post}
+use Rattle.specification.proofs.Laws.LineReaders.{Composed}
 use Rattle.specification.proofs.Laws.SheetLines.{sheet-by}
 use Rattle.specification.proofs.Laws.ReadSheet.{read-well-formed}
 use Rattle.tables.specs.Layout.{pathAt}
@@ -44,87 +41,18 @@ taken-stays : (f : ℕ → Bool) → Stays (taken f)
 unfolding taken
 taken-stays f r h = holds h
 
--- ---- the first four lines
-
-index-stays : Stays index
-unfolding index
-index-stays r h = bind-post (taken-stays inNumber r h) λ bs r₁ h₁. present-post 4 (r .place) (natural bs) r₁ tt (λ n e. h₁)
-
-count-stays : (lo hi : ℕ) → Stays (count lo hi)
-unfolding count
-count-stays lo hi r h = bind-post (index-stays r h) λ n r₁ h₁. require-post (between lo hi n) _ _ _ _ tt λ e. holds h₁
-
-line-stays : (k : Bytes) (lo hi : ℕ) → Stays (line k lo hi)
-unfolding line
-line-stays k lo hi r h =
-    bind-post (exactly-stays 3 k r h) λ u r₁ h₁.
-    bind-post (count-stays lo hi r₁ h₁) λ n r₂ h₂.
-    bind-post (mark-stays feed r₂ h₂) λ u r₃ h₃. holds h₃
-
-lengths-stays : (k left : ℕ) → Stays (lengths k left)
-unfolding lengths
-lengths-stays zero left r h = refusal tt
-lengths-stays (suc k) left r h =
-    bind-post (count-stays 1 left r h) λ n r₁ h₁.
-    bind-post
-    (choose-post (next comma (r₁ .rest)) (mark comma >> lengths k (left - n)) (give []) r₁
-    (bind-post (mark-stays comma r₁ h₁) λ u r₂ h₂. lengths-stays k (left - n) r₂ h₂) (holds h₁)) λ ns r₂ h₂.
-    holds h₂
-
-arrays-stay : (scalars : ℕ) → Stays (arraysLine scalars)
-unfolding arraysLine
-arrays-stay scalars r h =
-    bind-post (exactly-stays 3 (bytes "arrays=") r h) λ u r₁ h₁.
-    bind-post
-    (choose-post (next feed (r₁ .rest)) (give []) (lengths 16 (512 - scalars)) r₁
-    (holds h₁) (lengths-stays 16 (512 - scalars) r₁ h₁)) λ ns r₂ h₂.
-    bind-post (mark-stays feed r₂ h₂) λ u r₃ h₃. holds h₃
-
--- ---- the given items
-
-value-stays : Stays value
-unfolding value
-value-stays r h =
-    bind-post (taken-stays inNumber r h) λ bs r₁ h₁.
-    bind-post (present-post 4 (r .place) (integer bs) r₁ tt (λ z e. h₁)) λ z r₂ h₂.
-    require-post (in32 z) _ _ _ _ tt λ e. holds h₂
-
-name-stays : Stays name
-unfolding name scalarName elementName
-name-stays r h =
-    choose-post (begins (bytes "v") (r .rest)) scalarName elementName r
-    (bind-post (exactly-stays 5 (bytes "v") r h) λ u r₁ h₁. bind-post (index-stays r₁ h₁) λ n r₂ h₂. holds h₂)
-    (bind-post (exactly-stays 5 (bytes "a") r h) λ u r₁ h₁.
-    bind-post (index-stays r₁ h₁) λ a r₂ h₂.
-    bind-post (mark-stays point r₂ h₂) λ u r₃ h₃.
-    bind-post (index-stays r₃ h₃) λ e r₄ h₄. holds h₄)
-
-module _ (D : Declared) where
-  item-stays : (floor : ℕ) → Stays (item D floor)
-  unfolding item
-  item-stays floor r h =
-      bind-post (name-stays r h) λ n r₁ h₁.
-      bind-post (mark-stays colon r₁ h₁) λ u r₂ h₂.
-      bind-post (value-stays r₂ h₂) λ z r₃ h₃.
-      require-post (isDeclared D n) _ _ _ _ tt λ d.
-      require-post (leb floor (cellOf D n)) _ _ _ _ tt λ e. holds h₃
-
-  items-stay : (k floor : ℕ) → Stays (items D k floor)
-  unfolding items
-  items-stay zero floor r h = bind-post (item-stays floor r h) λ x r₁ h₁. holds h₁
-  items-stay (suc k) floor r h =
-      bind-post (item-stays floor r h) λ x r₁ h₁.
-      bind-post
-      (choose-post (next comma (r₁ .rest)) (mark comma >> items D k (suc (x .cell))) (give []) r₁
-      (bind-post (mark-stays comma r₁ h₁) λ u r₂ h₂. items-stay k (suc (x .cell)) r₂ h₂) (holds h₁)) λ xs r₂ h₂.
-      holds h₂
-
-  given-stays : Stays (givenLine D)
-  unfolding givenLine
-  given-stays r h =
-      bind-post (exactly-stays 3 (bytes "given=") r h) λ u r₁ h₁.
-      bind-post (choose-post (next feed (r₁ .rest)) (give []) (items D 512 0) r₁ (holds h₁) (items-stay 512 0 r₁ h₁)) λ is r₂ h₂.
-      bind-post (mark-stays feed r₂ h₂) λ u r₃ h₃. holds h₃
+stays-composed : Composed (λ p. Unit {0}) (λ A m. Stays m)
+stays-composed = record {
+  give = λ A a r h. holds h;
+  refuse = λ A n p t i r h. refusal tt;
+  bind = λ A B m f h k r i. bind-post (h r i) λ a r₁ i₁. k a r₁ i₁;
+  here = λ B f k r h. k (r .place) tt r h;
+  sees = λ c r h. holds h;
+  spells = λ k r h. holds h;
+  mark = mark-stays;
+  exactly = λ n k t. exactly-stays n k;
+  taken = taken-stays;
+}
 
 -- ---- the whole sheet
 
@@ -138,8 +66,7 @@ Counts m = (r : Reader) → Fresh r → Post (λ s r′. FromZero s) (m r)
 
 sheet-counts : Counts sheet
 sheet-counts =
-    sheet-by (λ A m. Stays m) Counts (λ A m f h k r i. bind-post (h r i) λ a r₁ i₁. k a r₁ i₁)
-    (record { number = line-stays; arrays = arrays-stay; given = given-stays; start = exactly-stays 3 })
+    sheet-by stays-composed Counts (λ A m f h k r i. bind-post (h r i) λ a r₁ i₁. k a r₁ i₁)
     (λ D is r h.
     bind-post (formula-counts D 64 [] r) λ F r₁ c.
     after (mark feed r₁) λ u r₂.

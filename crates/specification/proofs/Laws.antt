@@ -12,6 +12,8 @@ pub mod Scope
 pub mod Elements
 pub mod Allowed
 pub mod Parser
+pub mod LineReaders
+pub mod FormulaReaders
 pub mod SheetLines
 pub mod ReadLines
 pub mod ReadGiven
@@ -21,11 +23,8 @@ pub mod ReadTerm
 pub mod ReadFormula
 pub mod ReadSheet
 pub mod Bounds
-pub mod BoundsLines
 pub mod ReadBounds
 pub mod Steady
-pub mod SteadyLines
-pub mod SteadyFormula
 -- of the tree and the plain reading
 pub mod Place
 pub mod Range

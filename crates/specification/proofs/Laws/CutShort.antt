@@ -7,15 +7,17 @@ use native.Mathlib.Nat.{zero-add, add-zero}
 use mathlib.Core.Path.{_≡_, refl, _∙_, ap}
 use mathlib.Core.List.{[], _∷_, _++_}
 use lib.ListN.{length}
-use Rattle.specification.specs.Bytes.{Bytes, feed}
+use Rattle.specification.specs.Bytes.{Bytes, feed, inToken}
 use Rattle.specification.specs.Parser.{Reader, Read, refused, found, Parser, give, _>>_, andThen, mark, finish}
+use Rattle.specification.specs.Words.{wordOf}
+use Rattle.specification.specs.Formula.{token}
 use Rattle.specification.specs.Sheet.{Sheet, sheet, opened, read}
 use Rattle.specification.proofs.Laws.Contradiction.{contradiction}
 use Rattle.specification.proofs.Laws.Parser.{Post, refusal as refused-post, holds, of-found, bind-post}
+use Rattle.specification.proofs.Laws.LineReaders.{Composed}
+use Rattle.specification.proofs.Laws.FormulaReaders.{Tokened, formula-by}
 use Rattle.specification.proofs.Laws.SheetLines.{sheet-by}
-use Rattle.specification.proofs.Laws.Steady.{Left, withRest, end, extended, Alike, Steady, post-map, mark-always, exactly-steady}
-use Rattle.specification.proofs.Laws.SteadyLines.{line-steady, arrays-steady, given-steady}
-use Rattle.specification.proofs.Laws.SteadyFormula.{formula-steady}
+use Rattle.specification.proofs.Laws.Steady.{Left, withRest, end, extended, Alike, Steady, give-steady, present-steady, bind-steady, post-map, sees-steady, spells-steady, numbered-steady, bind-local-steady, mark-always, mark-steady, exactly-steady, taken-steady}
 
 -- ---- a sheet that goes on after its end
 
@@ -51,11 +53,37 @@ module _ (q : Bytes) (more : Left q) where
       post-map (finish-over a r₁) λ b r₂ g.
       record { left = s .left; over = ap (andThen (λ u. finish >> give a)) (s .same) ∙ g ∙ ap (refused 5) (s .sheet) }
 
+  steady-composed : Composed (λ p. Unit {0}) (λ A m. Steady q m)
+  steady-composed = record {
+    give = λ A a. give-steady a;
+    refuse = λ A n p t h r. refused-post tt;
+    bind = λ A B m f h k r. bind-steady (h r) k;
+    here = λ B f h r. h (r .place) tt r;
+    sees = sees-steady;
+    spells = spells-steady;
+    mark = mark-steady;
+    exactly = λ n k t. exactly-steady n k;
+    taken = taken-steady;
+  }
+
+  token-steady : (edition : ℕ) → Steady q (token edition)
+  unfolding token
+  token-steady edition r =
+      bind-steady (numbered-steady r) λ n r₁.
+      bind-steady (taken-steady inToken r₁) λ bs r₂.
+      bind-steady (present-steady 4 (r .place) (wordOf edition bs) r₂) λ w. give-steady _
+
+  steady-tokened : Tokened (λ p. Unit {0}) (λ A m. Steady q m)
+  steady-tokened = record {
+    composed = steady-composed;
+    token = λ edition B f k r. bind-steady (token-steady edition r) λ t. k t tt;
+    bind = λ p l h. bind-local-steady p l;
+  }
+
   sheet-over : (r : Reader) → Post (Over q r (sheet (extended q r))) (sheet r)
   sheet-over =
-      sheet-by (λ A m. Steady q m) (λ m. (r : Reader) → Post (Over q r (m (extended q r))) (m r)) (λ A m f h k r. bind-over (h r) k)
-      (record { number = line-steady; arrays = arrays-steady; given = given-steady; start = exactly-steady 3 })
-      (λ D is r. bind-over (formula-steady D 64 [] r) λ F r₁. end-over _ r₁)
+      sheet-by steady-composed (λ m. (r : Reader) → Post (Over q r (m (extended q r))) (m r)) (λ A m f h k r. bind-over (h r) k)
+      (λ D is r. bind-over (formula-by steady-tokened D 64 [] r) λ F r₁. end-over _ r₁)
 
 -- ---- the laws
 

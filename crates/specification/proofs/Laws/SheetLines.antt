@@ -1,6 +1,6 @@
 -- The sheet's lines in their order, for every law about whole sheets: a line of the notation is added to `sheet` and here, and elsewhere
--- only where its own facts are wanted. `Lines` and `sheet-lines` tell what was read, line by line; `EachLine` and `sheet-by` put together
--- what is proved of each line's reader, of refusals too. Assumes nothing.
+-- only where its own facts are wanted. `Lines` and `sheet-lines` tell what was read, line by line; `sheet-by` puts together what holds of
+-- each line's reader (LineReaders), of refusals too. Assumes nothing.
 use Prim.Native.Nat.{ℕ}
 use mathlib.Core.Path.{_≡_, refl}
 use mathlib.Core.List.{List, []}
@@ -11,6 +11,7 @@ use Rattle.specification.specs.Given.{Item, givenLine}
 use Rattle.specification.specs.Formula.{formula}
 use Rattle.specification.specs.Sheet.{Sheet, sheet}
 use Rattle.specification.proofs.Laws.Parser.{Post, refusal, holds, of-found}
+use Rattle.specification.proofs.Laws.LineReaders.{Composed, line-by, arrays-by, given-by}
 
 -- ---- what was read
 
@@ -66,28 +67,21 @@ sheet-lines {r} e = of-found (sheet-known r) e
 
 -- ---- what every line has
 
--- Q of each reader of a line before the formula
-pub record EachLine (Q : (A : Type 0) → Parser A → Type 0) : Type 0 where
-  pub number : (k : Bytes) (lo hi : ℕ) → Q ℕ (line k lo hi)
-  pub arrays : (scalars : ℕ) → Q (List ℕ) (arraysLine scalars)
-  pub given : (D : Declared) → Q (List Item) (givenLine D)
-  pub start : (k : Bytes) → Q (Unit {0}) (key k)
-
 -- from the formula's first token on
 abbrev pub fromFormula : Declared → List Item → Parser Sheet
 fromFormula D is =
     formula D 64 [] >>= λ F. mark feed >> (finish >> give (record { declared = D; given = is; formula = F }))
 
--- W of the whole sheet: it goes back over a line that has Q, and holds from the formula on
-module _ (Q : (A : Type 0) → Parser A → Type 0) (W : Parser Sheet → Type 0)
+-- W of the whole sheet: it goes back over each line that has Q, and holds from the formula on
+module _ {P : ℕ → Type 0} {Q : (A : Type 0) → Parser A → Type 0} (c : Composed P Q) (W : Parser Sheet → Type 0)
     (back : (A : Type 0) (m : Parser A) (f : A → Parser Sheet) → Q A m → ((a : A) → W (f a)) → W (m >>= f)) where
-  pub sheet-by : EachLine Q → ((D : Declared) (is : List Item) → W (fromFormula D is)) → W sheet
+  pub sheet-by : ((D : Declared) (is : List Item) → W (fromFormula D is)) → W sheet
   unfolding sheet
-  sheet-by each rest =
-      back _ _ _ (each .number (bytes "edition=") 1 1) λ edition.
-      back _ _ _ (each .number (bytes "scalars=") 0 64) λ scalars.
-      back _ _ _ (each .number (bytes "locals=") 0 32) λ locals.
-      back _ _ _ (each .arrays scalars) λ arrays.
+  sheet-by rest =
+      back _ _ _ (line-by c (bytes "edition=") 1 1) λ edition.
+      back _ _ _ (line-by c (bytes "scalars=") 0 64) λ scalars.
+      back _ _ _ (line-by c (bytes "locals=") 0 32) λ locals.
+      back _ _ _ (arrays-by c scalars) λ arrays.
       let D : Declared = record { edition = edition; scalars = scalars; locals = locals; arrays = arrays } in
-      back _ _ _ (each .given D) λ given.
-      back _ _ _ (each .start (bytes "formula=")) λ u. rest D given
+      back _ _ _ (given-by c D) λ given.
+      back _ _ _ (c .exactly 3 (bytes "formula=") refl) λ u. rest D given

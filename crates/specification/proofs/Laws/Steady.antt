@@ -1,7 +1,7 @@
 -- Steady readers. A reader is steady if, wherever it reads from the beginning p of the bytes p ++ q and leaves a byte of p unread, it reads
 -- the same from all of p ++ q. First the notion (Same, Alike, Steady), then a law for each way to put readers together, then the readers that
--- others are put together from. The lines are in SteadyLines, the formula in SteadyFormula; the end of a sheet, which is not steady, is in
--- CutShort. Assumes nothing.
+-- others are put together from. What is put together from them is steady by LineReaders and FormulaReaders; the end of a sheet, which is not
+-- steady, is in CutShort. Assumes nothing.
 use Prim.Native.Nat.{ℕ, zero, suc, _+_, _<_}
 use native.Mathlib.Omega.{arith}
 use mathlib.Core.Path.{_≡_, refl, _∙_, ap}
@@ -11,7 +11,7 @@ use mathlib.Core.Option.{Option, none, some}
 use lib.ListN.{length, drop, length-drop}
 use lib.Dec.{eqb, ltb}
 use Rattle.specification.specs.Bytes.{Bytes, Class, pick, run, begins}
-use Rattle.specification.specs.Parser.{Reader, Read, found, Parser, give, require, present, andThen, past, next, sees, spells, mark, exactly, taken}
+use Rattle.specification.specs.Parser.{Reader, Read, found, Parser, give, present, andThen, past, next, sees, spells, mark, exactly, taken}
 use Rattle.specification.specs.Formula.{numbered, has, bind}
 use Rattle.specification.proofs.Laws.Contradiction.{contradiction}
 use Rattle.specification.proofs.Laws.Parser.{and-true, Post, refusal, holds, bind-post, pick-post}
@@ -88,18 +88,9 @@ module _ {q : Bytes} {A : Type 0} where
   pub give-steady : (a : A) → Steady q (give a)
   give-steady a r = holds unread
 
-  pub require-steady : (b : Bool) (n p : ℕ) {m : Parser A} → Steady q m → Steady q (require b n p m)
-  require-steady true n p h r = h r
-  require-steady false n p h r = refusal tt
-
   pub present-steady : (n p : ℕ) (o : Option A) → Steady q (present n p o)
   present-steady n p none r = refusal tt
   present-steady n p (some a) r = give-steady a r
-
-  -- of two readers
-  pub choose-steady : (b : Bool) {m n : Parser A} → Steady q m → Steady q n → Steady q (pick b m n)
-  choose-steady true h k r = h r
-  choose-steady false h k r = k r
 
   -- of two readings, by one test
   pick-steady : (b : Bool) {r : Reader} {x x′ y y′ : Read A} → Post (Alike q r x′) x → Post (Alike q r y′) y →

@@ -1,0 +1,115 @@
+-- What holds of the readers that others are put together from (LineReaders), of a token and of noting a binder, holds of the formula's reader:
+-- a law for each reader of specs/Formula.antt, in their order. Assumes nothing.
+use Prim.Native.Nat.{ℕ, zero, suc}
+use mathlib.Core.Path.{refl}
+use mathlib.Core.List.{_∷_}
+use lib.ListN.{length}
+use lib.Dec.{ltb}
+use Rattle.specification.specs.Bytes.{space}
+use Rattle.specification.specs.Parser.{Parser, give, refuse, _>>=_, here}
+use Rattle.specification.specs.Lines.{Declared}
+use Rattle.specification.specs.Ast.{Term, constant, scalarAt, localAt, elementAt, apply, Formula, truth, and, or, imp, neg, eq, compare, ex, some, all}
+use Rattle.specification.specs.Words.{FormulaWord, trueWord, andWord, orWord, impWord, notWord, eqWord, exWord, someWord, allWord, relWord, TermWord, constantWord, scalarWord, localWord, arrayWord, opWord, Word, formulaWord, termWord, unknown}
+use Rattle.specification.specs.Formula.{Token, token, operand, tooDeep, Locals, has, bind, binderOf, binderWith, binder, termOf, termWith, term, formulaOf, formulaWith, formula}
+use Rattle.specification.proofs.Laws.LineReaders.{Composed, then, require-by}
+
+-- a token begins at a place that is read from
+pub record Tokened (P : ℕ → Type 0) (Q : (A : Type 0) → Parser A → Type 0) : Type 1 where
+  pub composed : Composed P Q
+  pub token : (edition : ℕ) (B : Type 0) (f : Token → Parser B) → ((t : Token) → P (t .place) → Q B (f t)) → Q B (token edition >>= f)
+  pub bind : (p l : ℕ) → P p → Q ℕ (bind p l)
+
+module _ {P : ℕ → Type 0} {Q : (A : Type 0) → Parser A → Type 0} (k : Tokened P Q) where
+  abbrev c : Composed P Q
+  c = k .composed
+
+  -- ---- operands, and nesting 65
+
+  module _ {A : Type 0} {p : Parser A} (h : Q A p) where
+    operand-by : Q A (operand p)
+    operand-by = then c (c .mark space) λ u. h
+
+    -- two operands of one sort
+    two-by : {B : Type 0} (g : A → A → B) → Q B (operand p >>= λ x. operand p >>= λ y. give (g x y))
+    two-by {B} g = then c operand-by λ x. then c operand-by λ y. c .give B (g x y)
+
+  deep-by : (A : Type 0) → Q A tooDeep
+  deep-by A = c .here A (refuse 9) λ p i. c .refuse A 9 p refl i
+
+  -- ---- binders and terms
+
+  module _ (D : Declared) where
+    binder-of : (p : ℕ) (w : TermWord) → P p → Q ℕ (binderOf D p w)
+    binder-of p (localWord l) i = require-by c (ltb l (D .locals)) 7 p refl i (k .bind p l i)
+    binder-of p (constantWord z) i = c .refuse ℕ 6 p refl i
+    binder-of p (scalarWord n) i = c .refuse ℕ 6 p refl i
+    binder-of p (arrayWord a) i = c .refuse ℕ 6 p refl i
+    binder-of p (opWord o) i = c .refuse ℕ 6 p refl i
+
+    binder-with : (t : Token) (w : Word) → P (t .place) → Q ℕ (binderWith D t w)
+    binder-with t (termWord w) i = binder-of (t .place) w i
+    binder-with t (formulaWord w) i = c .refuse ℕ 6 (t .place) refl i
+    binder-with t unknown i = c .refuse ℕ 6 (t .place) refl i
+
+    binder-by : (n : ℕ) → Q ℕ (binder D n)
+    unfolding binder
+    binder-by zero = deep-by ℕ
+    binder-by (suc n) = k .token (D .edition) ℕ (λ t. binderWith D t (t .word)) λ t i. binder-with t (t .word) i
+
+    module _ (T′ : Parser Term) (h : Q Term T′) (S : Locals) where
+      term-of : (p : ℕ) (w : TermWord) → P p → Q Term (termOf D T′ S p w)
+      term-of p (constantWord z) i = c .give Term (constant z)
+      term-of p (scalarWord n) i = require-by c (ltb n (D .scalars)) 7 p refl i (c .give Term (scalarAt n))
+      term-of p (localWord l) i =
+          require-by c (ltb l (D .locals)) 7 p refl i (require-by c (has l S) 8 p refl i (c .give Term (localAt l)))
+      term-of p (arrayWord a) i =
+          require-by c (ltb a (length (D .arrays))) 7 p refl i (then c (operand-by h) λ t. c .give Term (elementAt a t))
+      term-of p (opWord o) i = two-by h (apply o)
+
+      term-with : (t : Token) (w : Word) → P (t .place) → Q Term (termWith D T′ S t w)
+      term-with t (termWord w) i = term-of (t .place) w i
+      term-with t (formulaWord w) i = c .refuse Term 6 (t .place) refl i
+      term-with t unknown i = c .refuse Term 6 (t .place) refl i
+
+    term-by : (n : ℕ) (S : Locals) → Q Term (term D n S)
+    unfolding term
+    term-by zero S = deep-by Term
+    term-by (suc n) S =
+        k .token (D .edition) Term (λ t. termWith D (λ r. term D n S r) S t (t .word)) λ t i.
+        term-with (λ r. term D n S r) (term-by n S) S t (t .word) i
+
+    -- ---- formulas
+
+    module _ (F : Locals → Parser Formula) (T′ : Parser Term) (L : Parser ℕ)
+        (f : (S : Locals) → Q Formula (F S)) (h : Q Term T′) (b : Q ℕ L) (S : Locals) where
+      quantified : (g : ℕ → Term → Term → Formula → Formula) →
+          Q Formula (operand L >>= λ l. operand T′ >>= λ x. operand T′ >>= λ y. operand (F (l ∷ S)) >>= λ z. give (g l x y z))
+      quantified g =
+          then c (operand-by b) λ l.
+          then c (operand-by h) λ x.
+          then c (operand-by h) λ y. then c (operand-by (f (l ∷ S))) λ z. c .give Formula (g l x y z)
+
+      formula-of : (n : ℕ) (w : FormulaWord) → Q Formula (formulaOf D F T′ L S n w)
+      formula-of n trueWord = c .give Formula truth
+      formula-of n andWord = two-by (f S) and
+      formula-of n orWord = two-by (f S) or
+      formula-of n impWord = two-by (f S) (imp n)
+      formula-of n notWord = then c (operand-by (f S)) λ x. c .give Formula (neg n x)
+      formula-of n eqWord = two-by h (eq n)
+      formula-of n (relWord r) = two-by h (compare n r)
+      formula-of n exWord = then c (operand-by b) λ l. then c (operand-by (f (l ∷ S))) λ x. c .give Formula (ex l x)
+      formula-of n someWord = quantified (some n)
+      formula-of n allWord = quantified (all n)
+
+      formula-with : (t : Token) (w : Word) → P (t .place) → Q Formula (formulaWith D F T′ L S t w)
+      formula-with t (formulaWord w) i = formula-of (t .number) w
+      formula-with t (termWord w) i = c .refuse Formula 6 (t .place) refl i
+      formula-with t unknown i = c .refuse Formula 6 (t .place) refl i
+
+    pub formula-by : (n : ℕ) (S : Locals) → Q Formula (formula D n S)
+    unfolding formula
+    formula-by zero S = deep-by Formula
+    formula-by (suc n) S =
+        k .token (D .edition) Formula (λ t. formulaWith D (λ S′ r. formula D n S′ r) (λ r. term D n S r) (λ r. binder D n r) S t (t .word)) λ t i.
+        formula-with (λ S′ r. formula D n S′ r) (λ r. term D n S r) (λ r. binder D n r)
+        (λ S′. formula-by n S′) (term-by n S) (binder-by n) S t (t .word) i
