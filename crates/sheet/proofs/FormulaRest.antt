@@ -22,7 +22,7 @@ use Rattle.sheet.specs.Codes.{formulaTokens}
 use Rattle.sheet.specs.Reader.{readerAt, lineAt}
 use Rattle.sheet.specs.Tables.{Words, laidEnds}
 use Rattle.sheet.specs.Ends.{tokensIn}
-use Rattle.sheet.specs.FormulaLine.{formulaRest, Counts, whole, Through, Scans, Laid}
+use Rattle.sheet.specs.FormulaLine.{formulaRest, Counts, Begin, begin, whole, Through, Scans, Laid}
 use Rattle.sheet.proofs.Left.{left-formula}
 use Rattle.sheet.proofs.Laid.{tokens-length, ends-length}
 use Rattle.sheet.proofs.Beside.{beside-ends}
@@ -49,6 +49,10 @@ found-back (found F r′) ts r e = record { formula = F; is = cc; tokens = cc }
 closing : Formula → Reader → Read Formula
 closing F = mark feed >> (finish >> give F)
 
+-- no token was read before it, and no local has a binder
+abbrev pub atStart : Bytes → Limits → ℕ → Begin
+atStart s l p = begin s l p 0 []
+
 module _ (s : Bytes) (at : ℕ) (D : Declared) where
   pub line-no-key : begins (bytes "formula=") (drop at s) ≡ false → formulaRest D (lineAt s at) ≡ refused 3 at
   unfolding formulaRest exactly
@@ -59,12 +63,12 @@ module _ (s : Bytes) (at : ℕ) (D : Declared) where
     unfolding formulaRest exactly closing
     line-key = rw (e, drop-drop)
 
-    pub line-refused : (k p : ℕ) → whole s (at + 8) D ≡ refused k p → formulaRest D (lineAt s at) ≡ refused k p
-    line-refused k p h =
+    pub line-refused : (l : Limits) (k p : ℕ) → whole (atStart s l (at + 8)) D ≡ refused k p → formulaRest D (lineAt s at) ≡ refused k p
+    line-refused l k p h =
         let x = formula D maxNesting [] (readerAt s (at + 8) 0 []) in
         line-key ∙ ap (andThen closing) (refused-back x k p (left-formula D (readerAt s (at + 8) 0 []) ∙ h))
 
-    module _ (ts : List Token) (c n : ℕ) (B : Locals) (h : whole s (at + 8) D ≡ found ts (readerAt s c n B)) where
+    module _ (l : Limits) (ts : List Token) (c n : ℕ) (B : Locals) (h : whole (atStart s l (at + 8)) D ≡ found ts (readerAt s c n B)) where
       read : Whole (formula D maxNesting [] (readerAt s (at + 8) 0 [])) ts (readerAt s c n B)
       read = found-back (formula D maxNesting [] (readerAt s (at + 8) 0 [])) ts (readerAt s c n B) (left-formula D (readerAt s (at + 8) 0 []) ∙ h)
 
@@ -85,20 +89,21 @@ module _ (s : Bytes) (at : ℕ) (D : Declared) where
 
 -- ---- the answers
 
-module _ (s : Bytes) (from : ℕ) (l : Limits) (w w′ : Words) (r : Scanned) where
-  pub scans-refused : (k p : ℕ) → r ≡ scanned.Refused k p → Scans s from l w w′ r → (length w′ ≡ length w) × ((D : Declared) → Counts l D → whole s from D ≡ refused k p)
+module _ (b : Begin) (w w′ : Words) (r : Scanned) where
+  pub scans-refused : (k p : ℕ) → r ≡ scanned.Refused k p → Scans b w w′ r → (length w′ ≡ length w) × ((D : Declared) → Counts (b .limits) D → whole b D ≡ refused k p)
   scans-refused k p q h = rw q at h
 
-  pub scans-read : (n e : ℕ) → r ≡ scanned.Read n e → Scans s from l w w′ r → Through s from l w w′ n e
-  scans-read n e q h = rw q at h
+  pub scans-read : (n e m : ℕ) → r ≡ scanned.Read n e m → Scans b w w′ r → Through b w w′ n e m
+  scans-read n e m q h = rw q at h
 
-module _ (at : ℕ) {s : Bytes} {l : Limits} {w w′ : Words} {n e : ℕ} (key : begins (bytes "formula=") (drop at s) ≡ true) (p : Through s (at + 8) l w w′ n e) where
+module _ (at : ℕ) {s : Bytes} {l : Limits} {w w′ : Words} {n e m : ℕ} (key : begins (bytes "formula=") (drop at s) ≡ true)
+    (p : Through (atStart s l (at + 8)) w w′ n e m) where
   module _ (D : Declared) (g : Counts l D) where
     pub through-no-feed : (classAt s e ≡ 4 → ⊥) → formulaRest D (lineAt s at) ≡ refused 5 e
-    through-no-feed q = line-no-feed s at D key (p .tokens) e n (p .locals) (p .all D g) q
+    through-no-feed q = line-no-feed s at D key l (p .tokens) e n (p .locals) (p .all D g) q
 
     pub through-more : classAt s e ≡ 4 → e + 1 < length s → formulaRest D (lineAt s at) ≡ refused 5 (e + 1)
-    through-more q h = line-more s at D key (p .tokens) e n (p .locals) (p .all D g) q h
+    through-more q h = line-more s at D key l (p .tokens) e n (p .locals) (p .all D g) q h
 
   pub through-long : length w′ ≡ length w
   through-long = p .words .long ∙ tokens-length 0 (p .tokens) w
@@ -107,14 +112,15 @@ module _ (at : ℕ) {s : Bytes} {l : Limits} {w w′ : Words} {n e : ℕ} (key :
       (D : Declared) → Counts l D → Laid s at D w w″ n
   through-end q h k w″ x D g =
       let ts = p .tokens in
-      let f = read s at D key ts e n (p .locals) (p .all D g) in
-      let y : tokensIn w′ 0 n ≡ ts = ap (tokensIn w′ 0) (sym (p .count)) ∙ beside-tokens-in ts w w′ (omega (arith, p .count, p .few)) k (p .words) in
+      let size : length ts ≡ n = omega (arith, p .count) in
+      let f = read s at D key l ts e n (p .locals) (p .all D g) in
+      let y : tokensIn w′ 0 n ≡ ts = ap (tokensIn w′ 0) (sym size) ∙ beside-tokens-in ts w w′ (omega (arith, p .count, p .few)) k (p .words) in
       let v : w″ ≡ laidEnds 0 ts w′ = x ∙ ap (λ xs. laidEnds 0 xs w′) y in
       record {
         formula = f .formula;
         after = past 1 (readerAt s e n (p .locals));
-        is = line-end s at D key ts e n (p .locals) (p .all D g) q h;
-        count = rw (f .tokens) (p .count);
+        is = line-end s at D key l ts e n (p .locals) (p .all D g) q h;
+        count = rw (f .tokens) size;
         few = p .few;
         long = ap length v ∙ ends-length 0 ts w′ ∙ through-long;
         words = rw (f .tokens, v) (beside-ends ts 0 (rw tokens-length (omega (arith, p .count, p .few))) (p .words));

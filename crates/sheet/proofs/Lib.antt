@@ -35,6 +35,7 @@ pub mod Entries
 pub mod Opened
 pub mod Faults
 pub mod Beside
+pub mod Loop
 pub mod Scan
 pub mod Subtrees
 pub mod FormulaRest

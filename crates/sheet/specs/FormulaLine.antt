@@ -1,6 +1,6 @@
 -- The formula's line, and what the code's answers say of it: a refusal, or the tokens laid in the table with the ends of their subtrees.
 -- Assumes nothing.
-use Prim.Native.Nat.{ℕ, _≤_}
+use Prim.Native.Nat.{ℕ, _+_, _≤_}
 use mathlib.Core.Path.{_≡_}
 use mathlib.Core.List.{List, []}
 use lib.ListN.{length, replicate}
@@ -65,23 +65,35 @@ Binds e t m m′ = (d : Due) (B : Locals) → Means e d → Bits m B → Bits m�
 
 -- ---- the tokens
 
--- the reading of the formula from a place on
-abbrev pub whole : Bytes → ℕ → Declared → Read (List Token)
-whole s from D = leftHere D (dueFormula maxNesting []) [] [] (readerAt s from 0 [])
+-- where a formula begins: the sheet and what is declared, the place, how many tokens were read before, and which locals have a binder
+pub record Begin : Type 0 where
+  pub bytes : Bytes
+  pub limits : Limits
+  pub from : ℕ
+  pub tokens : ℕ
+  pub bound : Locals
 
--- n tokens were read, up to the place e
-pub record Through (s : Bytes) (from : ℕ) (l : Limits) (w w′ : Words) (n e : ℕ) : Type 0 where
+abbrev pub begin : Bytes → Limits → ℕ → ℕ → Locals → Begin
+begin s l p n B = record { bytes = s; limits = l; from = p; tokens = n; bound = B }
+
+-- the reading of the formula from there on
+abbrev pub whole : Begin → Declared → Read (List Token)
+whole b D = leftHere D (dueFormula maxNesting []) [] [] (readerAt (b .bytes) (b .from) (b .tokens) (b .bound))
+
+-- it was read up to the place e: n tokens were read then, and the set m of locals have a binder
+pub record Through (b : Begin) (w w′ : Words) (n e m : ℕ) : Type 0 where
   pub tokens : List Token
   pub locals : Locals
-  pub count : length tokens ≡ n
+  pub count : b .tokens + length tokens ≡ n
   pub few : n ≤ maxTokens
-  pub within : e ≤ length s
-  pub words : Beside (laidTokens 0 tokens w) w′
-  pub all : (D : Declared) → Counts l D → whole s from D ≡ found tokens (readerAt s e n locals)
+  pub within : e ≤ length (b .bytes)
+  pub set : Bits m locals
+  pub words : Beside (laidTokens (b .tokens) tokens w) w′
+  pub all : (D : Declared) → Counts (b .limits) D → whole b D ≡ found tokens (readerAt (b .bytes) e n locals)
 
-abbrev pub Scans : Bytes → ℕ → Limits → Words → Words → Scanned → Type 0
-Scans s from l w w′ (scanned.Refused k p) = (length w′ ≡ length w) × ((D : Declared) → Counts l D → whole s from D ≡ refused k p)
-Scans s from l w w′ (scanned.Read n e) = Through s from l w w′ n e
+abbrev pub Scans : Begin → Words → Words → Scanned → Type 0
+Scans b w w′ (scanned.Refused k p) = (length w′ ≡ length w) × ((D : Declared) → Counts (b .limits) D → whole b D ≡ refused k p)
+Scans b w w′ (scanned.Read n e m) = Through b w w′ n e m
 
 -- ---- the line
 

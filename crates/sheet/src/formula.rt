@@ -5,12 +5,12 @@ ghost use lib.ListN.{length};
 ghost use Rattle.specification.specs.Bytes.{between};
 ghost use Rattle.specification.specs.Lines.{Declared};
 ghost use Rattle.specification.specs.Formula.{Locals};
-ghost use Rattle.tables.specs.Layout.{maxLocals, pathAt};
+ghost use Rattle.tables.specs.Layout.{maxTokens, maxLocals, pathAt};
 ghost use Rattle.sheet.specs.Sorts.{termSort};
 ghost use Rattle.sheet.specs.Dues.{Due};
 ghost use Rattle.sheet.specs.Turn.{suits, declared, placed, faultOf};
 ghost use Rattle.sheet.specs.Stack.{Bits, sortOf, Means};
-ghost use Rattle.sheet.specs.FormulaLine.{Small, Counts, counted, Refuses, Binds, Scans, LineRead};
+ghost use Rattle.sheet.specs.FormulaLine.{Small, Counts, counted, Refuses, Binds, begin, Scans, LineRead};
 use crate::Token;
 use crate::ends;
 use crate::lines;
@@ -34,10 +34,10 @@ pub(crate) enum Parsed {
     Read(u32),
 }
 
-// Its tokens: a refusal's number and place, or how many there are and the place after the last.
+// Its tokens: a refusal's number and place, or how many stand in the table, the place after the last, and the locals that have a binder.
 pub(crate) enum Scanned {
     Refused(u32, usize),
-    Read(u32, usize),
+    Read(u32, usize, u32),
 }
 
 // ---- one token
@@ -137,10 +137,11 @@ fn bound_after(e: Entry, t: Token, bound: u32) -> u32
 
 // ---- the tokens
 
-// The formula's tokens from a place on, into the table.
-fn scan(s: &[u8], from: usize, d: Limits, w: &mut [u32]) -> Scanned
-    requires { ⌜ (from ≤ length (now s)) × Small d × (pathAt ≤ length (now w)) ⌝ }
-    ensures { λ r. ⌜ Scans (now (s .entry)) from d (now (w .entry)) (now (w .exit)) r ⌝ }
+// The formula's tokens from a place on, into the table behind those that stand there, where some locals have a binder already.
+fn scan(s: &[u8], from: usize, d: Limits, tokens: u32, binders: u32, w: &mut [u32]) -> Scanned
+    requires { ⌜ (from ≤ length (now s)) × Small d × (pathAt ≤ length (now w)) × (tokens ≤ maxTokens) ⌝ }
+    ensures { λ r. ⌜ ((B : Locals) → Bits binders B
+        → Scans (begin (now (s .entry)) d from tokens B) (now (w .entry)) (now (w .exit)) r) ⌝ }
 {
     stack::put(
         w,
@@ -152,8 +153,8 @@ fn scan(s: &[u8], from: usize, d: Limits, w: &mut [u32]) -> Scanned
         },
     );
     let mut n: usize = 1;
-    let mut count: u32 = 0;
-    let mut bound: u32 = 0;
+    let mut count: u32 = tokens;
+    let mut bound: u32 = binders;
     let mut at = from;
     loop {
         let due = stack::get(w, n - 1);
@@ -168,7 +169,7 @@ fn scan(s: &[u8], from: usize, d: Limits, w: &mut [u32]) -> Scanned
         bound = bound_after(due, t, bound);
         n = stack::push(w, n - 1, due, t);
         if n == 0 {
-            return Scanned::Read(count, e);
+            return Scanned::Read(count, e, bound);
         }
         if text::class_at(s, e) != text::SPACE {
             return Scanned::Refused(5, e);
@@ -187,9 +188,9 @@ pub(crate) fn formula_line(s: &[u8], at: usize, d: Limits, w: &mut [u32]) -> Par
     if !lines::begins(s, at, b"formula=") {
         return Parsed::Refused(3, at);
     }
-    match scan(s, at + 8, d, w) {
+    match scan(s, at + 8, d, 0, 0, w) {
         Scanned::Refused(k, p) => Parsed::Refused(k, p),
-        Scanned::Read(n, e) => {
+        Scanned::Read(n, e, _) => {
             if text::class_at(s, e) != text::FEED {
                 return Parsed::Refused(5, e);
             }

@@ -3,6 +3,7 @@ use Prim.Native.Nat.{_+_, _≤_}
 use native.Mathlib.Omega.{arith}
 use mathlib.Core.Path.{_≡_, refl, _∙_, sym}
 use mathlib.Core.Bool.{true}
+use mathlib.Core.List.{[]}
 use lib.ListN.{length, drop, length-drop}
 use borrow.Author.Tests.{not-true, not-false}
 use Rattle.specification.specs.Bytes.{bytes, begins}
@@ -10,7 +11,8 @@ use Rattle.specification.specs.Parser.{refused}
 use Rattle.specification.specs.Lines.{Declared}
 use Rattle.sheet.specs.FormulaLine.{Counts, whole, Through}
 use Rattle.sheet.proofs.NumberLines.{begins-long}
-use Rattle.sheet.proofs.FormulaRest.{line-no-key, line-refused, scans-refused, scans-read, through-no-feed, through-more, through-long, through-end}
+use Rattle.sheet.proofs.Bits.{bits-none}
+use Rattle.sheet.proofs.FormulaRest.{atStart, line-no-key, line-refused, scans-refused, scans-read, through-no-feed, through-more, through-long, through-end}
 use borrow.Author.Needs.{needs}
 use Rattle.sheet.proofs.formula.formula_line.Statement.{statement}
 use Rattle.sheet.proofs.formula.formula_line.Tie as tie
@@ -36,23 +38,23 @@ at-scan c =
 
 through-here : (c : tie.After-n) →
     let a = start (keyed c) in
-    Through (a .args .s .now) (a .args .at + 8) (a .args .d) (a .args .w .now) (read c .scan .last .1 .1 .1 .0) (c .n .given .0 .0) (c .n .given .0 .1 .0)
+    Through (atStart (a .args .s .now) (a .args .d) (a .args .at + 8)) (a .args .w .now) (read c .scan .last .1 .1 .1 .1 .1 .0) (c .n .given .0 .0) (c .n .given .0 .1 .0) (c .n .given .0 .1 .1 .0)
 through-here c =
     let a = start (keyed c) in
-    scans-read (a .args .s .now) (a .args .at + 8) (a .args .d) (a .args .w .now) _ _ _ _ (c .n .given .1) (read c .scan .ensures)
+    scans-read (atStart (a .args .s .now) (a .args .d) (a .args .at + 8)) (a .args .w .now) _ _ _ _ _ (c .n .given .1) (read c .scan .ensures [] bits-none)
 
 abbrev stopped : tie.After-k → tie.After-scan
 stopped c = c .before .before .before .before
 
 stops-here : (c : tie.After-k) →
     let a = start (stopped c .before .before) in
-    (length (stopped c .scan .last .1 .1 .1 .0) ≡ length (a .args .w .now)) ×
-    ((D : Declared) → Counts (a .args .d) D → whole (a .args .s .now) (a .args .at + 8) D ≡ refused (c .k .given .0 .0) (c .k .given .0 .1 .0))
+    (length (stopped c .scan .last .1 .1 .1 .1 .1 .0) ≡ length (a .args .w .now)) ×
+    ((D : Declared) → Counts (a .args .d) D → whole (atStart (a .args .s .now) (a .args .d) (a .args .at + 8)) D ≡ refused (c .k .given .0 .0) (c .k .given .0 .1 .0))
 stops-here c =
     let a = start (stopped c .before .before) in
-    scans-refused (a .args .s .now) (a .args .at + 8) (a .args .d) (a .args .w .now) _ _ _ _ (c .k .given .1) (stopped c .scan .ensures)
+    scans-refused (atStart (a .args .s .now) (a .args .d) (a .args .at + 8)) (a .args .w .now) _ _ _ _ (c .k .given .1) (stopped c .scan .ensures [] bits-none)
 
-long-here : (c : tie.After-n) → length (read c .scan .last .1 .1 .1 .0) ≡ length (start (keyed c) .args .w .now)
+long-here : (c : tie.After-n) → length (read c .scan .last .1 .1 .1 .1 .1 .0) ≡ length (start (keyed c) .args .w .now)
 long-here c = through-long _ (key-here (keyed c)) (through-here c)
 
 -- ---- the needs
@@ -72,7 +74,7 @@ add-scan : tie.Need-add-scan
 add-scan c = omega (arith, at-scan c, start c .good .0 .1)
 
 scan-requires : tie.Need-scan-requires
-scan-requires c κs = let k = c .before in (at-scan k, start k .pre .0, start k .pre .1)
+scan-requires c κs = let k = c .before in (at-scan k, start k .pre .0, start k .pre .1, omega arith)
 
 enum-known-k : tie.Need-enum-known-k
 enum-known-k c = search needs
@@ -118,7 +120,7 @@ same-length-3 c = stops-here (c .before) .0
 returns-4 : tie.Need-returns-4
 returns-4 c =
     let k = stopped (c .before) .before .before in
-    λ D g. (line-refused (start k .args .s .now) (start k .args .at) D (key-here k) _ _ (stops-here (c .before) .1 D g), stops-here (c .before) .0)
+    λ D g. (line-refused (start k .args .s .now) (start k .args .at) D (key-here k) (start k .args .d) _ _ (stops-here (c .before) .1 D g), stops-here (c .before) .0)
 
 same-length-4 : tie.Need-same-length-4
 same-length-4 c =
