@@ -1,0 +1,39 @@
+-- By the answer of the line. Assumes nothing.
+use native.Mathlib.Omega.{arith}
+use Rattle.sheet.proofs.SixLines.{arrays-refused, arrays-found}
+use borrow.Author.Needs.{needs}
+use Rattle.sheet.proofs.whole.after_arrays.Statement.{statement}
+use Rattle.sheet.proofs.whole.after_arrays.Tie as tie
+
+arrays-line-requires : tie.Need-arrays-line-requires
+arrays-line-requires c κs = ((c .before .before .before .pre .scalars), omega (arith, (c .before .before .before .pre .enough)))
+
+enum-known-k : tie.Need-enum-known-k
+enum-known-k c = search needs
+
+enum-known-n : tie.Need-enum-known-n
+enum-known-n c = search needs
+
+same-length : tie.Need-same-length
+same-length c = search needs
+
+returns : tie.Need-returns
+returns c = arrays-refused ((c .before .before .before .before .before .before .before .before .before .args .s .now)) _ _ _ ((c .before .before .before .before .before .before .before .before .before .args .w .now)) ((c .before .before .before .before .before .before .before .before .before .pre)) _ ((c .before .before .before .before .before .arrays-line .result)) ((c .before .before .before .before .before .arrays-line .ensures)) _ _ ((c .before .k .given .1))
+
+same-length-2 : tie.Need-same-length-2
+same-length-2 c = search needs
+
+returns-2 : tie.Need-returns-2
+returns-2 c = arrays-found ((c .before .before .before .before .before .before .before .before .before .args .s .now)) _ _ _ ((c .before .before .before .before .before .before .before .before .before .args .w .now)) ((c .before .before .before .before .before .before .before .before .before .pre)) _ ((c .before .before .before .before .before .arrays-line .result)) ((c .before .before .before .before .before .arrays-line .ensures)) _ _ _ 0 ((c .before .n .given .1))
+
+pub after-arrays-spec : {M : Type 1} → statement M
+after-arrays-spec =
+    tie.close
+    (tie.spec
+    arrays-line-requires
+    enum-known-k
+    enum-known-n
+    same-length
+    returns
+    same-length-2
+    returns-2)
