@@ -90,6 +90,7 @@ fn number_line(s: &[u8], at: usize, d: Limits, k: u32) -> Progress
     }
 }
 
+// The line of arrays, of given values, of the formula: what is known after each.
 fn after_arrays(s: &[u8], at: usize, d: Limits, w: &mut [u32]) -> Progress
     requires { ⌜ Headed 3 (now s) (length (now w)) d at (now w) ⌝ }
     ensures { λ r. ⌜ Went 4 (now (s .entry)) (length (now (w .entry))) r (now (w .exit)) ⌝ }

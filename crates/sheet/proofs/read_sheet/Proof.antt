@@ -12,7 +12,10 @@ clear-requires : tie.Need-clear-requires
 clear-requires c κs = search needs
 
 six-lines-requires : tie.Need-six-lines-requires
-six-lines-requires c κs = let z = cleared ((c .before .before .before .before .before .before .before .args .w .now)) _ ((c .before .before .before .clear .ensures)) in (z .1, omega (arith, z .0, (c .before .before .before .before .before .before .before .pre)))
+six-lines-requires c κs =
+    let at-clear = c .before .before .before in
+    let start = at-clear .before .before .before .before in
+    let z = cleared (start .args .w .now) _ (at-clear .clear .ensures) in (z .1, omega (arith, z .0, (start .pre)))
 
 enum-known-number : tie.Need-enum-known-number
 enum-known-number c = search needs
@@ -30,13 +33,25 @@ same-length : tie.Need-same-length
 same-length c = search needs
 
 returns : tie.Need-returns
-returns c = let start = (c .before .before .before .before .before .before .before .before .before .before .before .before .before .before .before .before .before) in refused-whole (start .args .s .now) (length (start .args .w .now)) ((c .before .before .before .before .before .before .before .before .before .six-lines .last .1 .0)) ((c .before .before .before .before .before .before .before .before .before .six-lines .result)) (subst (λ n. Went 6 (start .args .s .now) n ((c .before .before .before .before .before .before .before .before .before .six-lines .result)) ((c .before .before .before .before .before .before .before .before .before .six-lines .last .1 .0))) (cleared (start .args .w .now) _ ((c .before .before .before .before .before .before .before .before .before .before .before .before .before .clear .ensures)) .0) ((c .before .before .before .before .before .before .before .before .before .six-lines .ensures))) _ _ _ ((c .before .before .before .before .before .number .given .1)) ((c .before .before .clear2 .ensures))
+returns c =
+    let at-clear2 = c .before .before in
+    let at-number = at-clear2 .before .before .before in
+    let at-six-lines = at-number .before .before .before .before in
+    let at-clear = at-six-lines .before .before .before .before in
+    let start = at-clear .before .before .before .before in
+    refused-whole (start .args .s .now) (length (start .args .w .now)) (at-six-lines .six-lines .last .1 .0) (at-six-lines .six-lines .result) (subst (λ n. Went 6 (start .args .s .now) n (at-six-lines .six-lines .result) (at-six-lines .six-lines .last .1 .0)) (cleared (start .args .w .now) _ (at-clear .clear .ensures) .0) (at-six-lines .six-lines .ensures)) _ _ _ (at-number .number .given .1) (at-clear2 .clear2 .ensures)
 
 same-length-2 : tie.Need-same-length-2
 same-length-2 c = search needs
 
 returns-2 : tie.Need-returns-2
-returns-2 c = let start = (c .before .before .before .before .before .before .before .before .before .before .before .before .before .before .before .before .before) in found-whole (start .args .s .now) (length (start .args .w .now)) ((c .before .before .before .before .before .before .before .before .before .six-lines .last .1 .0)) ((c .before .before .before .before .before .before .before .before .before .six-lines .result)) (subst (λ n. Went 6 (start .args .s .now) n ((c .before .before .before .before .before .before .before .before .before .six-lines .result)) ((c .before .before .before .before .before .before .before .before .before .six-lines .last .1 .0))) (cleared (start .args .w .now) _ ((c .before .before .before .before .before .before .before .before .before .before .before .before .before .clear .ensures)) .0) ((c .before .before .before .before .before .before .before .before .before .six-lines .ensures))) _ _ _ _ ((c .before .before .before .before .before .d .given .1)) (start .pre) ((c .before .before .zero .ensures))
+returns-2 c =
+    let at-zero = c .before .before in
+    let at-d = at-zero .before .before .before in
+    let at-six-lines = at-d .before .before .before .before in
+    let at-clear = at-six-lines .before .before .before .before in
+    let start = at-clear .before .before .before .before in
+    found-whole (start .args .s .now) (length (start .args .w .now)) (at-six-lines .six-lines .last .1 .0) (at-six-lines .six-lines .result) (subst (λ n. Went 6 (start .args .s .now) n (at-six-lines .six-lines .result) (at-six-lines .six-lines .last .1 .0)) (cleared (start .args .w .now) _ (at-clear .clear .ensures) .0) (at-six-lines .six-lines .ensures)) _ _ _ _ (at-d .d .given .1) (start .pre) (at-zero .zero .ensures)
 
 pub read-sheet-spec : {M : Type 1} → statement M
 read-sheet-spec =

@@ -6,7 +6,9 @@ use Rattle.sheet.proofs.whole.after_arrays.Statement.{statement}
 use Rattle.sheet.proofs.whole.after_arrays.Tie as tie
 
 arrays-line-requires : tie.Need-arrays-line-requires
-arrays-line-requires c κs = ((c .before .before .before .pre .scalars), omega (arith, (c .before .before .before .pre .enough)))
+arrays-line-requires c κs =
+    let start = c .before .before .before in
+    ((start .pre .scalars), omega (arith, (start .pre .enough)))
 
 enum-known-k : tie.Need-enum-known-k
 enum-known-k c = search needs
@@ -18,13 +20,19 @@ same-length : tie.Need-same-length
 same-length c = search needs
 
 returns : tie.Need-returns
-returns c = arrays-refused ((c .before .before .before .before .before .before .before .before .before .args .s .now)) _ _ _ ((c .before .before .before .before .before .before .before .before .before .args .w .now)) ((c .before .before .before .before .before .before .before .before .before .pre)) _ ((c .before .before .before .before .before .arrays-line .result)) ((c .before .before .before .before .before .arrays-line .ensures)) _ _ ((c .before .k .given .1))
+returns c =
+    let at-arrays-line = c .before .before .before .before .before in
+    let start = at-arrays-line .before .before .before .before in
+    arrays-refused (start .args .s .now) _ _ _ (start .args .w .now) (start .pre) _ (at-arrays-line .arrays-line .result) (at-arrays-line .arrays-line .ensures) _ _ (c .before .k .given .1)
 
 same-length-2 : tie.Need-same-length-2
 same-length-2 c = search needs
 
 returns-2 : tie.Need-returns-2
-returns-2 c = arrays-found ((c .before .before .before .before .before .before .before .before .before .args .s .now)) _ _ _ ((c .before .before .before .before .before .before .before .before .before .args .w .now)) ((c .before .before .before .before .before .before .before .before .before .pre)) _ ((c .before .before .before .before .before .arrays-line .result)) ((c .before .before .before .before .before .arrays-line .ensures)) _ _ _ 0 ((c .before .n .given .1))
+returns-2 c =
+    let at-arrays-line = c .before .before .before .before .before in
+    let start = at-arrays-line .before .before .before .before in
+    arrays-found (start .args .s .now) _ _ _ (start .args .w .now) (start .pre) _ (at-arrays-line .arrays-line .result) (at-arrays-line .arrays-line .ensures) _ _ _ 0 (c .before .n .given .1)
 
 pub after-arrays-spec : {M : Type 1} → statement M
 after-arrays-spec =

@@ -7,7 +7,9 @@ use Rattle.sheet.proofs.whole.after_formula.Statement.{statement}
 use Rattle.sheet.proofs.whole.after_formula.Tie as tie
 
 formula-line-requires : tie.Need-formula-line-requires
-formula-line-requires c κs = ((c .before .before .before .pre .small), omega (arith, (c .before .before .before .pre .enough)))
+formula-line-requires c κs =
+    let start = c .before .before .before in
+    ((start .pre .small), omega (arith, (start .pre .enough)))
 
 enum-known-k : tie.Need-enum-known-k
 enum-known-k c = search needs
@@ -19,13 +21,19 @@ same-length : tie.Need-same-length
 same-length c = search needs
 
 returns : tie.Need-returns
-returns c = formula-refused ((c .before .before .before .before .before .before .before .before .before .args .s .now)) _ _ _ ((c .before .before .before .before .before .before .before .before .before .args .w .now)) ((c .before .before .before .before .before .before .before .before .before .pre)) _ ((c .before .before .before .before .before .formula-line .result)) (((c .before .before .before .before .before .formula-line .ensures)) _ ((c .before .before .before .before .before .before .before .before .before .pre .counts))) _ _ ((c .before .k .given .1))
+returns c =
+    let at-formula-line = c .before .before .before .before .before in
+    let start = at-formula-line .before .before .before .before in
+    formula-refused (start .args .s .now) _ _ _ (start .args .w .now) (start .pre) _ (at-formula-line .formula-line .result) ((at-formula-line .formula-line .ensures) _ (start .pre .counts)) _ _ (c .before .k .given .1)
 
 same-length-2 : tie.Need-same-length-2
 same-length-2 c = search needs
 
 returns-2 : tie.Need-returns-2
-returns-2 c = formula-found ((c .before .before .before .before .before .before .before .before .before .args .s .now)) _ _ _ ((c .before .before .before .before .before .before .before .before .before .args .w .now)) ((c .before .before .before .before .before .before .before .before .before .pre)) _ ((c .before .before .before .before .before .formula-line .result)) (((c .before .before .before .before .before .formula-line .ensures)) _ ((c .before .before .before .before .before .before .before .before .before .pre .counts))) _ (length ((c .before .before .before .before .before .before .before .before .before .args .s .now))) ((c .before .n .given .1))
+returns-2 c =
+    let at-formula-line = c .before .before .before .before .before in
+    let start = at-formula-line .before .before .before .before in
+    formula-found (start .args .s .now) _ _ _ (start .args .w .now) (start .pre) _ (at-formula-line .formula-line .result) ((at-formula-line .formula-line .ensures) _ (start .pre .counts)) _ (length (start .args .s .now)) (c .before .n .given .1)
 
 pub after-formula-spec : {M : Type 1} → statement M
 after-formula-spec =

@@ -15,16 +15,31 @@ enum-known-n-2 : tie.Need-enum-known-n-2
 enum-known-n-2 c = search needs
 
 returns : tie.Need-returns
-returns c = edition-read ((c .before .before .before .before .before .before .args .k)) _ _ ((c .before .before .before .before .before .before .args .d)) ((c .before .before .before .before .counted .result)) ((c .before .before .before .before .counted .ensures)) _ _ 0 ((c .before .before .n2 .given .1)) (eq-eqb _ 0 ((c .if1 .taken)))
+returns c =
+    let at-n2 = c .before .before in
+    let at-counted = at-n2 .before .before in
+    let start = at-counted .before .before in
+    edition-read (start .args .k) _ _ (start .args .d) (at-counted .counted .result) (at-counted .counted .ensures) _ _ 0 (at-n2 .n2 .given .1) (eq-eqb _ 0 (c .if1 .taken))
 
 returns-2 : tie.Need-returns-2
-returns-2 c = scalars-read ((c .before .before .before .before .before .before .before .args .k)) _ _ ((c .before .before .before .before .before .before .before .args .d)) ((c .before .before .before .before .before .counted .result)) ((c .before .before .before .before .before .counted .ensures)) _ _ 0 ((c .before .before .before .n2 .given .1)) (ne-eqb _ 0 ((c .before .if1 .left))) (eq-eqb _ 1 ((c .if2 .taken)))
+returns-2 c =
+    let at-n2 = c .before .before .before in
+    let at-counted = at-n2 .before .before in
+    let start = at-counted .before .before in
+    scalars-read (start .args .k) _ _ (start .args .d) (at-counted .counted .result) (at-counted .counted .ensures) _ _ 0 (at-n2 .n2 .given .1) (ne-eqb _ 0 (c .before .if1 .left)) (eq-eqb _ 1 (c .if2 .taken))
 
 returns-3 : tie.Need-returns-3
-returns-3 c = number-refused ((c .before .before .before .before .before .args .k)) _ _ ((c .before .before .before .before .before .args .d)) ((c .before .before .before .counted .result)) ((c .before .before .before .counted .ensures)) _ _ ((c .before .n .given .1))
+returns-3 c =
+    let at-counted = c .before .before .before in
+    let start = at-counted .before .before in
+    number-refused (start .args .k) _ _ (start .args .d) (at-counted .counted .result) (at-counted .counted .ensures) _ _ (c .before .n .given .1)
 
 returns-4 : tie.Need-returns-4
-returns-4 c = locals-read ((c .before .before .before .before .before .before .before .args .k)) _ _ ((c .before .before .before .before .before .before .before .args .d)) ((c .before .before .before .before .before .counted .result)) ((c .before .before .before .before .before .counted .ensures)) _ _ 0 ((c .before .before .before .n2 .given .1)) (ne-eqb _ 0 ((c .before .if1 .left))) (ne-eqb _ 1 ((c .if2 .left)))
+returns-4 c =
+    let at-n2 = c .before .before .before in
+    let at-counted = at-n2 .before .before in
+    let start = at-counted .before .before in
+    locals-read (start .args .k) _ _ (start .args .d) (at-counted .counted .result) (at-counted .counted .ensures) _ _ 0 (at-n2 .n2 .given .1) (ne-eqb _ 0 (c .before .if1 .left)) (ne-eqb _ 1 (c .if2 .left))
 
 pub number-line-spec : {M : Type 1} → statement M
 number-line-spec =
