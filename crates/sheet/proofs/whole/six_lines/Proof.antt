@@ -78,15 +78,25 @@ abbrev stayed : Stays (above.ended .signature .params) (above.ended .kept)
 stayed = (stay-none-slice (0 ∷ []) tt (plain (λ _. u8)) yes, (stay-slice (1 ∷ []) tt (plain (λ _. u32)), tt))
 
 -- what `line` needs of a reader and the words, and what it says of the reader and the words after it
-abbrev Stands : ℕ → Reader → List ℕ → Type 0
-Stands k r zs = Went k (now (r .sheet)) (length zs) (r .read) zs
+abbrev Needs : ℕ → Reader → List ℕ → Type 0
+Needs k r zs = (k ≤ 5) × Went k (now (r .sheet)) (length zs) (r .read) zs
 
 abbrev Found : ℕ → Reader → List ℕ → Reader → List ℕ → Type 0
 Found k r zs r′ zs′ = (r′ .sheet ≡ r .sheet) × Went (k + 1) (now (r .sheet)) (length zs) (r′ .read) zs′
 
--- so it stands there for the next
-onward : (k : ℕ) (r : Reader) (zs : List ℕ) (r′ : Reader) (zs′ : List ℕ) → Found k r zs r′ zs′ → length zs′ ≡ length zs → Stands (k + 1) r′ zs′
-onward k r zs r′ zs′ f l = subst (λ (m : ℕ). Went (k + 1) (now (r′ .sheet)) m (r′ .read) zs′) (sym l) (subst (λ (z : RefT (List ℕ)). Went (k + 1) (now z) (length zs) (r′ .read) zs′) (sym (f .0)) (f .1))
+-- the reader is one of the sheet s, and stands after k lines over n words
+module _ (s : RefT (List ℕ)) (n : ℕ) where
+  abbrev Stands : ℕ → Reader → List ℕ → Type 0
+  Stands k r zs = Went k (now s) n (r .read) zs × (r .sheet ≡ s) × (length zs ≡ n)
+
+  moved : (k : ℕ) (p : Progress) (zs : List ℕ) (z y : RefT (List ℕ)) (m l : ℕ) → z ≡ y → m ≡ l → Went k (now z) m p zs → Went k (now y) l p zs
+  moved k p zs z y m l e f h = subst (λ (i : ℕ). Went k (now y) i p zs) f (subst (λ (x : RefT (List ℕ)). Went k (now x) m p zs) e h)
+
+  asks : (k : ℕ) (r : Reader) (zs : List ℕ) → k ≤ 5 → Stands k r zs → Needs k r zs
+  asks k r zs few h = (few, moved k (r .read) zs s (r .sheet) n (length zs) (sym (h .1)) (sym (h .2)) (h .0))
+
+  onward : (k : ℕ) (r : Reader) (zs : List ℕ) (r′ : Reader) (zs′ : List ℕ) → Stands k r zs → Found k r zs r′ zs′ → length zs′ ≡ length zs → Stands (k + 1) r′ zs′
+  onward k r zs r′ zs′ h f l = (moved (k + 1) (r′ .read) zs′ (r .sheet) s (length zs) n (h .1) (h .2) (f .1), f .0 ∙ h .1, l ∙ h .2)
 
 module _ {M : Type 1} (𝓤 : URA M) (H : Heap 𝓤) (A : Atoms 𝓤) (mem : Memory → SProp 𝓤) (run : Routine → Fun 𝓤) where
   -- the contracts that the proof cites
@@ -178,12 +188,12 @@ module _ {M : Type 1} (𝓤 : URA M) (H : Heap 𝓤) (A : Atoms 𝓤) (W : Given
   abbrev to-line : ℕ → GName → ℕ → Reader → Val → List ℕ → Line 𝓤 H A mem run .Ghost
   to-line ν δ k r u zs = (((κ, (ν ∷ [], tt)), (q, (fullShare, tt)), tt, (r, (k, (x δ zs, tt))), (u ∷ [], (vint w32 k ∷ [], (xv ∷ [], tt)))), tt)
 
-  asked-line : (ν : ℕ) (δ : GName) (k : ℕ) (r : Reader) (u : Val) (zs : List ℕ) → (k ≤ 5) × Stands k r zs
+  asked-line : (ν : ℕ) (δ : GName) (k : ℕ) (r : Reader) (u : Val) (zs : List ℕ) → Needs k r zs
       → ent 𝓤 (onEntry 𝓤 H A line.signature (κ, (ν ∷ [], tt)) (q, (fullShare, tt)) (r, (k, (x δ zs, tt))) (u ∷ [], (vint w32 k ∷ [], (xv ∷ [], tt)))) (Line 𝓤 H A mem run .pre (to-line ν δ k r u zs))
   asked-line ν δ k r u zs pre =
       qed W ((‵ (flft κ q) ⊛ ‵ (flft (ν ∷ []) fullShare) ⊛ ‵ ftrue) ∷ ‵ (owns (B κ ∷ u32 ∷ MutSlice (named 1) (ν ∷ []) u32 ∷ []) (r, (k, (x δ zs, tt))) (u ∷ [], (vint w32 k ∷ [], (xv ∷ [], tt)))) ∷ []) ∵ says ! pre $ frame ! $ done !
 
-  goes-line : (ν : ℕ) (δ : GName) (k : ℕ) → k < 2 ^ 32 → (r : Reader) (u : Val) (zs : List ℕ) → (k ≤ 5) × Stands k r zs
+  goes-line : (ν : ℕ) (δ : GName) (k : ℕ) → k < 2 ^ 32 → (r : Reader) (u : Val) (zs : List ℕ) → Needs k r zs
       → ent 𝓤 (⋆ 𝓤 H A (‵ (Holder r u) ∷ Token ∷ (‵ (flft (ν ∷ []) fullShare) ⊛ ‵ (Words (ν ∷ []) δ zs)) ∷ [])) (Line 𝓤 H A mem run .pre (to-line ν δ k r u zs))
   goes-line ν δ k ok r u zs pre =
       qed W (‵ (Holder r u) ∷ Token ∷ (‵ (flft (ν ∷ []) fullShare) ⊛ ‵ (Words (ν ∷ []) δ zs)) ∷ []) ∵ move ! (2 ∷ []) $ split ! $
@@ -204,15 +214,15 @@ module _ {M : Type 1} (𝓤 : URA M) (H : Heap 𝓤) (A : Atoms 𝓤) (W : Given
   module _ (C : Calls 𝓤 H) (Λ : Loops 𝓤 H) (fm : FmC 𝓤 H (W .laws) C) (known-start : Triple 𝓤 (C #nothing) (Start 𝓤 H A mem run)) (known-stand : Triple 𝓤 (C #stand) (Stand 𝓤 H A mem run)) (known-line : Triple 𝓤 (C #line) (Line 𝓤 H A mem run)) (room : Room u32 (length ys)) where
     -- the words are lent again, `line` is called, and they come back: the reader stands after the line
     lined : {Γ : List (Item 𝓤)} {env : Env 𝓤 H} {d : Place} {xs : List Operand} {rest : Body} {end : Ending 𝓤 H} → Go {0}
-        → (k : ℕ) → k < 2 ^ 32 → (r : Reader) (u : Val) (zs : List ℕ) → (k ≤ 5) × Stands k r zs → length zs ≡ length ys
+        → (k : ℕ) → k < 2 ^ 32 → (r : Reader) (u : Val) (zs : List ℕ) → k ≤ 5 → Stands s (length ys) k r zs
         → ((i j : Item 𝓤) → Opds (Go {0}) W (i ∷ j ∷ Γ) env xs (u ∷ vint w32 k ∷ xv ∷ []))
-        → ((r′ : Reader) (u′ : Val) (zs′ : List ℕ) → Is (B κ) r′ (u′ ∷ []) → Found k r zs r′ zs′ → length zs′ ≡ length zs → Seq (Go {0}) W (‵ (Holder r′ u′) ∷ Token ∷ Lent zs′ ∷ Γ) (lands C Λ env d u′ rest end))
+        → ((r′ : Reader) (u′ : Val) (zs′ : List ℕ) → Is (B κ) r′ (u′ ∷ []) → Stands s (length ys) (k + 1) r′ zs′ → Seq (Go {0}) W (‵ (Holder r′ u′) ∷ Token ∷ Lent zs′ ∷ Γ) (lands C Λ env d u′ rest end))
         → Seq (Go {0}) W (‵ (Holder r u) ∷ Token ∷ Lent zs ∷ Γ) (runs C Λ env (seq (call #line xs d) rest) end)
-    lined t k ok r u zs pre long os next =
+    lined t k ok r u zs few h os next =
         move ! (2 ∷ []) $ split ! $ lft-new ! tt (λ ν. move ! (1 ∷ 2 ∷ []) $
-        use2 W (later (some (λ (δ : GName). ‵ (Words (ν ∷ []) δ zs) ⊛ ‵ (LentAgain u32 κ′ (ν ∷ []) q′ γ b o δ zs)))) (lends-at u32 κ′ (ν ∷ []) q′ γ b o 𝓤 H A W (named 1) (named 1) zs (length ys) long) $ await ! tt $ pick ! (λ δ. split ! $
+        use2 W (later (some (λ (δ : GName). ‵ (Words (ν ∷ []) δ zs) ⊛ ‵ (LentAgain u32 κ′ (ν ∷ []) q′ γ b o δ zs)))) (lends-at u32 κ′ (ν ∷ []) q′ γ b o 𝓤 H A W (named 1) (named 1) zs (length ys) (h .2)) $ await ! tt $ pick ! (λ δ. split ! $
         -- [the words, lent again; what is kept of them; ν's token; the reader; the sheet's token]
-        move ! (2 ∷ 0 ∷ []) $ join ! $ move ! (2 ∷ 3 ∷ 0 ∷ []) $ use3 W (raw (Line 𝓤 H A mem run .pre (to-line ν δ k r u zs))) (goes-line ν δ k ok r u zs pre) $
+        move ! (2 ∷ 0 ∷ []) $ join ! $ move ! (2 ∷ 3 ∷ 0 ∷ []) $ use3 W (raw (Line 𝓤 H A mem run .pre (to-line ν δ k r u zs))) (goes-line ν δ k ok r u zs (asks s (length ys) k r zs few h)) $
         calls-at ! fm (Line 𝓤 H A mem run) known-line (to-line ν δ k r u zs) (os _ _) (λ u′.
         use1 W (later (some (λ (r′ : Reader). ((‵ (flft κ q) ⊛ ‵ (flft (ν ∷ []) fullShare) ⊛ ‵ ftrue) ⊛ ‵ (Holder r′ u′)) ⊛ raw (ensured 𝓤 H A line.ended (line.clauses 𝓤 H A mem run) (κ, (ν ∷ [], tt)) (r, (k, (x δ zs, tt))) tt r′)))) (id⊢ 𝓤 _) $ await ! tt $ pick ! (λ r′.
         split ! $ move ! (1 ∷ []) $ use1 W (some (λ (ls : Unit {0} × (Unit {0} × (List ℕ × Unit {0}))). ‵ (lasts line.ended (κ, (ν ∷ [], tt)) (r, (k, (x δ zs, tt))) ls) ⊛ raw (fact 𝓤 (Found k r zs r′ (ls .1 .1 .0))))) (id⊢ 𝓤 _) $ pick ! (λ ls.
@@ -220,9 +230,9 @@ module _ {M : Type 1} (𝓤 : URA M) (H : Heap 𝓤) (A : Atoms 𝓤) (W : Given
         move ! (2 ∷ []) $ split ! $ move ! (1 ∷ []) $ peeks ! (B κ) (Is (B κ)) (shows 𝓤 H A (B κ)) r′ (u′ ∷ []) (λ is.
         -- [the reader; the tokens; the last list; true; what is kept of the words]
         move ! (1 ∷ []) $ split ! $ move ! (1 ∷ []) $ split ! $ lft-end ! tt $ move ! (0 ∷ 6 ∷ 4 ∷ []) $
-        use3 W (later (Lent (ls .1 .1 .0))) (back-at u32 κ′ (ν ∷ []) q′ γ b o 𝓤 H A W (named 1) (named 1) zs (length ys) long δ (ls .1 .1 .0) room l) $ await ! tt $
+        use3 W (later (Lent (ls .1 .1 .0))) (back-at u32 κ′ (ν ∷ []) q′ γ b o 𝓤 H A W (named 1) (named 1) zs (length ys) (h .2) δ (ls .1 .1 .0) room l) $ await ! tt $
         -- [the words; true; κ's token; the reader; true]
-        move ! (2 ∷ 1 ∷ []) $ join ! $ move ! (3 ∷ []) $ drop ! $ move ! (2 ∷ []) $ next r′ u′ (ls .1 .1 .0) is e l))))))))
+        move ! (2 ∷ 1 ∷ []) $ join ! $ move ! (3 ∷ []) $ drop ! $ move ! (2 ∷ []) $ next r′ u′ (ls .1 .1 .0) is (onward s (length ys) k r zs r′ (ls .1 .1 .0) h e l)))))))))
 
     walk : Is (ShrSlice (named 0) κ u8) s (v ∷ []) → ent 𝓤 (onEntry 𝓤 H A above.signature (κ, (κ′, tt)) (q, (q′, tt)) (s, (x γ ys, tt)) at) (WpFn 𝓤 H C Λ code.function (v ∷ xv ∷ []) Post)
     walk p =
@@ -242,55 +252,38 @@ module _ {M : Type 1} (𝓤 : URA M) (H : Heap 𝓤) (A : Atoms 𝓤) (W : Given
         use1 W (later (some (λ (r : Reader). (Token ⊛ ‵ (Holder r u₀)) ⊛ raw (ensured 𝓤 H A stand.ended (stand.clauses 𝓤 H A mem run) (κ, tt) (s, (p₀, tt)) tt r)))) (id⊢ 𝓤 _) $ await ! tt $ pick ! (λ r₀.
         split ! $ move ! (1 ∷ []) $ use1 W (raw (fact 𝓤 ((r₀ .sheet ≡ s) × (r₀ .read ≡ p₀)))) (stand-said p₀ r₀) $ heard ! ((r₀ .sheet ≡ s) × (r₀ .read ≡ p₀)) (λ e₀. split ! $ move ! (1 ∷ []) $
         peeks ! (B κ) (Is (B κ)) (shows 𝓤 H A (B κ)) r₀ (u₀ ∷ []) (λ is₀. land ! (from ! (stop !)) (init ! 30 refl (typed r₀ u₀ is₀)) $
-        let stands₀ : Stands 0 r₀ ys = subst (λ (y : Progress). Went 0 (now (r₀ .sheet)) (length ys) y ys) (sym (e₀ .1 ∙ f)) (at-start (now (r₀ .sheet)) (length ys) ys zeros many) in
+        let h₀ : Stands s (length ys) 0 r₀ ys = (subst (λ (y : Progress). Went 0 (now s) (length ys) y ys) (sym (e₀ .1 ∙ f)) (at-start (now s) (length ys) ys zeros many), e₀ .0, refl) in
         -- the edition: [the reader; the sheet's token; the words; what s owns; _22; …]
         assigns ! (addr ! (from ! (fld ! refl (hop ! (look-in ! 44 (sub ! 0 refl (whole !))) (stop !))))) (from ! (stop !)) (init ! 26 refl (tt, tt)) $
         assigns ! (agg ! (and-then ! (load ! (from ! (stop !)) (look ! 26 refl)) (and-then ! (load ! (from ! (fld ! refl (stop !))) (look-in ! 44 (sub ! 1 refl (whole !)))) (no-more !)))) (from ! (stop !)) (init ! 24 refl (tt, (tt, (record { fits = room .0 }, tt)))) $
-        lined ! 0 (omega arith) r₀ u₀ ys (omega arith, stands₀) refl (λ i j. and-then ! (load ! (from ! (stop !)) (look ! 29 refl)) (and-then ! (lit ! tt) (and-then ! (load ! (from ! (stop !)) (look ! 23 refl)) (no-more !)))) (λ r₁ u₁ zs₁ is₁ e₁ m₁. land ! (from ! (stop !)) (init ! 32 refl (typed r₁ u₁ is₁)) $
-        let stands₁ : Stands 1 r₁ zs₁ = onward 0 r₀ ys r₁ zs₁ e₁ m₁ in
-        let long₁ : length zs₁ ≡ length ys = m₁ in
-        let sheet₁ : r₁ .sheet ≡ s = e₁ .0 ∙ e₀ .0 in
+        lined ! 0 (omega arith) r₀ u₀ ys (omega arith) h₀ (λ i j. and-then ! (load ! (from ! (stop !)) (look ! 29 refl)) (and-then ! (lit ! tt) (and-then ! (load ! (from ! (stop !)) (look ! 23 refl)) (no-more !)))) (λ r₁ u₁ zs₁ is₁ h₁. land ! (from ! (stop !)) (init ! 32 refl (typed r₁ u₁ is₁)) $
         -- the scalars: [the reader; the sheet's token; the words; what s owns; _22; …]
         assigns ! (addr ! (from ! (fld ! refl (hop ! (look-in ! 44 (sub ! 0 refl (whole !))) (stop !))))) (from ! (stop !)) (init ! 22 refl (tt, tt)) $
         assigns ! (agg ! (and-then ! (load ! (from ! (stop !)) (look ! 22 refl)) (and-then ! (load ! (from ! (fld ! refl (stop !))) (look-in ! 44 (sub ! 1 refl (whole !)))) (no-more !)))) (from ! (stop !)) (init ! 20 refl (tt, (tt, (record { fits = room .0 }, tt)))) $
-        lined ! 1 (omega arith) r₁ u₁ zs₁ (omega arith, stands₁) long₁ (λ i j. and-then ! (load ! (from ! (stop !)) (look ! 31 refl)) (and-then ! (lit ! tt) (and-then ! (load ! (from ! (stop !)) (look ! 19 refl)) (no-more !)))) (λ r₂ u₂ zs₂ is₂ e₂ m₂. land ! (from ! (stop !)) (init ! 34 refl (typed r₂ u₂ is₂)) $
-        let stands₂ : Stands 2 r₂ zs₂ = onward 1 r₁ zs₁ r₂ zs₂ e₂ m₂ in
-        let long₂ : length zs₂ ≡ length ys = m₂ ∙ long₁ in
-        let sheet₂ : r₂ .sheet ≡ s = e₂ .0 ∙ sheet₁ in
+        lined ! 1 (omega arith) r₁ u₁ zs₁ (omega arith) h₁ (λ i j. and-then ! (load ! (from ! (stop !)) (look ! 31 refl)) (and-then ! (lit ! tt) (and-then ! (load ! (from ! (stop !)) (look ! 19 refl)) (no-more !)))) (λ r₂ u₂ zs₂ is₂ h₂. land ! (from ! (stop !)) (init ! 34 refl (typed r₂ u₂ is₂)) $
         -- the locals: [the reader; the sheet's token; the words; what s owns; _22; …]
         assigns ! (addr ! (from ! (fld ! refl (hop ! (look-in ! 44 (sub ! 0 refl (whole !))) (stop !))))) (from ! (stop !)) (init ! 18 refl (tt, tt)) $
         assigns ! (agg ! (and-then ! (load ! (from ! (stop !)) (look ! 18 refl)) (and-then ! (load ! (from ! (fld ! refl (stop !))) (look-in ! 44 (sub ! 1 refl (whole !)))) (no-more !)))) (from ! (stop !)) (init ! 16 refl (tt, (tt, (record { fits = room .0 }, tt)))) $
-        lined ! 2 (omega arith) r₂ u₂ zs₂ (omega arith, stands₂) long₂ (λ i j. and-then ! (load ! (from ! (stop !)) (look ! 33 refl)) (and-then ! (lit ! tt) (and-then ! (load ! (from ! (stop !)) (look ! 15 refl)) (no-more !)))) (λ r₃ u₃ zs₃ is₃ e₃ m₃. land ! (from ! (stop !)) (init ! 36 refl (typed r₃ u₃ is₃)) $
-        let stands₃ : Stands 3 r₃ zs₃ = onward 2 r₂ zs₂ r₃ zs₃ e₃ m₃ in
-        let long₃ : length zs₃ ≡ length ys = m₃ ∙ long₂ in
-        let sheet₃ : r₃ .sheet ≡ s = e₃ .0 ∙ sheet₂ in
+        lined ! 2 (omega arith) r₂ u₂ zs₂ (omega arith) h₂ (λ i j. and-then ! (load ! (from ! (stop !)) (look ! 33 refl)) (and-then ! (lit ! tt) (and-then ! (load ! (from ! (stop !)) (look ! 15 refl)) (no-more !)))) (λ r₃ u₃ zs₃ is₃ h₃. land ! (from ! (stop !)) (init ! 36 refl (typed r₃ u₃ is₃)) $
         -- the arrays: [the reader; the sheet's token; the words; what s owns; _22; …]
         assigns ! (addr ! (from ! (fld ! refl (hop ! (look-in ! 44 (sub ! 0 refl (whole !))) (stop !))))) (from ! (stop !)) (init ! 14 refl (tt, tt)) $
         assigns ! (agg ! (and-then ! (load ! (from ! (stop !)) (look ! 14 refl)) (and-then ! (load ! (from ! (fld ! refl (stop !))) (look-in ! 44 (sub ! 1 refl (whole !)))) (no-more !)))) (from ! (stop !)) (init ! 12 refl (tt, (tt, (record { fits = room .0 }, tt)))) $
-        lined ! 3 (omega arith) r₃ u₃ zs₃ (omega arith, stands₃) long₃ (λ i j. and-then ! (load ! (from ! (stop !)) (look ! 35 refl)) (and-then ! (lit ! tt) (and-then ! (load ! (from ! (stop !)) (look ! 11 refl)) (no-more !)))) (λ r₄ u₄ zs₄ is₄ e₄ m₄. land ! (from ! (stop !)) (init ! 38 refl (typed r₄ u₄ is₄)) $
-        let stands₄ : Stands 4 r₄ zs₄ = onward 3 r₃ zs₃ r₄ zs₄ e₄ m₄ in
-        let long₄ : length zs₄ ≡ length ys = m₄ ∙ long₃ in
-        let sheet₄ : r₄ .sheet ≡ s = e₄ .0 ∙ sheet₃ in
+        lined ! 3 (omega arith) r₃ u₃ zs₃ (omega arith) h₃ (λ i j. and-then ! (load ! (from ! (stop !)) (look ! 35 refl)) (and-then ! (lit ! tt) (and-then ! (load ! (from ! (stop !)) (look ! 11 refl)) (no-more !)))) (λ r₄ u₄ zs₄ is₄ h₄. land ! (from ! (stop !)) (init ! 38 refl (typed r₄ u₄ is₄)) $
         -- the given values: [the reader; the sheet's token; the words; what s owns; _22; …]
         assigns ! (addr ! (from ! (fld ! refl (hop ! (look-in ! 44 (sub ! 0 refl (whole !))) (stop !))))) (from ! (stop !)) (init ! 10 refl (tt, tt)) $
         assigns ! (agg ! (and-then ! (load ! (from ! (stop !)) (look ! 10 refl)) (and-then ! (load ! (from ! (fld ! refl (stop !))) (look-in ! 44 (sub ! 1 refl (whole !)))) (no-more !)))) (from ! (stop !)) (init ! 8 refl (tt, (tt, (record { fits = room .0 }, tt)))) $
-        lined ! 4 (omega arith) r₄ u₄ zs₄ (omega arith, stands₄) long₄ (λ i j. and-then ! (load ! (from ! (stop !)) (look ! 37 refl)) (and-then ! (lit ! tt) (and-then ! (load ! (from ! (stop !)) (look ! 7 refl)) (no-more !)))) (λ r₅ u₅ zs₅ is₅ e₅ m₅. land ! (from ! (stop !)) (init ! 40 refl (typed r₅ u₅ is₅)) $
-        let stands₅ : Stands 5 r₅ zs₅ = onward 4 r₄ zs₄ r₅ zs₅ e₅ m₅ in
-        let long₅ : length zs₅ ≡ length ys = m₅ ∙ long₄ in
-        let sheet₅ : r₅ .sheet ≡ s = e₅ .0 ∙ sheet₄ in
+        lined ! 4 (omega arith) r₄ u₄ zs₄ (omega arith) h₄ (λ i j. and-then ! (load ! (from ! (stop !)) (look ! 37 refl)) (and-then ! (lit ! tt) (and-then ! (load ! (from ! (stop !)) (look ! 7 refl)) (no-more !)))) (λ r₅ u₅ zs₅ is₅ h₅. land ! (from ! (stop !)) (init ! 40 refl (typed r₅ u₅ is₅)) $
         -- the formula: [the reader; the sheet's token; the words; what s owns; _22; …]
         assigns ! (addr ! (from ! (fld ! refl (hop ! (look-in ! 44 (sub ! 0 refl (whole !))) (stop !))))) (from ! (stop !)) (init ! 6 refl (tt, tt)) $
         assigns ! (agg ! (and-then ! (load ! (from ! (stop !)) (look ! 6 refl)) (and-then ! (load ! (from ! (fld ! refl (stop !))) (look-in ! 44 (sub ! 1 refl (whole !)))) (no-more !)))) (from ! (stop !)) (init ! 4 refl (tt, (tt, (record { fits = room .0 }, tt)))) $
-        lined ! 5 (omega arith) r₅ u₅ zs₅ (omega arith, stands₅) long₅ (λ i j. and-then ! (load ! (from ! (stop !)) (look ! 39 refl)) (and-then ! (lit ! tt) (and-then ! (load ! (from ! (stop !)) (look ! 3 refl)) (no-more !)))) (λ r₆ u₆ zs₆ is₆ e₆ m₆. land ! (from ! (stop !)) (init ! 42 refl (typed r₆ u₆ is₆)) $
-        let long₆ : length zs₆ ≡ length ys = m₆ ∙ long₅ in
-        let sheet₆ : r₆ .sheet ≡ s = e₆ .0 ∙ sheet₅ in
+        lined ! 5 (omega arith) r₅ u₅ zs₅ (omega arith) h₅ (λ i j. and-then ! (load ! (from ! (stop !)) (look ! 39 refl)) (and-then ! (lit ! tt) (and-then ! (load ! (from ! (stop !)) (look ! 3 refl)) (no-more !)))) (λ r₆ u₆ zs₆ is₆ h₆. land ! (from ! (stop !)) (init ! 42 refl (typed r₆ u₆ is₆)) $
         -- how far it was read
         let fields = LL.owed (T.the-type αᵉ) (T′.the-laws αᵉ) r₆ _ is₆ in
         rewrite ! 42 (λ (z : Val). ‵ (fat fullShare (T′.mir erased) l₃ 0 z)) (ap only (LL.tells (T.the-type αᵉ) (T′.the-laws αᵉ) r₆ (u₆ ∷ []) is₆)) refl $
         assigns ! (of-opd ! (load ! (from ! (fld ! refl (stop !))) (look-in ! 42 (sub ! 1 refl (whole !))))) (from ! (stop !)) (init ! 48 refl (EL.lawful E.the-type E′.the-laws 𝓤 H A W tt .typed (r₆ .read) _ (fields .1 .0) .0)) $
         returns ! (look ! 48 refl) $ forget ! 4 refl $ forget ! 6 refl $ forget ! 8 refl $ forget ! 10 refl $ forget ! 12 refl $ forget ! 14 refl $ forget ! 16 refl $ forget ! 18 refl $ forget ! 20 refl $ forget ! 22 refl $ forget ! 24 refl $ forget ! 26 refl $ forget ! 28 refl $ forget ! 30 refl $ forget ! 32 refl $ forget ! 34 refl $ forget ! 36 refl $ forget ! 38 refl $ forget ! 40 refl $ forget ! 42 refl $ forget ! 44 refl $ forget ! 46 refl $ forget ! 48 refl $
         move ! (48 ∷ 49 ∷ []) $ free1 ! $ move ! (46 ∷ 47 ∷ []) $ free1 ! $ move ! (44 ∷ 45 ∷ []) $ free1 ! $ move ! (42 ∷ 43 ∷ []) $ free1 ! $ move ! (40 ∷ 41 ∷ []) $ free1 ! $ move ! (38 ∷ 39 ∷ []) $ free1 ! $ move ! (36 ∷ 37 ∷ []) $ free1 ! $ move ! (34 ∷ 35 ∷ []) $ free1 ! $ move ! (32 ∷ 33 ∷ []) $ free1 ! $ move ! (30 ∷ 31 ∷ []) $ free1 ! $ move ! (28 ∷ 29 ∷ []) $ free1 ! $ move ! (26 ∷ 27 ∷ []) $ free1 ! $ move ! (24 ∷ 25 ∷ []) $ free1 ! $ move ! (22 ∷ 23 ∷ []) $ free1 ! $ move ! (20 ∷ 21 ∷ []) $ free1 ! $ move ! (18 ∷ 19 ∷ []) $ free1 ! $ move ! (16 ∷ 17 ∷ []) $ free1 ! $ move ! (14 ∷ 15 ∷ []) $ free1 ! $ move ! (12 ∷ 13 ∷ []) $ free1 ! $ move ! (10 ∷ 11 ∷ []) $ free1 ! $ move ! (8 ∷ 9 ∷ []) $ free1 ! $ move ! (6 ∷ 7 ∷ []) $ free1 ! $ move ! (4 ∷ 5 ∷ []) $ free1 ! $ free0 ! $
-        keep ! (1 ∷ 2 ∷ 3 ∷ []) $ by ! (exits (r₆ .read) zs₆ (fields .1 .0) (subst (λ (m : ℕ). Went 6 (now s) m (r₆ .read) zs₆) long₅ (subst (λ (z : RefT (List ℕ)). Went 6 (now z) (length zs₅) (r₆ .read) zs₆) sheet₅ (e₆ .1))) long₆))))))))))))))))))))))))))))))))))))))
+        keep ! (1 ∷ 2 ∷ 3 ∷ []) $ by ! (exits (r₆ .read) zs₆ (fields .1 .0) (h₆ .0) (h₆ .2)))))))))))))))))))))))))))))))))))))))
 
 module _ {M : Type 1} (𝓤 : URA M) (H : Heap 𝓤) (A : Atoms 𝓤) (W : Given 𝓤 H A) (mem : Memory → SProp 𝓤) (run : Routine → Fun 𝓤) where
   above-walks : (C : Calls 𝓤 H) (Λ : Loops 𝓤 H) → FmC 𝓤 H (W .laws) C → Triple 𝓤 (C #nothing) (Start 𝓤 H A mem run) → Triple 𝓤 (C #stand) (Stand 𝓤 H A mem run) → Triple 𝓤 (C #line) (Line 𝓤 H A mem run)
