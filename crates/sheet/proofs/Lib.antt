@@ -41,4 +41,6 @@ pub mod Subtrees
 pub mod FormulaRest
 -- the six lines in order
 pub mod SixLines
-pub mod Carried
+pub mod Cleared
+-- for the walks by hand
+pub mod Again

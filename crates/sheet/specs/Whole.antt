@@ -1,31 +1,36 @@
--- The six lines in order, and what the reader's answer says of a sheet: a refusal, or its tables in the work words. Assumes nothing.
-use Prim.Native.Nat.{ℕ, _≤_, _<_}
+-- The six lines in order: the rest of the sheet after some of them, what was read by then, and what the reader's answer says of a sheet.
+-- Assumes nothing.
+use Prim.Native.Nat.{ℕ, zero, suc, _≤_, _<_}
 use mathlib.Core.Path.{_≡_}
 use mathlib.Core.List.{List, []}
 use lib.ListN.{length, getD, replicate}
 use lib.Dec.{eqb}
 use Rattle.specification.specs.Bytes.{Bytes, bytes, feed, pick}
-use Rattle.specification.specs.Parser.{Reader, Read, refused, found, Parser, give, _>>=_, _>>_, mark, key, finish}
-use Rattle.specification.specs.Lines.{line, Declared}
+use Rattle.specification.specs.Parser.{Reader, Read, refused, found, Parser, andThen, give, _>>=_, _>>_, mark, key, finish}
+use Rattle.specification.specs.Lines.{line, Declared, arraysLine}
 use Rattle.specification.specs.Given.{Item, givenLine}
 use Rattle.specification.specs.Ast.{Formula}
 use Rattle.specification.specs.Formula.{formula}
-use Rattle.specification.specs.Sheet.{Sheet}
+use Rattle.specification.specs.Sheet.{Sheet, sheet}
+use Rattle.tables.specs.Layout.{pathAt}
 use Rattle.sheet.specs.declared.Reading.{Reading}
 use Rattle.sheet.specs.declared.Reading.the-variants as reading
-use Rattle.sheet.specs.declared.whole.Heading.{Heading}
-use Rattle.sheet.specs.declared.whole.Heading.the-variants as heading
+use Rattle.sheet.specs.declared.formula.Limits.{Limits}
+use Rattle.sheet.specs.declared.whole.Progress.{Progress}
+use Rattle.sheet.specs.declared.whole.Progress.the-variants as progress
 use Rattle.sheet.specs.Codes.{formulaTokens}
 use Rattle.sheet.specs.Reader.{lineAt}
-use Rattle.sheet.specs.Tables.{Words, laidArrays, laidGiven, laidTokens, laidEnds, tables}
+use Rattle.sheet.specs.Tables.{Words, laidArrays, laidGiven, tables}
 use Rattle.sheet.specs.Stack.{Beside}
+use Rattle.sheet.specs.Items.{Declares}
+use Rattle.sheet.specs.FormulaLine.{formulaRest, Small, Counts}
 
 -- ---- what a sheet is read as
 
--- a refusal's number and place, or how many scalars and arrays there are
+-- a refusal's number and place, or how many scalars, arrays and tokens there are
 abbrev pub readingOf : Read Sheet → Reading
 readingOf (refused k p) = reading.Refused k p
-readingOf (found s r) = reading.Read (s .declared .scalars) (length (s .declared .arrays))
+readingOf (found s r) = reading.Read (s .declared .scalars) (length (s .declared .arrays)) (length (formulaTokens (s .formula)))
 
 -- n work words after it: all zero, or the sheet's tables
 abbrev pub wordsOf : ℕ → Read Sheet → Words
@@ -40,30 +45,27 @@ pub record Zeroed (w w′ : Words) (from to : ℕ) : Type 0 where
   pub below : (j : ℕ) → j < from → getD w′ j 0 ≡ getD w j 0
   pub above : (j : ℕ) → to ≤ j → getD w′ j 0 ≡ getD w j 0
 
--- ---- the first three lines
+-- ---- the rest of the sheet after each line
 
--- edition, scalars and locals; no array yet
-unfoldable pub headed : Parser Declared
-headed =
-    line (bytes "edition=") 1 1 >>= λ edition.
-    line (bytes "scalars=") 0 64 >>= λ scalars.
-    line (bytes "locals=") 0 32 >>= λ locals.
-    give (record { edition = edition; scalars = scalars; locals = locals; arrays = [] })
+abbrev pub sheetOf : Declared → List Item → Formula → Sheet
+sheetOf D is F = record { declared = D; given = is; formula = F }
 
-abbrev pub headingRead : Bytes → Heading → Read Declared
-headingRead s (heading.Refused k p) = refused k p
-headingRead s (heading.Is edition scalars locals e) =
-    found (record { edition = edition; scalars = scalars; locals = locals; arrays = [] }) (lineAt s e)
+-- from the formula on
+abbrev pub fromFormula : Declared → List Item → Parser Sheet
+fromFormula D is r = andThen (λ F. give (sheetOf D is F)) (formulaRest D r)
 
--- the place where reading goes on, or that of the refusal
-abbrev pub placeOf : Heading → ℕ
-placeOf (heading.Refused k p) = p
-placeOf (heading.Is edition scalars locals e) = e
+-- from the given values on
+unfoldable pub fromGiven : Declared → Parser Sheet
+fromGiven D =
+    givenLine D >>= λ given.
+    key (bytes "formula=") >> (formula D 64 [] >>= λ F. mark feed >> (finish >> give (sheetOf D given F)))
 
--- a line after what was read before it
-abbrev pub onward : Heading → (Declared → Read Declared) → Read Declared
-onward (heading.Refused k p) f = refused k p
-onward (heading.Is edition scalars locals e) f = f (record { edition = edition; scalars = scalars; locals = locals; arrays = [] })
+-- from the arrays on
+abbrev pub declaring : Limits → List ℕ → Declared
+declaring d ns = record { edition = d .edition; scalars = d .scalars; locals = d .locals; arrays = ns }
+
+abbrev pub fromArrays : Limits → Parser Sheet
+fromArrays d = arraysLine (d .scalars) >>= λ ns. fromGiven (declaring d ns)
 
 -- the line with one number that comes k-th, and what is declared with it
 abbrev pub numberOf : ℕ → Parser ℕ
@@ -72,45 +74,94 @@ numberOf k =
     (pick (eqb k 1) (line (bytes "scalars=") 0 64)
     (line (bytes "locals=") 0 32))
 
-abbrev pub withNumber : ℕ → Declared → ℕ → Declared
-withNumber k D n =
-    pick (eqb k 0) (record { edition = n; scalars = D .scalars; locals = D .locals; arrays = [] })
-    (pick (eqb k 1) (record { edition = D .edition; scalars = n; locals = D .locals; arrays = [] })
-    (record { edition = D .edition; scalars = D .scalars; locals = n; arrays = [] }))
+abbrev pub withNumber : ℕ → Limits → ℕ → Limits
+withNumber k d n =
+    pick (eqb k 0) (record { edition = n; scalars = d .scalars; locals = d .locals; arrays = d .arrays })
+    (pick (eqb k 1) (record { edition = d .edition; scalars = n; locals = d .locals; arrays = d .arrays })
+    (record { edition = d .edition; scalars = d .scalars; locals = n; arrays = d .arrays }))
 
-abbrev pub numberLine : ℕ → Declared → Parser Declared
-numberLine k D = numberOf k >>= λ n. give (withNumber k D n)
+abbrev pub fromLocals : Limits → Parser Sheet
+fromLocals d = numberOf 2 >>= λ n. fromArrays (withNumber 2 d n)
 
--- ---- from the given values on
+abbrev pub fromScalars : Limits → Parser Sheet
+fromScalars d = numberOf 1 >>= λ n. fromLocals (withNumber 1 d n)
 
-abbrev pub sheetOf : Declared → List Item → Formula → Sheet
-sheetOf D is F = record { declared = D; given = is; formula = F }
+abbrev pub fromEdition : Limits → Parser Sheet
+fromEdition d = numberOf 0 >>= λ n. fromScalars (withNumber 0 d n)
 
-unfoldable pub fromGiven : Declared → Parser Sheet
-fromGiven D =
-    givenLine D >>= λ given.
-    key (bytes "formula=") >> (formula D 64 [] >>= λ F. mark feed >> (finish >> give (sheetOf D given F)))
+-- after k of the first three lines
+abbrev pub afterNumbers : ℕ → Limits → Parser Sheet
+afterNumbers zero d = fromEdition d
+afterNumbers (suc zero) d = fromScalars d
+afterNumbers (suc (suc zero)) d = fromLocals d
+afterNumbers (suc (suc (suc k))) d = fromArrays d
 
--- ---- the answer of some of the lines, over words that are laid before the formula's tokens
+-- ---- what was read, over n words that were zero: a line's own answer, and where the reader stands after k lines
 
-abbrev pub laidFormula : Formula → Words → Words
-laidFormula F w = laidEnds 0 (formulaTokens F) (laidTokens 0 (formulaTokens F) w)
+-- the answer of the line with one number that comes k-th
+pub record Numbered (k : ℕ) (s : Bytes) (at : ℕ) (d l : Limits) (e : ℕ) : Type 0 where
+  pub number : ℕ
+  pub read : numberOf k (lineAt s at) ≡ found number (lineAt s e)
+  pub known : l ≡ withNumber k d number
 
-pub record SheetFound (x : Read Sheet) (laid : Sheet → Words) (w′ : Words) (scalars arrays : ℕ) : Type 0 where
-  pub sheet : Sheet
+abbrev pub NumberRead : ℕ → Bytes → ℕ → Limits → Progress → Type 0
+NumberRead k s at d (progress.Refused e p) = numberOf k (lineAt s at) ≡ refused e p
+NumberRead k s at d (progress.Read l t e) = Numbered k s at d l e
+
+-- numbers of the first lines
+pub record Headed (k : ℕ) (s : Bytes) (n : ℕ) (d : Limits) (at : ℕ) (w : Words) : Type 0 where
+  pub rest : sheet (lineAt s 0) ≡ afterNumbers k d (lineAt s at)
+  pub scalars : d .scalars ≤ 64
+  pub locals : d .locals ≤ 32
+  pub words : w ≡ replicate n 0
+  pub enough : pathAt ≤ n
+
+-- the arrays
+pub record Arrayed (s : Bytes) (n : ℕ) (d : Limits) (at : ℕ) (w : Words) : Type 0 where
+  pub declared : Declared
+  pub rest : sheet (lineAt s 0) ≡ fromGiven declared (lineAt s at)
+  pub counts : Counts d declared
+  pub small : Small d
+  pub declares : Declares declared (d .scalars) (d .arrays) w
+  pub words : w ≡ laidArrays declared (replicate n 0)
+  pub long : length w ≡ n
+  pub enough : pathAt ≤ n
+
+-- the given values
+pub record Filled (s : Bytes) (n : ℕ) (d : Limits) (at : ℕ) (w : Words) : Type 0 where
+  pub declared : Declared
+  pub items : List Item
+  pub rest : sheet (lineAt s 0) ≡ fromFormula declared items (lineAt s at)
+  pub counts : Counts d declared
+  pub small : Small d
+  pub words : w ≡ laidGiven items (laidArrays declared (replicate n 0))
+  pub long : length w ≡ n
+  pub enough : pathAt ≤ n
+
+-- the whole sheet, with so many tokens; what was due while the formula was read still stands in the words
+pub record Tabled (s : Bytes) (n : ℕ) (d : Limits) (t : ℕ) (w : Words) : Type 0 where
+  pub whole : Sheet
   pub after : Reader
-  pub is : x ≡ found sheet after
-  pub many : sheet .declared .scalars ≡ scalars
-  pub count : length (sheet .declared .arrays) ≡ arrays
-  pub words : Beside (laidFormula (sheet .formula) (laid sheet)) w′
+  pub is : sheet (lineAt s 0) ≡ found whole after
+  pub scalars : whole .declared .scalars ≡ d .scalars
+  pub arrays : length (whole .declared .arrays) ≡ d .arrays
+  pub tokens : length (formulaTokens (whole .formula)) ≡ t
+  pub words : Beside (tables whole n) w
 
-abbrev pub SheetDone : Read Sheet → (Sheet → Words) → ℕ → Words → Reading → Type 0
-SheetDone x laid n w′ (reading.Refused k p) = (x ≡ refused k p) × (length w′ ≡ n)
-SheetDone x laid n w′ (reading.Read scalars arrays) = SheetFound x laid w′ scalars arrays
+abbrev pub Reached : ℕ → Bytes → ℕ → Limits → ℕ → ℕ → Words → Type 0
+Reached zero s n d t at w = Headed 0 s n d at w
+Reached (suc zero) s n d t at w = Headed 1 s n d at w
+Reached (suc (suc zero)) s n d t at w = Headed 2 s n d at w
+Reached (suc (suc (suc zero))) s n d t at w = Headed 3 s n d at w
+Reached (suc (suc (suc (suc zero)))) s n d t at w = Arrayed s n d at w
+Reached (suc (suc (suc (suc (suc zero))))) s n d t at w = Filled s n d at w
+Reached (suc (suc (suc (suc (suc (suc k)))))) s n d t at w = Tabled s n d t w
 
--- the given values over the words w; and the arrays before them
-abbrev pub withGiven : Words → Sheet → Words
-withGiven w s = laidGiven (s .given) w
+-- k lines are read, of which p tells
+abbrev pub Went : ℕ → Bytes → ℕ → Progress → Words → Type 0
+Went k s n (progress.Refused e p) w = (sheet (lineAt s 0) ≡ refused e p) × (length w ≡ n)
+Went k s n (progress.Read d t at) w = Reached k s n d t at w
 
-abbrev pub withArrays : Words → Sheet → Words
-withArrays w s = laidGiven (s .given) (laidArrays (s .declared) w)
+-- before the first line
+abbrev pub unread : Progress
+unread = progress.Read (record { edition = 0; scalars = 0; locals = 0; arrays = 0 }) 0 0

@@ -82,10 +82,11 @@ pub(crate) fn arrays_line(s: &[u8], at: usize, scalars: u32, w: &mut [u32]) -> A
     requires { ⌜ (scalars ≤ 64) × (pathAt ≤ length (now w)) ⌝ }
     ensures { λ r. ⌜ ArraysDone (now (s .entry)) at scalars (now (w .entry)) (now (w .exit)) r ⌝ }
 {
-    if !lines::begins(s, at, b"arrays=") {
+    let key = b"arrays=";
+    if !lines::begins(s, at, key) {
         return Arrays::Refused(3, at);
     }
-    match contents(s, at + 7, scalars, w) {
+    match contents(s, at + key.len(), scalars, w) {
         Arrays::Refused(k, p) => Arrays::Refused(k, p),
         Arrays::Read(n, end, e) => {
             if text::class_at(s, e) != text::FEED {

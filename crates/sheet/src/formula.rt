@@ -185,10 +185,11 @@ pub(crate) fn formula_line(s: &[u8], at: usize, d: Limits, w: &mut [u32]) -> Par
     requires { ⌜ Small d × (pathAt ≤ length (now w)) ⌝ }
     ensures { λ r. ⌜ ((D : Declared) → Counts d D → LineRead (now (s .entry)) at D (now (w .entry)) (now (w .exit)) r) ⌝ }
 {
-    if !lines::begins(s, at, b"formula=") {
+    let key = b"formula=";
+    if !lines::begins(s, at, key) {
         return Parsed::Refused(3, at);
     }
-    match scan(s, at + 8, d, 0, 0, w) {
+    match scan(s, at + key.len(), d, 0, 0, w) {
         Scanned::Refused(k, p) => Parsed::Refused(k, p),
         Scanned::Read(n, e, _) => {
             if text::class_at(s, e) != text::FEED {

@@ -213,10 +213,11 @@ pub(crate) fn given_line(s: &[u8], at: usize, scalars: u32, arrays: u32, w: &mut
     ensures { λ r. ⌜ ((D : Declared) → Declares D scalars arrays (now (w .entry))
         → GivenDone D (now (s .entry)) at (now (w .entry)) (now (w .exit)) r) ⌝ }
 {
-    if !lines::begins(s, at, b"given=") {
+    let key = b"given=";
+    if !lines::begins(s, at, key) {
         return Given::Refused(3, at);
     }
-    match contents(s, at + 6, scalars, arrays, w) {
+    match contents(s, at + key.len(), scalars, arrays, w) {
         Given::Refused(k, p) => Given::Refused(k, p),
         Given::Read(e) => {
             if text::class_at(s, e) != text::FEED {

@@ -17,16 +17,25 @@ mod stack;
 mod whole;
 mod words;
 
+use crate::whole::Progress;
+
 // A token: its code and operand (a constant's word, or the number of a scalar, local or array).
 pub struct Token {
     pub code: u32,
     pub operand: u32,
 }
 
-// A sheet as it was read: a refusal's number and place, or how many scalars and arrays there are.
+// A sheet as it was read: a refusal's number and place, or how many scalars, arrays and tokens there are.
 pub enum Reading {
-    Refused(u32, usize),
-    Read(u32, u32),
+    Refused {
+        number: u32,
+        place: usize,
+    },
+    Read {
+        scalars: u32,
+        arrays: u32,
+        tokens: u32,
+    },
 }
 
 // Where the words have what is due while the formula is read, and its end.
@@ -61,13 +70,17 @@ pub fn read_sheet(s: &[u8], w: &mut [u32]) -> Reading
 {
     clear(w);
     match whole::six_lines(s, w) {
-        Reading::Refused(k, p) => {
+        Progress::Refused(number, place) => {
             clear(w);
-            Reading::Refused(k, p)
+            Reading::Refused { number, place }
         }
-        Reading::Read(scalars, arrays) => {
+        Progress::Read(d, tokens, _) => {
             zero(w, DUES, DUES_END);
-            Reading::Read(scalars, arrays)
+            Reading::Read {
+                scalars: d.scalars,
+                arrays: d.arrays,
+                tokens,
+            }
         }
     }
 }

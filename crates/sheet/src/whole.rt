@@ -1,16 +1,11 @@
-// The six lines in order: each reader goes on where the one before stopped.
+// The six lines in order: one reader is handed on from line to line.
 ghost use mathlib.Core.Path.{_≡_};
-ghost use Prim.Native.Nat.{_≤_};
-ghost use lib.ListN.{length};
-ghost use Rattle.specification.specs.Lines.{Declared};
-ghost use Rattle.specification.specs.Sheet.{sheet};
+ghost use Prim.Native.Nat.{_≤_, _+_};
+ghost use lib.ListN.{length, replicate};
 ghost use Rattle.tables.specs.Layout.{pathAt};
 ghost use Rattle.sheet.specs.Reader.{lineAt};
 ghost use Rattle.sheet.specs.Answers.{countRead};
-ghost use Rattle.sheet.specs.Items.{Declares, Arranged};
-ghost use Rattle.sheet.specs.FormulaLine.{Small, Counts};
-ghost use Rattle.sheet.specs.Whole.{headed, headingRead, placeOf, onward, numberOf, numberLine, fromGiven, withGiven, withArrays, SheetDone};
-use crate::Reading;
+ghost use Rattle.sheet.specs.Whole.{unread, numberOf, NumberRead, Headed, Arrayed, Filled, Went};
 use crate::arrays;
 use crate::arrays::Arrays;
 use crate::formula;
@@ -21,121 +16,150 @@ use crate::given::Given;
 use crate::lines;
 use crate::lines::Count;
 use crate::reader;
-use crate::reader::Reader;
 
-// The first three lines: a refusal's number and place, or edition, scalars and locals, and the place after them.
-pub(crate) enum Heading {
+// How far a sheet was read: a refusal's number and place; or what is declared, how many tokens stand in the table, and the
+// place where reading goes on.
+pub(crate) enum Progress {
     Refused(u32, usize),
-    Is(u32, u32, u32, usize),
+    Read(Limits, u32, usize),
 }
 
-// Nothing is read yet.
-fn nothing() -> Heading
-    ensures { λ r. ⌜ r ≡ Heading.Is 0 0 0 0 ⌝ }
+// The lines by their numbers.
+const EDITION: u32 = 0;
+
+const SCALARS: u32 = 1;
+
+const LOCALS: u32 = 2;
+
+const ARRAYS: u32 = 3;
+
+const GIVEN: u32 = 4;
+
+const FORMULA: u32 = 5;
+
+// Before the first line.
+fn nothing() -> Progress
+    ensures { λ r. ⌜ r ≡ unread ⌝ }
 {
-    Heading::Is(0, 0, 0, 0)
+    Progress::Read(
+        Limits {
+            edition: 0,
+            scalars: 0,
+            locals: 0,
+            arrays: 0,
+        },
+        0,
+        0,
+    )
 }
 
-// The place where reading goes on, or that of the refusal.
-pub(crate) fn place(h: Heading) -> usize
-    ensures { λ r. ⌜ r ≡ placeOf h ⌝ }
-{
-    match h {
-        Heading::Refused(_, p) => p,
-        Heading::Is(_, _, _, e) => e,
-    }
-}
+// ---- one line, on the sheet and a place
 
 // The number of the edition's line, of the scalars' or of the locals'.
 fn counted(s: &[u8], at: usize, k: u32) -> Count
     ensures { λ r. ⌜ countRead (now (s .entry)) r ≡ numberOf k (lineAt (now (s .entry)) at) ⌝ }
 {
-    if k == 0 {
+    if k == EDITION {
         return lines::count_line(s, at, b"edition=", 1, 1);
     }
-    if k == 1 {
+    if k == SCALARS {
         return lines::count_line(s, at, b"scalars=", 0, 64);
     }
     lines::count_line(s, at, b"locals=", 0, 32)
 }
 
-// One of these lines, after what was read before it.
-pub(crate) fn number_line(s: &[u8], at: usize, h: Heading, k: u32) -> Heading
-    ensures { λ r. ⌜ headingRead (now (s .entry)) r ≡ onward h (λ D. numberLine k D (lineAt (now (s .entry)) at)) ⌝ }
+// One of these lines, and what is declared with its number.
+fn number_line(s: &[u8], at: usize, d: Limits, k: u32) -> Progress
+    ensures { λ r. ⌜ NumberRead k (now (s .entry)) at d r ⌝ }
 {
-    match h {
-        Heading::Refused(n, p) => Heading::Refused(n, p),
-        Heading::Is(edition, scalars, locals, _) => match counted(s, at, k) {
-            Count::Refused(n, p) => Heading::Refused(n, p),
-            Count::Is(n, e) => {
-                if k == 0 {
-                    return Heading::Is(n, scalars, locals, e);
-                }
-                if k == 1 {
-                    return Heading::Is(edition, n, locals, e);
-                }
-                Heading::Is(edition, scalars, n, e)
+    match counted(s, at, k) {
+        Count::Refused(n, p) => Progress::Refused(n, p),
+        Count::Is(n, e) => {
+            let mut l = d;
+            if k == EDITION {
+                l.edition = n;
+                return Progress::Read(l, 0, e);
             }
-        },
+            if k == SCALARS {
+                l.scalars = n;
+                return Progress::Read(l, 0, e);
+            }
+            l.locals = n;
+            Progress::Read(l, 0, e)
+        }
     }
 }
 
-// The first three lines: the reader goes from one to the next.
-fn three_lines<'a>(r: Reader<'a>) -> Heading
-    ensures { λ x. ⌜ headingRead (now (r .entry .sheet)) x ≡ headed (lineAt (now (r .entry .sheet)) (r .entry .at)) ⌝ }
+// The line of arrays, of given values, of the formula: what is known after each.
+fn after_arrays(s: &[u8], at: usize, d: Limits, w: &mut [u32]) -> Progress
+    requires { ⌜ Headed 3 (now s) (length (now w)) d at (now w) ⌝ }
+    ensures { λ r. ⌜ Went 4 (now (s .entry)) (length (now (w .entry))) r (now (w .exit)) ⌝ }
 {
-    let edition = reader::number(r, nothing(), 0);
-    let r = reader::past(r, edition);
-    let scalars = reader::number(r, edition, 1);
-    let r = reader::past(r, scalars);
-    reader::number(r, scalars, 2)
+    match arrays::arrays_line(s, at, d.scalars, w) {
+        Arrays::Refused(k, p) => Progress::Refused(k, p),
+        Arrays::Read(n, _, e) => {
+            let mut l = d;
+            l.arrays = n;
+            Progress::Read(l, 0, e)
+        }
+    }
 }
 
-// The lines of given values and of the formula.
-fn from_given(s: &[u8], at: usize, d: Limits, w: &mut [u32]) -> Reading
-    requires { ⌜ (Arranged (d .scalars) (d .arrays) (now w)) × Small d × (pathAt ≤ length (now w)) ⌝ }
-    ensures { λ r. ⌜ ((D : Declared) → Counts d D → Declares D (d .scalars) (d .arrays) (now (w .entry))
-        → SheetDone (fromGiven D (lineAt (now (s .entry)) at)) (withGiven (now (w .entry))) (length (now (w .entry))) (now (w .exit)) r) ⌝ }
+fn after_given(s: &[u8], at: usize, d: Limits, w: &mut [u32]) -> Progress
+    requires { ⌜ Arrayed (now s) (length (now w)) d at (now w) ⌝ }
+    ensures { λ r. ⌜ Went 5 (now (s .entry)) (length (now (w .entry))) r (now (w .exit)) ⌝ }
 {
     match given::given_line(s, at, d.scalars, d.arrays, w) {
-        Given::Refused(k, p) => Reading::Refused(k, p),
-        Given::Read(e) => match formula::formula_line(s, e, d, w) {
-            Parsed::Refused(k, p) => Reading::Refused(k, p),
-            Parsed::Read(_) => Reading::Read(d.scalars, d.arrays),
-        },
+        Given::Refused(k, p) => Progress::Refused(k, p),
+        Given::Read(e) => Progress::Read(d, 0, e),
     }
 }
 
-// The lines from the arrays on, after the first three.
-pub(crate) fn after_heading(s: &[u8], at: usize, h: Heading, w: &mut [u32]) -> Reading
-    requires { ⌜ (headingRead (now s) h ≡ headed (lineAt (now s) 0)) × (at ≡ placeOf h) × (pathAt ≤ length (now w)) ⌝ }
-    ensures { λ r. ⌜ SheetDone (sheet (lineAt (now (s .entry)) 0)) (withArrays (now (w .entry))) (length (now (w .entry))) (now (w .exit)) r ⌝ }
+fn after_formula(s: &[u8], at: usize, d: Limits, w: &mut [u32]) -> Progress
+    requires { ⌜ Filled (now s) (length (now w)) d at (now w) ⌝ }
+    ensures { λ r. ⌜ Went 6 (now (s .entry)) (length (now (w .entry))) r (now (w .exit)) ⌝ }
 {
-    match h {
-        Heading::Refused(k, p) => Reading::Refused(k, p),
-        Heading::Is(edition, scalars, locals, _) => match arrays::arrays_line(s, at, scalars, w) {
-            Arrays::Refused(k, p) => Reading::Refused(k, p),
-            Arrays::Read(n, _, e) => from_given(
-                s,
-                e,
-                Limits {
-                    edition,
-                    scalars,
-                    locals,
-                    arrays: n,
-                },
-                w,
-            ),
-        },
+    match formula::formula_line(s, at, d, w) {
+        Parsed::Refused(k, p) => Progress::Refused(k, p),
+        Parsed::Read(n) => Progress::Read(d, n, s.len()),
     }
 }
 
-// All six lines, by one reader. What was due while the formula was read still stands in the words.
-pub(crate) fn six_lines(s: &[u8], w: &mut [u32]) -> Reading
-    requires { ⌜ pathAt ≤ length (now w) ⌝ }
-    ensures { λ r. ⌜ SheetDone (sheet (lineAt (now (s .entry)) 0)) (withArrays (now (w .entry))) (length (now (w .entry))) (now (w .exit)) r ⌝ }
+// The line that comes k-th, after what was read before it.
+pub(crate) fn line_at(s: &[u8], p: Progress, k: u32, w: &mut [u32]) -> Progress
+    requires { ⌜ (k ≤ 5) × Went k (now s) (length (now w)) p (now w) ⌝ }
+    ensures { λ r. ⌜ Went (k + 1) (now (s .entry)) (length (now (w .entry))) r (now (w .exit)) ⌝ }
 {
-    let r = reader::stand(s, 0);
-    let h = three_lines(r);
-    reader::rest(reader::past(r, h), h, w)
+    match p {
+        Progress::Refused(n, q) => Progress::Refused(n, q),
+        Progress::Read(d, _, at) => {
+            if k <= LOCALS {
+                return number_line(s, at, d, k);
+            }
+            if k == ARRAYS {
+                return after_arrays(s, at, d, w);
+            }
+            if k == GIVEN {
+                return after_given(s, at, d, w);
+            }
+            after_formula(s, at, d, w)
+        }
+    }
+}
+
+// ---- all six
+
+// The reader is made here and stands at each line in turn. What was due while the formula was read still stands in the words.
+pub(crate) fn six_lines(s: &[u8], w: &mut [u32]) -> Progress
+    requires { ⌜ (now w ≡ replicate (length (now w)) 0) × (pathAt ≤ length (now w)) ⌝ }
+    ensures { λ r. ⌜ Went 6 (now (s .entry)) (length (now (w .entry))) r (now (w .exit)) ⌝ }
+{
+    reader::stand(s, nothing())
+        .line(EDITION, w)
+        .line(SCALARS, w)
+        .line(LOCALS, w)
+        .line(ARRAYS, w)
+        .line(GIVEN, w)
+        .line(FORMULA, w)
+        .read
 }

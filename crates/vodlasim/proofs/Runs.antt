@@ -93,8 +93,8 @@ record Found (b : Bytes) (S : Setting) (n : ℕ) (w : Words) (scalars arrays : �
   pub long : length w ≡ n
   pub ready : Ready w S scalars arrays sheet
 
-module _ (b : Bytes) (S : Setting) (n : ℕ) (limit : S .path ≤ 32768) (size : 6144 + 12 * S .path ≤ n) (w : Words) (scalars arrays : ℕ) where
-  found-of : (x : Read Sheet) → read b ≡ x → reading.Read scalars arrays ≡ readingOf x → w ≡ wordsOf n x → Found b S n w scalars arrays
+module _ (b : Bytes) (S : Setting) (n : ℕ) (limit : S .path ≤ 32768) (size : 6144 + 12 * S .path ≤ n) (w : Words) (scalars arrays tokens : ℕ) where
+  found-of : (x : Read Sheet) → read b ≡ x → reading.Read scalars arrays tokens ≡ readingOf x → w ≡ wordsOf n x → Found b S n w scalars arrays
   found-of (refused k p) e t h = contradiction cc
   found-of (found s r) e t h =
       let enough : 6144 ≤ n = omega (arith, size) in
@@ -124,7 +124,7 @@ module _ (b : Bytes) (S : Setting) (n : ℕ) (limit : S .path ≤ 32768) (size :
         });
       }
 
-  pub readied : reading.Read scalars arrays ≡ readingOf (read b) → w ≡ wordsOf n (read b) → Readied w S scalars arrays
+  pub readied : reading.Read scalars arrays tokens ≡ readingOf (read b) → w ≡ wordsOf n (read b) → Readied w S scalars arrays
   readied t h = let f = found-of (read b) refl t h in record { sheet = f .sheet; ready = f .ready }
 
 -- ---- the four ways of the call
@@ -147,12 +147,12 @@ module _ (b : Bytes) (S : Setting) (w w' : List ℕ) (o : Bytes) where
         let is = unread-of (read b) k p t in
         refused-answers k p (reads b S (length w) (length o) e l ∙ ap (afterReading S (length o)) is) (h ∙ ap (wordsOf (length w)) is)
 
-    pub walk-answers : (v : Words) (o' : Bytes) (scalars arrays : ℕ) (r : Outcome) → reading.Read scalars arrays ≡ readingOf (read b) →
+    pub walk-answers : (v : Words) (o' : Bytes) (scalars arrays tokens : ℕ) (r : Outcome) → reading.Read scalars arrays tokens ≡ readingOf (read b) →
         v ≡ wordsOf (length w) (read b) → Walked v w' o o' S scalars arrays r → Answered b S w w' o o' r
     unfolding wordsAfter
-    walk-answers v o' scalars arrays r t h walked =
+    walk-answers v o' scalars arrays tokens r t h walked =
         let (limit, size) = memory-of (S .path) (length w) e in
-        let f = found-of b S (length w) limit size v scalars arrays (read b) refl t h in
+        let f = found-of b S (length w) limit size v scalars arrays tokens (read b) refl t h in
         let c = reads b S (length w) (length o) e l ∙ ap (afterReading S (length o)) (f .is) in
         record {
           result = walked .result (f .sheet) (f .ready) ∙ sym (ap outcome c);

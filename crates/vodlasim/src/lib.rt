@@ -44,7 +44,11 @@ pub fn run(sheet: &[u8], setting: Setting, work: &mut [u32], output: &mut [u8]) 
         };
     }
     match read_sheet(sheet, work) {
-        Reading::Refused(number, place) => Outcome::Refused { number, place },
-        Reading::Read(scalars, arrays) => walk_tables(work, output, setting, scalars, arrays),
+        Reading::Refused { number, place } => Outcome::Refused { number, place },
+        Reading::Read {
+            scalars,
+            arrays,
+            tokens: _,
+        } => walk_tables(work, output, setting, scalars, arrays),
     }
 }

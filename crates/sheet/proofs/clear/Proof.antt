@@ -1,5 +1,5 @@
 -- All words are made zero. Assumes nothing.
-use Rattle.sheet.proofs.SixLines.{zeroed-all}
+use Rattle.sheet.proofs.Cleared.{zeroed-all}
 use borrow.Author.Needs.{needs}
 use Rattle.sheet.proofs.clear.Statement.{statement}
 use Rattle.sheet.proofs.clear.Tie as tie

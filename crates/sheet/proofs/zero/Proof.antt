@@ -2,7 +2,7 @@
 use Prim.Native.Nat.{_-_, _≤_}
 use native.Mathlib.Omega.{arith}
 use Rattle.sheet.specs.Whole.{Zeroed}
-use Rattle.sheet.proofs.SixLines.{zeroed-none, zeroed-more, zeroed-end}
+use Rattle.sheet.proofs.Cleared.{zeroed-none, zeroed-more, zeroed-end}
 use borrow.Author.Needs.{needs}
 use Rattle.sheet.proofs.zero.Statement.{statement}
 use Rattle.sheet.proofs.zero.Tie as tie

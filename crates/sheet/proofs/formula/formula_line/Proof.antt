@@ -20,7 +20,7 @@ use Rattle.sheet.proofs.formula.formula_line.Tie as tie
 -- ---- places: the key was there, the tokens were read, and in each what is known
 
 abbrev start : tie.Else1 → tie.Start
-start c = c .before .before .before .before .before
+start c = c .before .before .before .before .before .before
 
 abbrev read : tie.After-n → tie.After-scan
 read c = c .before .before .before .before
@@ -59,15 +59,12 @@ long-here c = through-long _ (key-here (keyed c)) (through-here c)
 
 -- ---- the needs
 
-slice-aggregate-begins : tie.Need-slice-aggregate-begins
-slice-aggregate-begins c = search needs
-
 begins-requires : tie.Need-begins-requires
 begins-requires c κs = search needs
 
 returns : tie.Need-returns
 returns c =
-    let a = c .before .before .before .before .before in
+    let a = c .before .before .before .before .before .before in
     λ D g. (line-no-key (a .args .s .now) (a .args .at) D (sym (c .before .begins .ensures) ∙ not-true _ (c .if1 .taken)), refl)
 
 add-scan : tie.Need-add-scan
@@ -97,8 +94,8 @@ returns-2 c =
 add-if3 : tie.Need-add-if3
 add-if3 c = let p = c .before .before .before in omega (arith, through-here p .within, start (keyed p) .good .0 .1)
 
-add-t23 : tie.Need-add-t23
-add-t23 c = search needs
+add-t24 : tie.Need-add-t24
+add-t24 c = search needs
 
 same-length-2 : tie.Need-same-length-2
 same-length-2 c = long-here (c .before .before .before .before)
@@ -141,7 +138,6 @@ pub formula-line-spec : {M : Type 1} → statement M
 formula-line-spec =
     tie.close
     (tie.spec
-    slice-aggregate-begins
     begins-requires
     returns
     add-scan
@@ -152,7 +148,7 @@ formula-line-spec =
     same-length
     returns-2
     add-if3
-    add-t23
+    add-t24
     same-length-2
     returns-3
     ends-requires

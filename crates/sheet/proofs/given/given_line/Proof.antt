@@ -10,9 +10,6 @@ use borrow.Author.Needs.{needs}
 use Rattle.sheet.proofs.given.given_line.Statement.{statement}
 use Rattle.sheet.proofs.given.given_line.Tie as tie
 
-slice-aggregate-begins : tie.Need-slice-aggregate-begins
-slice-aggregate-begins c = search needs
-
 begins-requires : tie.Need-begins-requires
 begins-requires c κs = search needs
 
@@ -20,7 +17,7 @@ returns : tie.Need-returns
 returns c = λ D d. (lined-no D _ _ (sym (c .before .begins .ensures) ∙ not-true _ (c .if1 .taken)), refl)
 
 add-contents : tie.Need-add-contents
-add-contents c = omega (arith, key-fits (c .before .before .before .before .before .args .s .now) (bytes "given=") (c .before .before .before .before .before .args .at) (sym (c .before .begins .ensures) ∙ not-false _ (c .if1 .left)))
+add-contents c = omega (arith, key-fits (c .before .before .before .before .before .before .args .s .now) (bytes "given=") (c .before .before .before .before .before .before .args .at) (sym (c .before .begins .ensures) ∙ not-false _ (c .if1 .left)))
 
 contents-requires : tie.Need-contents-requires
 contents-requires c κs = search needs
@@ -43,12 +40,12 @@ returns-2 c =
     let p = c .before .before .before .before .before in
     λ D d. (lined-open D _ _ (sym (p .before .before .before .before .before .begins .ensures) ∙ not-false _ (p .before .before .before .before .if1 .left)) _ _ (p .before .before .contents .result) ((p .before .before .contents .ensures) D d) _ (c .before .before .before .e .given .1) (λ e. (c .if2 .taken) ((c .before .class-at .ensures) ∙ e)), search needs)
 
-add-t21 : tie.Need-add-t21
+add-t22 : tie.Need-add-t22
 unfolding classNumber
-add-t21 c =
+add-t22 c =
     let p = c .before .before .before .before .before in
     let q = p .before .before .before .before .before in
-    omega (arith, class-inside (q .before .before .before .before .args .s .now) _ feed (sym (c .before .class-at .ensures) ∙ (c .if2 .left)))
+    omega (arith, class-inside (q .before .before .before .before .before .args .s .now) _ feed (sym (c .before .class-at .ensures) ∙ (c .if2 .left)))
 
 same-length-2 : tie.Need-same-length-2
 same-length-2 c = search needs
@@ -71,7 +68,6 @@ pub given-line-spec : {M : Type 1} → statement M
 given-line-spec =
     tie.close
     (tie.spec
-    slice-aggregate-begins
     begins-requires
     returns
     add-contents
@@ -81,7 +77,7 @@ given-line-spec =
     class-at-requires
     same-length
     returns-2
-    add-t21
+    add-t22
     same-length-2
     returns-3
     same-length-3

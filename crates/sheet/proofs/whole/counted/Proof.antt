@@ -1,7 +1,7 @@
 -- By the number of the line. Assumes nothing.
 use mathlib.Core.Path.{_∙_}
 use borrow.Author.Tests.{eq-eqb, ne-eqb}
-use Rattle.sheet.proofs.Carried.{first-line, second-line, third-line}
+use Rattle.sheet.proofs.SixLines.{first-line, second-line, third-line}
 use borrow.Author.Needs.{needs}
 use Rattle.sheet.proofs.whole.counted.Statement.{statement}
 use Rattle.sheet.proofs.whole.counted.Tie as tie
