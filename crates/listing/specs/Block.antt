@@ -11,6 +11,7 @@ use Rattle.specification.specs.Lines.{Declared, cells}
 use Rattle.specification.specs.Place.{Place}
 use Rattle.specification.specs.Value.{Valuation, full}
 use Rattle.specification.specs.Listing.{blockOf, blockText}
+use Rattle.tables.specs.Layout.{maxCells, maxArrays}
 use Rattle.sheet.specs.Tables.{Words}
 use Rattle.sheet.specs.Held.{Holds, ArraysAt}
 use Rattle.listing.specs.declared.Head.{Head}
@@ -23,8 +24,8 @@ pub record Shows (w : Words) (scalars arrays : ℕ) (D : Declared) (β : Valuati
   pub size : Sized w
   pub scalar-count : scalars ≡ D .scalars
   pub array-count : arrays ≡ length (D .arrays)
-  pub few : arrays ≤ 16
-  pub limit : cells D ≤ 512
+  pub few : arrays ≤ maxArrays
+  pub limit : cells D ≤ maxCells
   pub firsts : ArraysAt w D
   pub holds : Holds w β
   pub valid : (p : Place) (v : ℤ) → β p ≡ full v → T (in32 v)
