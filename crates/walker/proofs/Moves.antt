@@ -20,7 +20,7 @@ use Rattle.walker.specs.States.{overMode, downMode, blockMode, upMode, w
 -- ---- the invariant by the mode
 
 -- 2 or 3
-up-modes : (m : ℕ) → Ups m → (2 ≤ m) × (m ≤ 3)
+up-modes : (m : ℕ) → Ups m → (upMode ≤ m) × (m ≤ wonMode)
 up-modes m (inl e) = (omega arith, omega arith)
 up-modes m (inr e) = (omega arith, omega arith)
 
