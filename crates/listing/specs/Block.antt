@@ -8,6 +8,7 @@ use Rattle.specification.specs.Lines.{Declared, cells}
 use Rattle.specification.specs.Value.{Valuation}
 use Rattle.specification.specs.WellFormed.{Valid}
 use Rattle.specification.specs.Listing.{blockOf, blockText}
+use Rattle.tables.specs.Layout.{maxCells, maxArrays}
 use Rattle.sheet.specs.Tables.{Words}
 use Rattle.sheet.specs.Held.{Holds, ArraysAt}
 use Rattle.listing.specs.declared.Head.{Head}
@@ -20,8 +21,8 @@ pub record Shows (w : Words) (scalars arrays : ℕ) (D : Declared) (β : Valuati
   pub size : Sized w
   pub scalar-count : scalars ≡ D .scalars
   pub array-count : arrays ≡ length (D .arrays)
-  pub few : arrays ≤ 16
-  pub limit : cells D ≤ 512
+  pub few : arrays ≤ maxArrays
+  pub limit : cells D ≤ maxCells
   pub firsts : ArraysAt w D
   pub holds : Holds w β
   pub valid : Valid D β

@@ -9,7 +9,7 @@ use Rattle.specification.specs.Lines.{CellName, scalar, element}
 use Rattle.specification.specs.Listing as listing
 use Rattle.specification.specs.Listing.{Line, answerHead, errorHead, cellLabel, _is_, headLines, linesText}
 use Rattle.values.specs.Word.{signed}
-use Rattle.tables.specs.Layout.{Words, duesAt, flagAt, valueAt, firstAt}
+use Rattle.tables.specs.Layout.{Words, duesAt, flagAt, valueAt, firstAt, maxCells, maxArrays}
 use Rattle.listing.specs.declared.Head.{Head}
 use Rattle.listing.specs.declared.Head.the-variants.{Answer, Error}
 use Rattle.listing.specs.Put.{Put}
@@ -23,12 +23,12 @@ Sized w = duesAt ≤ length w
 -- array a ends at its first cell or after it, and among the cells
 pub record Spans (w : Words) (a : ℕ) : Type 0 where
   pub rising : firstAt w a ≤ firstAt w (a + 1)
-  pub limit : firstAt w (a + 1) ≤ 512
+  pub limit : firstAt w (a + 1) ≤ maxCells
 
 -- so do these arrays
 pub record Laid (w : Words) (arrays : ℕ) : Type 0 where
   pub size : Sized w
-  pub few : arrays ≤ 16
+  pub few : arrays ≤ maxArrays
   pub spans : (a : ℕ) → a < arrays → Spans w a
 
 -- ---- lines

@@ -2,6 +2,7 @@
 ghost use Prim.Native.Nat.{_+_, _<_, _≤_};
 ghost use Rattle.specification.specs.Lines.{scalar, element};
 ghost use Rattle.specification.specs.Listing.{cellLabel, labelText, linesText};
+ghost use Rattle.tables.specs.Layout.{maxCells, maxArrays};
 ghost use Rattle.listing.specs.Put.{Room, Put};
 ghost use Rattle.listing.specs.Model.{Sized, Spans, Laid, eachLine, lineAt, scalarLine, elementLine, arrayLines};
 use crate::put;
@@ -30,7 +31,7 @@ fn element_name(out: &mut [u8], at: usize, a: u32, e: u32) -> usize
 
 // `v0=7`, if the cell has a value.
 fn scalar(out: &mut [u8], at: usize, w: &[u32], n: u32) -> usize
-    requires { ⌜ (Sized (now w)) × (n < 512) × (Room at (linesText (scalarLine (now w) n))) ⌝ }
+    requires { ⌜ (Sized (now w)) × (n < maxCells) × (Room at (linesText (scalarLine (now w) n))) ⌝ }
     ensures { λ r. ⌜ Put (now (out .entry)) (now (out .exit)) at (linesText (scalarLine (now (w .entry)) n)) r ⌝ }
 {
     if tables::cell_flag(w, n) == 0 {
@@ -43,7 +44,7 @@ fn scalar(out: &mut [u8], at: usize, w: &[u32], n: u32) -> usize
 
 // `a0.2=-1`, if the cell has a value.
 fn element(out: &mut [u8], at: usize, w: &[u32], a: u32, e: u32, c: u32) -> usize
-    requires { ⌜ (Sized (now w)) × (c < 512) × (Room at (linesText (lineAt (now w) (element a e) c))) ⌝ }
+    requires { ⌜ (Sized (now w)) × (c < maxCells) × (Room at (linesText (lineAt (now w) (element a e) c))) ⌝ }
     ensures { λ r. ⌜ Put (now (out .entry)) (now (out .exit)) at (linesText (lineAt (now (w .entry)) (element a e) c)) r ⌝ }
 {
     if tables::cell_flag(w, c) == 0 {
@@ -58,7 +59,7 @@ fn element(out: &mut [u8], at: usize, w: &[u32], a: u32, e: u32, c: u32) -> usiz
 
 // The n scalars.
 pub(crate) fn scalars(out: &mut [u8], at: usize, w: &[u32], n: u32) -> usize
-    requires { ⌜ (Sized (now w)) × (n ≤ 512) × (Room at (linesText (eachLine (scalarLine (now w)) 0 n))) ⌝ }
+    requires { ⌜ (Sized (now w)) × (n ≤ maxCells) × (Room at (linesText (eachLine (scalarLine (now w)) 0 n))) ⌝ }
     ensures { λ r. ⌜ Put (now (out .entry)) (now (out .exit)) at (linesText (eachLine (scalarLine (now (w .entry))) 0 n)) r ⌝ }
 {
     let mut p = at;
@@ -72,7 +73,7 @@ pub(crate) fn scalars(out: &mut [u8], at: usize, w: &[u32], n: u32) -> usize
 
 // The n elements of array a, whose first cell is c.
 fn elements(out: &mut [u8], at: usize, w: &[u32], a: u32, c: u32, n: u32) -> usize
-    requires { ⌜ (Sized (now w)) × (c + n ≤ 512) × (Room at (linesText (eachLine (elementLine (now w) a c) 0 n))) ⌝ }
+    requires { ⌜ (Sized (now w)) × (c + n ≤ maxCells) × (Room at (linesText (eachLine (elementLine (now w) a c) 0 n))) ⌝ }
     ensures { λ r. ⌜ Put (now (out .entry)) (now (out .exit)) at (linesText (eachLine (elementLine (now (w .entry)) a c) 0 n)) r ⌝ }
 {
     let mut p = at;
@@ -86,7 +87,7 @@ fn elements(out: &mut [u8], at: usize, w: &[u32], a: u32, c: u32, n: u32) -> usi
 
 // The elements of array a.
 fn array(out: &mut [u8], at: usize, w: &[u32], a: u32) -> usize
-    requires { ⌜ (Sized (now w)) × (a < 16) × (Spans (now w) a) × (Room at (linesText (arrayLines (now w) a))) ⌝ }
+    requires { ⌜ (Sized (now w)) × (a < maxArrays) × (Spans (now w) a) × (Room at (linesText (arrayLines (now w) a))) ⌝ }
     ensures { λ r. ⌜ Put (now (out .entry)) (now (out .exit)) at (linesText (arrayLines (now (w .entry)) a)) r ⌝ }
 {
     let from = tables::first_cell(w, a);

@@ -3,6 +3,7 @@
 ghost use mathlib.Core.Path.{_≡_};
 ghost use Prim.Native.Nat.{_≤_};
 ghost use lib.ListN.{length};
+ghost use Rattle.tables.specs.Layout.{maxCells};
 ghost use Rattle.listing.specs.Put.{Put};
 ghost use Rattle.listing.specs.Model.{Laid, Headed, modelText};
 ghost use Rattle.listing.specs.Block.{Ready, Listed};
@@ -55,7 +56,7 @@ fn top(out: &mut [u8], head: Head) -> usize
 
 // All of it from the start of the memory, or as much as there is room for. Gives its length.
 fn block(out: &mut [u8], w: &[u32], scalars: u32, arrays: u32, head: Head) -> usize
-    requires { ⌜ (Laid (now w) arrays) × (scalars ≤ 512) ⌝ }
+    requires { ⌜ (Laid (now w) arrays) × (scalars ≤ maxCells) ⌝ }
     ensures { λ r. ⌜ Put (now (out .entry)) (now (out .exit)) 0 (modelText (now (w .entry)) scalars arrays head) r ⌝ }
 {
     let p = top(out, head);
@@ -65,7 +66,7 @@ fn block(out: &mut [u8], w: &[u32], scalars: u32, arrays: u32, head: Head) -> us
 
 // Its length, by writing it into no memory.
 fn size(w: &[u32], scalars: u32, arrays: u32, head: Head) -> usize
-    requires { ⌜ (Laid (now w) arrays) × (scalars ≤ 512) ⌝ }
+    requires { ⌜ (Laid (now w) arrays) × (scalars ≤ maxCells) ⌝ }
     ensures { λ r. ⌜ r ≡ length (modelText (now (w .entry)) scalars arrays head) ⌝ }
 {
     let mut none = [0u8; 0];

@@ -5,48 +5,72 @@ use lib.ListN.{length, getD}
 use Rattle.tables.specs.declared.nodes.Node.{Node}
 use Rattle.tables.specs.Layout.{Words, nodeSlot}
 
--- ---- its words
+-- ---- which word is which
 
--- the token of its first formula, and the pointer to the rest of its list: 0 for the empty list, else one more than a node's number
+-- the token of the node's first formula is its first word
 abbrev pub headAt : Words → ℕ → ℕ
 headAt w d = getD w (nodeSlot d) 0
 
-abbrev pub restAt : Words → ℕ → ℕ
-restAt w d = getD w (nodeSlot d + 1) 0
+-- the pointer to the rest of its list: 0 for the empty list, else one more than a node's number
+abbrev pub restWord : ℕ → ℕ
+restWord d = nodeSlot d + 1
 
 -- what is left to do there
 abbrev pub todoWord : ℕ → ℕ
 todoWord d = nodeSlot d + 2
 
-abbrev pub todoAt : Words → ℕ → ℕ
-todoAt w d = getD w (todoWord d) 0
-
 -- the first word of the slot that the node changed, and the two words it held
-abbrev pub slotAt : Words → ℕ → ℕ
-slotAt w d = getD w (nodeSlot d + 3) 0
+abbrev pub slotWord : ℕ → ℕ
+slotWord d = nodeSlot d + 3
 
-abbrev pub hadAt : Words → ℕ → ℕ
-hadAt w d = getD w (nodeSlot d + 4) 0
+abbrev pub hadWord : ℕ → ℕ
+hadWord d = nodeSlot d + 4
 
-abbrev pub oldAt : Words → ℕ → ℕ
-oldAt w d = getD w (nodeSlot d + 5) 0
+abbrev pub oldWord : ℕ → ℕ
+oldWord d = nodeSlot d + 5
 
 -- the present value of a quantifier's local, and the last one
 abbrev pub currentWord : ℕ → ℕ
 currentWord d = nodeSlot d + 6
 
+abbrev pub lastWord : ℕ → ℕ
+lastWord d = nodeSlot d + 7
+
+-- whether the node stands in an inner tree, and whether that tree has had an error leaf
+abbrev pub innerWord : ℕ → ℕ
+innerWord d = nodeSlot d + 8
+
+abbrev pub badWord : ℕ → ℕ
+badWord d = nodeSlot d + 9
+
+-- ---- what they hold
+
+abbrev pub restAt : Words → ℕ → ℕ
+restAt w d = getD w (restWord d) 0
+
+abbrev pub todoAt : Words → ℕ → ℕ
+todoAt w d = getD w (todoWord d) 0
+
+abbrev pub slotAt : Words → ℕ → ℕ
+slotAt w d = getD w (slotWord d) 0
+
+abbrev pub hadAt : Words → ℕ → ℕ
+hadAt w d = getD w (hadWord d) 0
+
+abbrev pub oldAt : Words → ℕ → ℕ
+oldAt w d = getD w (oldWord d) 0
+
 abbrev pub currentAt : Words → ℕ → ℕ
 currentAt w d = getD w (currentWord d) 0
 
 abbrev pub lastAt : Words → ℕ → ℕ
-lastAt w d = getD w (nodeSlot d + 7) 0
+lastAt w d = getD w (lastWord d) 0
 
--- whether the node stands in an inner tree, and whether that tree has had an error leaf
 abbrev pub innerAt : Words → ℕ → ℕ
-innerAt w d = getD w (nodeSlot d + 8) 0
+innerAt w d = getD w (innerWord d) 0
 
 abbrev pub badAt : Words → ℕ → ℕ
-badAt w d = getD w (nodeSlot d + 9) 0
+badAt w d = getD w (badWord d) 0
 
 -- ---- a node goes onto the path
 

@@ -27,6 +27,7 @@ use Rattle.sheet.specs.Whole.{readingOf, wordsOf}
 use Rattle.sheet.proofs.Tables.{tables-length}
 use Rattle.sheet.proofs.ReadSheet.{read-counts, read-ready}
 use Rattle.sheet.proofs.Shallow.{formula-shallow}
+use Rattle.walker.specs.declared.Task.{Task}
 use Rattle.walker.specs.Walked.{Ready, Readied, Walked}
 use Rattle.vodlasim.specs.Answered.{Answered}
 
@@ -85,16 +86,20 @@ module _ (b : Bytes) (S : Setting) (n m : ℕ) where
 
 -- ---- what the walk wants
 
+-- the walk of a sheet that was read, from its formula's first token on
+abbrev taskOf : Setting → ℕ → ℕ → Task
+taskOf S scalars arrays = record { setting = S; scalars = scalars; arrays = arrays; formula = 0 }
+
 -- the sheet that was read, and its tables in the words w
-record Found (b : Bytes) (S : Setting) (n : ℕ) (w : Words) (scalars arrays : ℕ) : Type 0 where
+record Found (b : Bytes) (n : ℕ) (w : Words) (t : Task) : Type 0 where
   pub sheet : Sheet
   pub after : Reader
   pub is : read b ≡ found sheet after
   pub long : length w ≡ n
-  pub ready : Ready w S scalars arrays sheet
+  pub ready : Ready w t sheet
 
 module _ (b : Bytes) (S : Setting) (n : ℕ) (limit : S .path ≤ 32768) (size : 6144 + 12 * S .path ≤ n) (w : Words) (scalars arrays tokens : ℕ) where
-  found-of : (x : Read Sheet) → read b ≡ x → reading.Read scalars arrays tokens ≡ readingOf x → w ≡ wordsOf n x → Found b S n w scalars arrays
+  found-of : (x : Read Sheet) → read b ≡ x → reading.Read scalars arrays tokens ≡ readingOf x → w ≡ wordsOf n x → Found b n w (taskOf S scalars arrays)
   found-of (refused k p) e t h = contradiction cc
   found-of (found s r) e t h =
       let enough : 6144 ≤ n = omega (arith, size) in
@@ -109,7 +114,7 @@ module _ (b : Bytes) (S : Setting) (n : ℕ) (limit : S .path ≤ 32768) (size :
         after = r;
         is = e;
         long = long;
-        ready = subst (λ x. Ready x S scalars arrays s) (sym h) (record {
+        ready = subst (λ x. Ready x (taskOf S scalars arrays) s) (sym h) (record {
           well = well;
           formula = record {
             held = held .formula;
@@ -124,7 +129,7 @@ module _ (b : Bytes) (S : Setting) (n : ℕ) (limit : S .path ≤ 32768) (size :
         });
       }
 
-  pub readied : reading.Read scalars arrays tokens ≡ readingOf (read b) → w ≡ wordsOf n (read b) → Readied w S scalars arrays
+  pub readied : reading.Read scalars arrays tokens ≡ readingOf (read b) → w ≡ wordsOf n (read b) → Readied w (taskOf S scalars arrays)
   readied t h = let f = found-of (read b) refl t h in record { sheet = f .sheet; ready = f .ready }
 
 -- ---- the four ways of the call
@@ -147,15 +152,15 @@ module _ (b : Bytes) (S : Setting) (w w' : List ℕ) (o : Bytes) where
         let is = unread-of (read b) k p t in
         refused-answers k p (reads b S (length w) (length o) e l ∙ ap (afterReading S (length o)) is) (h ∙ ap (wordsOf (length w)) is)
 
-    pub walk-answers : (v : Words) (o' : Bytes) (scalars arrays tokens : ℕ) (r : Outcome) → reading.Read scalars arrays tokens ≡ readingOf (read b) →
-        v ≡ wordsOf (length w) (read b) → Walked v w' o o' S scalars arrays r → Answered b S w w' o o' r
+    pub walk-answers : (v v' : Words) (o' : Bytes) (scalars arrays tokens : ℕ) (r : Outcome) → reading.Read scalars arrays tokens ≡ readingOf (read b) →
+        v ≡ wordsOf (length w) (read b) → Walked v v' o o' (taskOf S scalars arrays) r → w' ≡ replicate (length v') 0 → Answered b S w w' o o' r
     unfolding wordsAfter
-    walk-answers v o' scalars arrays tokens r t h walked =
+    walk-answers v v' o' scalars arrays tokens r t h walked zero =
         let (limit, size) = memory-of (S .path) (length w) e in
         let f = found-of b S (length w) limit size v scalars arrays tokens (read b) refl t h in
         let c = reads b S (length w) (length o) e l ∙ ap (afterReading S (length o)) (f .is) in
         record {
           result = walked .result (f .sheet) (f .ready) ∙ sym (ap outcome c);
           output = walked .output (f .sheet) (f .ready) ∙ sym (ap (λ x. outputAfter x o) c);
-          work = walked .words ∙ ap (λ k. replicate k 0) (f .long);
+          work = zero ∙ ap (λ k. replicate k 0) (walked .words ∙ f .long);
         }

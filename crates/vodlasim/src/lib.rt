@@ -10,6 +10,7 @@ use sheet::clear;
 use sheet::read_sheet;
 use specification::Outcome;
 use specification::Setting;
+use walker::Task;
 use walker::machine::walk_tables;
 
 // Whether the path limit and the number of work words are as document 01 wants them.
@@ -25,7 +26,7 @@ fn enough(path: u32, words: usize) -> bool
     6144 + 12 * (path as usize) <= words
 }
 
-// Reads the sheet, walks its tree and writes the listing; every length of the slices is allowed.
+// Reads the sheet, walks its tree, writes the listing and leaves the work words all zero; every length of the slices is allowed.
 pub fn run(sheet: &[u8], setting: Setting, work: &mut [u32], output: &mut [u8]) -> Outcome
     ensures { λ r. ⌜ Answered (now (sheet .entry)) setting (now (work .entry)) (now (work .exit)) (now (output .entry)) (now (output .exit)) r ⌝ }
 {
@@ -49,6 +50,16 @@ pub fn run(sheet: &[u8], setting: Setting, work: &mut [u32], output: &mut [u8]) 
             scalars,
             arrays,
             tokens: _,
-        } => walk_tables(work, output, setting, scalars, arrays),
+        } => {
+            let task = Task {
+                setting,
+                scalars,
+                arrays,
+                formula: 0,
+            };
+            let outcome = walk_tables(work, output, task);
+            clear(work);
+            outcome
+        }
     }
 }

@@ -141,7 +141,7 @@ module _ {w : Words} {r : Regs} (x : Questions w r) where
 pub question-at : {w : Words} {r : Regs} → Visited w r → impCode ≤ r .due .job → r .due .job ≤ notCode → Questions w r
 question-at {w} {r} v low high = go (eq-or-lt-of-le low)
   where
-    go : (4 ≡ r .due .job) ⊎ (4 < r .due .job) → Questions w r
+    go : (impCode ≡ r .due .job) ⊎ (impCode < r .due .job) → Questions w r
     go (inl e) = questions (inl (record { at = v; code = sym e; formula = (omega arith, omega arith) }))
     go (inr l) = questions (inr (record { at = v; code = omega arith; formula = (omega arith, omega arith) }))
 

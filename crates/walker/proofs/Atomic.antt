@@ -19,13 +19,13 @@ use Rattle.specification.proofs.Laws.Scope as places
 use Rattle.specification.proofs.Laws.Value.{sane-val, sane-bare}
 use Rattle.values.specs.Word.{biased, signed}
 use Rattle.values.proofs.Laws.Word.{signed-biased, signed-eq, signed-lt, signed-le}
-use Rattle.tables.specs.Codes.{eqCode}
+use Rattle.tables.specs.Codes.{eqCode, neCode, ltCode, leCode, gtCode, geCode}
 use Rattle.tables.specs.Layout.{maxLocals, maxCells}
 use Rattle.tables.proofs.Laws.Kept.{spare-kept}
 use Rattle.sheet.specs.Tables.{Words}
 use Rattle.sheet.specs.Held.{endAt, slotOf}
 use Rattle.terms.specs.declared.Sides.{Sides}
-use Rattle.terms.specs.Results.{tagOf, wordOf, Valued}
+use Rattle.terms.specs.Results.{tagOf, wordOf, Valued, valueTag, bareTag, errorTag}
 use Rattle.walker.specs.declared.Regs.{Regs}
 use Rattle.walker.specs.Frame as frames
 use Rattle.walker.specs.Frame.{Item, treeItems, innerIn}
@@ -46,7 +46,7 @@ value-is D S α v t ok w z e h = ap signed h ∙ signed-biased z (sane-val D S �
 
 -- ---- the atoms that compare
 
-module _ {n : ℕ} {w : Words} {r : Regs} (x : Entered w r n) (low : 7 ≤ n) (high : n ≤ 11) where
+module _ {n : ℕ} {w : Words} {r : Regs} (x : Entered w r n) (low : neCode ≤ n) (high : n ≤ geCode) where
   abbrev pub comparing : (c : World) (o : Bytes) (i : In c o w r) → Compared (c .declared) (c .tables) (r .due .head) n (at-form i (x .formula) (x .code) .F)
   comparing c o i = let a = at-form i (x .formula) (x .code) in says-compared (a .stands) (a .code) low high
 
@@ -63,7 +63,7 @@ module _ {n : ℕ} {w : Words} {r : Regs} (x : Entered w r n) (low : 7 ≤ n) (h
   unfolding compare-terms grow compared
   compare-errs c o i κ e = let a = at-form i (x .formula) (x .code) in form-tree i a ∙ rw (comparing c o i .2 .is, e)
 
-  pub compare-tested : {w' : Words} {s : Sides} (v : Valued w w' (r .due .head + 1) (endAt w (r .due .head)) s) → s .ltag ≡ 0 → s .rtag ≡ 0 →
+  pub compare-tested : {w' : Words} {s : Sides} (v : Valued w w' (r .due .head + 1) (endAt w (r .due .head)) s) → s .ltag ≡ valueTag → s .rtag ≡ valueTag →
       (b : Bool) → Compares n (s .left) (s .right) b → Tested w' r b
   unfolding compare-terms back in-spare grow compared pairOf
   compare-tested {w'} {s} v l h b k = record {
@@ -179,7 +179,7 @@ module _ {w : Words} {r : Regs} (x : Entered w r eqCode) where
       );
     }
 
-    pub eq-left-error : s .ltag ≡ 2 → OneLeaf w' r (errorDue (s .left) (r .due .head))
+    pub eq-left-error : s .ltag ≡ errorTag → OneLeaf w' r (errorDue (s .left) (r .due .head))
     unfolding equate
     eq-left-error e = leaf-by (s .left) go
       where
@@ -189,7 +189,7 @@ module _ {w : Words} {r : Regs} (x : Entered w r eqCode) where
         go D m tok (bare z) q rest α a b c d = absurd (omega arith)
         go D m tok (err κ) q rest α a b c d = ap (λ k. errorLeaf k tok α) (sym b)
 
-    pub eq-right-error : ¬ (s .ltag ≡ 2) → s .rtag ≡ 2 → OneLeaf w' r (errorDue (s .right) (r .due .head))
+    pub eq-right-error : ¬ (s .ltag ≡ errorTag) → s .rtag ≡ errorTag → OneLeaf w' r (errorDue (s .right) (r .due .head))
     unfolding equate
     eq-right-error n e = leaf-by (s .right) go
       where
@@ -201,7 +201,7 @@ module _ {w : Words} {r : Regs} (x : Entered w r eqCode) where
         go D m tok (bare y) (err κ) rest α a b c d = ap (λ k. errorLeaf k tok α) (sym d)
         go D m tok (err y) (err κ) rest α a b c d = absurd (n a)
 
-    pub eq-both-bare : s .ltag ≡ 1 → s .rtag ≡ 1 → OneLeaf w' r (errorDue noValue (r .due .head))
+    pub eq-both-bare : s .ltag ≡ bareTag → s .rtag ≡ bareTag → OneLeaf w' r (errorDue noValue (r .due .head))
     unfolding equate
     eq-both-bare e f = leaf-by 1 go
       where
@@ -214,7 +214,7 @@ module _ {w : Words} {r : Regs} (x : Entered w r eqCode) where
         go D m tok (bare y) (bare z) rest α a b c d = refl
 
     -- one side bare, the other with a value
-    pub eq-assign-left : s .ltag ≡ 1 → s .rtag ≡ 0 → Assigns w' r (s .left) (s .right)
+    pub eq-assign-left : s .ltag ≡ bareTag → s .rtag ≡ valueTag → Assigns w' r (s .left) (s .right)
     unfolding eq-terms back in-spare equate
     eq-assign-left e f = record {
       at = visited;
@@ -237,7 +237,7 @@ module _ {w : Words} {r : Regs} (x : Entered w r eqCode) where
           );
     }
 
-    pub eq-assign-right : s .ltag ≡ 0 → s .rtag ≡ 1 → Assigns w' r (s .right) (s .left)
+    pub eq-assign-right : s .ltag ≡ valueTag → s .rtag ≡ bareTag → Assigns w' r (s .right) (s .left)
     unfolding eq-terms back in-spare equate
     eq-assign-right e f = record {
       at = visited;
@@ -261,7 +261,7 @@ module _ {w : Words} {r : Regs} (x : Entered w r eqCode) where
     }
 
     -- two values
-    pub eq-tested : s .ltag ≡ 0 → s .rtag ≡ 0 → Tested w' r (eqb (s .left) (s .right))
+    pub eq-tested : s .ltag ≡ valueTag → s .rtag ≡ valueTag → Tested w' r (eqb (s .left) (s .right))
     unfolding eq-terms back in-spare equate
     eq-tested e f = record {
       at = visited;
@@ -278,7 +278,7 @@ module _ {w : Words} {r : Regs} (x : Entered w r eqCode) where
     }
 
     -- no other tags
-    tag-small : (y : Side) → tagOf y ≤ 2
+    tag-small : (y : Side) → tagOf y ≤ errorTag
     tag-small (val z) = omega arith
     tag-small (bare p) = omega arith
     tag-small (err κ) = omega arith
@@ -286,16 +286,16 @@ module _ {w : Words} {r : Regs} (x : Entered w r eqCode) where
     some-in : In (x .at .c) (x .at .o) w' r
     some-in = forth eq-terms v (x .at .ins)
 
-    pub left-tag : ¬ (s .ltag ≡ 1) → ¬ (s .ltag ≡ 2) → s .ltag ≡ 0
+    pub left-tag : ¬ (s .ltag ≡ bareTag) → ¬ (s .ltag ≡ errorTag) → s .ltag ≡ valueTag
     left-tag a b = omega (arith, ltag-is (x .at .c) (x .at .o) some-in, tag-small (lefts (x .at .c) (x .at .o) some-in))
 
-    pub right-tag : ¬ (s .rtag ≡ 1) → ¬ (s .rtag ≡ 2) → s .rtag ≡ 0
+    pub right-tag : ¬ (s .rtag ≡ bareTag) → ¬ (s .rtag ≡ errorTag) → s .rtag ≡ valueTag
     right-tag a b = omega (arith, rtag-is (x .at .c) (x .at .o) some-in, tag-small (rights (x .at .c) (x .at .o) some-in))
 
 -- ---- comparisons of words, by the code
 
 module _ (x y : ℕ) where
-  pub compares-ne : Compares 7 x y (not (eqb x y))
+  pub compares-ne : Compares neCode x y (not (eqb x y))
   unfolding test
   compares-ne ne e = ap not (sym (signed-eq x y))
   compares-ne lt e = absurd (omega arith)
@@ -303,7 +303,7 @@ module _ (x y : ℕ) where
   compares-ne gt e = absurd (omega arith)
   compares-ne ge e = absurd (omega arith)
 
-  pub compares-lt : Compares 8 x y (ltb x y)
+  pub compares-lt : Compares ltCode x y (ltb x y)
   unfolding test
   compares-lt ne e = absurd (omega arith)
   compares-lt lt e = sym (signed-lt x y)
@@ -311,7 +311,7 @@ module _ (x y : ℕ) where
   compares-lt gt e = absurd (omega arith)
   compares-lt ge e = absurd (omega arith)
 
-  pub compares-le : Compares 9 x y (leb x y)
+  pub compares-le : Compares leCode x y (leb x y)
   unfolding test
   compares-le ne e = absurd (omega arith)
   compares-le lt e = absurd (omega arith)
@@ -319,7 +319,7 @@ module _ (x y : ℕ) where
   compares-le gt e = absurd (omega arith)
   compares-le ge e = absurd (omega arith)
 
-  pub compares-gt : Compares 10 x y (ltb y x)
+  pub compares-gt : Compares gtCode x y (ltb y x)
   unfolding test
   compares-gt ne e = absurd (omega arith)
   compares-gt lt e = absurd (omega arith)
@@ -327,7 +327,7 @@ module _ (x y : ℕ) where
   compares-gt gt e = sym (signed-lt y x)
   compares-gt ge e = absurd (omega arith)
 
-  pub compares-ge : (code : ℕ) → ¬ (code ≡ 7) → ¬ (code ≡ 8) → ¬ (code ≡ 9) → ¬ (code ≡ 10) → Compares code x y (leb y x)
+  pub compares-ge : (code : ℕ) → ¬ (code ≡ neCode) → ¬ (code ≡ ltCode) → ¬ (code ≡ leCode) → ¬ (code ≡ gtCode) → Compares code x y (leb y x)
   unfolding test
   compares-ge code a b c d ne e = absurd (a e)
   compares-ge code a b c d lt e = absurd (b e)

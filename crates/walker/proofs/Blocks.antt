@@ -23,6 +23,7 @@ use Rattle.listing.specs.declared.Written.the-variants.{Full, Bytes as Count}
 use Rattle.listing.specs.Model.{headOf}
 use Rattle.listing.specs.Block as blocks
 use Rattle.walker.specs.declared.Regs.{Regs}
+use Rattle.walker.specs.declared.Task.{Task}
 use Rattle.walker.specs.Walk as walks
 use Rattle.walker.specs.Path.{World, Output, Count as Counted}
 use Rattle.walker.specs.Sim.{no, Up, BlockOf, Leaf, Over, over, up}
@@ -123,7 +124,7 @@ module _ {c : World} {o : Bytes} {w : Words} {r : Regs} (l : Leaf c o w r) where
   skips h = passes (l .out) (rw (lt-ltb (r .tallies .answers + r .tallies .errors) (c .setting .skip) h) at block-result)
 
   -- the words show the valuation
-  pub shows : {S : Setting} {scalars arrays : ℕ} → Fixed c S scalars arrays → blocks.Shows w scalars arrays (c .declared) (l .α)
+  pub shows : {t : Task} → Fixed c t → blocks.Shows w (t .scalars) (t .arrays) (c .declared) (l .α)
   shows f = record {
     size = omega (arith, l .path .size);
     scalar-count = f .scalar-count;
@@ -174,17 +175,17 @@ pub told : {w : Words} {scalars arrays : ℕ} {h : Head} {v : Written} (o o' : B
 told {w} {scalars} {arrays} {h} {v} o o' h' v' e f p =
     subst (λ (z : Written). blocks.Listed w scalars arrays h' o o' z) f (subst (λ (z : Head). blocks.Listed w scalars arrays z o o' v) e p)
 
-module _ {w : Words} {o : Bytes} {r : Regs} {S : Setting} {scalars arrays : ℕ} (a : BlockDue w o r S scalars arrays) where
+module _ {w : Words} {o : Bytes} {r : Regs} {t : Task} (a : BlockDue w o r t) where
   pub head-due : HeadDue r
   head-due = omega (arith, a .leaf .leaves, a .leaf .count .budget, a .leaf .count .fits)
 
-  pub listing-ready : blocks.Ready w scalars arrays
+  pub listing-ready : blocks.Ready w (t .scalars) (t .arrays)
   listing-ready = record { D = a .c .declared; β = a .leaf .α; shows = shows (a .leaf) (a .fixed) }
 
   pub start-inside : r .written ≤ length o
   start-inside = omega (arith, a .leaf .out .inside, out-size (a .leaf .out))
 
-  pub blocked-skipped : {q : Regs} → q ≡ passedRegs r (r .written) → r .tallies .answers + r .tallies .errors < S .skip → Blocked w o o r q S scalars arrays
+  pub blocked-skipped : {q : Regs} → q ≡ passedRegs r (r .written) → r .tallies .answers + r .tallies .errors < t .setting .skip → Blocked w o o r q t
   blocked-skipped e h = rw e (record {
     sim = λ c f l. up refl (skips l (omega (arith, h, ap (λ (s : Setting). s .skip) (f .setting))));
     nodes = passed-nodes r;
@@ -192,10 +193,10 @@ module _ {w : Words} {o : Bytes} {r : Regs} {S : Setting} {scalars arrays : ℕ}
     size = refl;
   })
 
-  module _ {ys : Bytes} (h : S .skip ≤ r .tallies .answers + r .tallies .errors) where
+  module _ {ys : Bytes} (h : t .setting .skip ≤ r .tallies .answers + r .tallies .errors) where
     pub blocked-written : {q : Regs} (n : ℕ) → q ≡ passedRegs r (r .written + n) →
-        blocks.Listed w scalars arrays (headDue r) (midOf (r .written) (length o - r .written) o) ys (Count n) →
-        Blocked w o (putMid (r .written) (length o - r .written) o ys) r q S scalars arrays
+        blocks.Listed w (t .scalars) (t .arrays) (headDue r) (midOf (r .written) (length o - r .written) o) ys (Count n) →
+        Blocked w o (putMid (r .written) (length o - r .written) o ys) r q t
     blocked-written n e p = rw e (record {
       sim = λ c f l. up refl (fills l (omega (arith, h, ap (λ (s : Setting). s .skip) (f .setting))) n (p (c .declared) (l .α) (shows l f)));
       nodes = passed-nodes r;
@@ -207,8 +208,8 @@ module _ {w : Words} {o : Bytes} {r : Regs} {S : Setting} {scalars arrays : ℕ}
     })
 
     pub blocked-full : {q : Regs} → q ≡ stopRegs r outputEnd →
-        blocks.Listed w scalars arrays (headDue r) (midOf (r .written) (length o - r .written) o) ys Full →
-        Blocked w o (putMid (r .written) (length o - r .written) o ys) r q S scalars arrays
+        blocks.Listed w (t .scalars) (t .arrays) (headDue r) (midOf (r .written) (length o - r .written) o) ys Full →
+        Blocked w o (putMid (r .written) (length o - r .written) o ys) r q t
     blocked-full e p = rw e (record {
       sim = λ c f l. over refl (lacks l (omega (arith, h, ap (λ (s : Setting). s .skip) (f .setting))) (p (c .declared) (l .α) (shows l f)));
       nodes = refl;
@@ -228,8 +229,8 @@ module _ (r : Regs) {q : Regs} {t : Tallies} {n : ℕ} where
   passed-error u e j = e ∙ rw (u, ne-eqb (r .due .job) successJob j) refl
 
 -- where a block is written, its end is within the output
-pub written-inside : {w : Words} {o ys : Bytes} {r : Regs} {S : Setting} {scalars arrays : ℕ} (a : BlockDue w o r S scalars arrays) (n : ℕ) →
-    blocks.Listed w scalars arrays (headDue r) (midOf (r .written) (length o - r .written) o) ys (Count n) → r .written + n ≤ length o
+pub written-inside : {w : Words} {o ys : Bytes} {r : Regs} {t : Task} (a : BlockDue w o r t) (n : ℕ) →
+    blocks.Listed w (t .scalars) (t .arrays) (headDue r) (midOf (r .written) (length o - r .written) o) ys (Count n) → r .written + n ≤ length o
 written-inside a n p =
     let l = a .leaf in
     let z = p (a .c .declared) (l .α) (shows l (a .fixed)) in

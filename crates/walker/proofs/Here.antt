@@ -6,6 +6,7 @@ use Rattle.specification.specs.Lines.{Declared}
 use Rattle.specification.specs.Ast.{Term, constant, scalarAt, localAt, elementAt, apply, Formula, truth, and, or, imp, neg, eq, compare, ex, some, all}
 use Rattle.tables.specs.Layout.{tokenSlot, maxTokens}
 use Rattle.tables.specs.Kept.{SameTokens}
+use Rattle.tables.specs.Codes.{someCode, allCode}
 use Rattle.sheet.specs.Tables.{Words}
 use Rattle.sheet.specs.Held.{codeAt, operandAt, endAt, TokenAt, TermAt, TermsAt, LocalAt, FormulaAt}
 use Rattle.walker.specs.Stands.{bodyOf, Binds}
@@ -130,8 +131,8 @@ module _ (t w : Words) (s : SameTokens t w) where
       (rw e2 (token-here (q .0)), q .1, (z .0, z .1, rw e (z .2)))
   formula-here (ex l F) i q =
       (rw (ended-here (formula-ends t (suc (suc i)) F (q .2))) (token-here (q .0)), local-here (q .1), formula-here F (suc (suc i)) (q .2))
-  formula-here (some n l a b F) i q = range-here i 13 n l a b F (q .0) (q .1) (q .2) (q .3) (q .4) (formula-here F (endAt t (endAt t (suc (suc i)))) (q .4))
-  formula-here (all n l a b F) i q = range-here i 14 n l a b F (q .0) (q .1) (q .2) (q .3) (q .4) (formula-here F (endAt t (endAt t (suc (suc i)))) (q .4))
+  formula-here (some n l a b F) i q = range-here i someCode n l a b F (q .0) (q .1) (q .2) (q .3) (q .4) (formula-here F (endAt t (endAt t (suc (suc i)))) (q .4))
+  formula-here (all n l a b F) i q = range-here i allCode n l a b F (q .0) (q .1) (q .2) (q .3) (q .4) (formula-here F (endAt t (endAt t (suc (suc i)))) (q .4))
 
   -- the formula and the local of a quantifier
   pub body-here : {D : Declared} {h l : ℕ} {F : Formula} → Binds D t h l F → bodyOf w h ≡ bodyOf t h

@@ -10,7 +10,7 @@ use Rattle.specification.specs.Lines.{Declared}
 use Rattle.specification.specs.Ast.{Rel, ne, lt, le, gt, ge, Term, Formula, truth, and, or, imp, neg, eq, compare, ex, some, all}
 use Rattle.specification.specs.WellFormed.{Scope, enter, OkTerm, Ok}
 use Rattle.tables.specs.Layout.{maxLocals, maxNesting}
-use Rattle.tables.specs.Codes.{firstFormula, allCode}
+use Rattle.tables.specs.Codes.{firstFormula, allCode, trueCode, andCode, orCode, impCode, notCode, eqCode, exCode, someCode, neCode, geCode}
 use Rattle.sheet.specs.Tables.{Words}
 use Rattle.sheet.specs.Codes.{relCode}
 use Rattle.sheet.specs.Held.{codeAt, endAt, TermsAt, LocalAt, FormulaAt, height, Shallow}
@@ -163,23 +163,23 @@ module _ {D : Declared} {t : Words} {h : ℕ} where
   says {F} s e = subst (λ k. Says D t h k F) e (code-says F s)
 
   -- and for an atom that compares
-  pub says-compared : {F : Formula} {n : ℕ} → Stands D t h F → codeAt t h ≡ n → 7 ≤ n → n ≤ 11 → Compared D t h n F
+  pub says-compared : {F : Formula} {n : ℕ} → Stands D t h F → codeAt t h ≡ n → neCode ≤ n → n ≤ geCode → Compared D t h n F
   says-compared {F} {n} s e a b =
       rw (
-        ne-eqb n 1 (λ x. omega arith),
-        ne-eqb n 2 (λ x. omega arith),
-        ne-eqb n 3 (λ x. omega arith),
-        ne-eqb n 4 (λ x. omega arith),
-        ne-eqb n 5 (λ x. omega arith),
-        ne-eqb n 6 (λ x. omega arith),
-        ne-eqb n 12 (λ x. omega arith),
-        ne-eqb n 13 (λ x. omega arith),
-        ne-eqb n 14 (λ x. omega arith),
+        ne-eqb n trueCode (λ x. omega arith),
+        ne-eqb n andCode (λ x. omega arith),
+        ne-eqb n orCode (λ x. omega arith),
+        ne-eqb n impCode (λ x. omega arith),
+        ne-eqb n notCode (λ x. omega arith),
+        ne-eqb n eqCode (λ x. omega arith),
+        ne-eqb n exCode (λ x. omega arith),
+        ne-eqb n someCode (λ x. omega arith),
+        ne-eqb n allCode (λ x. omega arith),
       ) at (says s e)
 
 -- ---- no other codes
 
-rel-code : (r : Rel) → (7 ≤ relCode r) × (relCode r ≤ 11)
+rel-code : (r : Rel) → (neCode ≤ relCode r) × (relCode r ≤ geCode)
 rel-code ne = (omega arith, omega arith)
 rel-code lt = (omega arith, omega arith)
 rel-code le = (omega arith, omega arith)

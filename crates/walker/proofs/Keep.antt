@@ -7,10 +7,10 @@ use mathlib.Core.List.{List, [], _∷_}
 use lib.ListN.{getD}
 use Rattle.specification.specs.Place.{Place}
 use Rattle.specification.specs.Value.{Valuation}
-use Rattle.tables.specs.Layout.{nodeWords, nodeSlot}
+use Rattle.tables.specs.Layout.{nodeSlot, nodeEnd}
 use Rattle.tables.specs.Kept.{SameNodes}
 use Rattle.tables.proofs.Laws.Kept.{fewer-nodes}
-use Rattle.tables.specs.Node.{headAt, restAt}
+use Rattle.tables.specs.Node.{headAt, restAt, restWord, todoWord, slotWord, hadWord, oldWord, currentWord, lastWord, innerWord, badWord}
 use Rattle.sheet.specs.Tables.{Words}
 use Rattle.walker.specs.declared.Due.{Due}
 use Rattle.walker.specs.Frame.{Item, form, again, What, the, success, failure, error, Frame, pass, other, undo, range, asks, len, innerIn}
@@ -18,8 +18,8 @@ use Rattle.walker.specs.Path.{World, Pend, Job, Changed, FrameAt, Stack}
 
 -- the words of a node that is kept
 module _ {w w' : Words} (i : ℕ) (u : SameNodes (suc i) w w') where
-  same-word : (k : ℕ) → k < nodeWords → getD w' (nodeSlot i + k) 0 ≡ getD w (nodeSlot i + k) 0
-  same-word k h = u .same (nodeSlot i + k) (omega arith) (omega arith)
+  same-word : (j : ℕ) → nodeSlot i ≤ j → j < nodeEnd i → getD w' j 0 ≡ getD w j 0
+  same-word j low high = u .same j (omega arith) (omega arith)
 
   same-head : headAt w' i ≡ headAt w i
   same-head = u .same (nodeSlot i) (omega arith) (omega arith)
@@ -27,9 +27,9 @@ module _ {w w' : Words} (i : ℕ) (u : SameNodes (suc i) w w') where
   -- what a node keeps of a slot
   pub changed-keep : {p : Place} {α : Valuation} → Changed w i p α → Changed w' i p α
   changed-keep q = record {
-    slot = same-word 3 (omega arith) ∙ q .slot;
+    slot = same-word (slotWord i) (omega arith) (omega arith) ∙ q .slot;
     inside = q .inside;
-    saved = rw (same-word 4 (omega arith), same-word 5 (omega arith)) (q .saved);
+    saved = rw (same-word (hadWord i) (omega arith) (omega arith), same-word (oldWord i) (omega arith) (omega arith)) (q .saved);
   }
 
 module _ (c : World) (w : Words) where
@@ -54,7 +54,7 @@ module _ (c : World) (w w' : Words) where
         rw head (q .4),
         rw head (q .5),
         rw head (q .6),
-        rw (same-word k v 1 (omega arith)) (pend-keep k (restAt w k) is (fewer-nodes (omega arith) u) (q .7)),
+        rw (same-word k v (restWord k) (omega arith) (omega arith)) (pend-keep k (restAt w k) is (fewer-nodes (omega arith) u) (q .7)),
       )
   pend-keep n p (again l F m x ∷ is) u q =
       let k = q .0 in
@@ -66,8 +66,8 @@ module _ (c : World) (w w' : Words) where
         h,
         rw head (q .3),
         rw head (q .4),
-        rw (same-word k v 6 (omega arith), same-word k v 7 (omega arith)) (q .5),
-        rw (same-word k v 1 (omega arith)) (pend-keep k (restAt w k) is (fewer-nodes (omega arith) u) (q .6)),
+        rw (same-word k v (currentWord k) (omega arith) (omega arith), same-word k v (lastWord k) (omega arith) (omega arith)) (q .5),
+        rw (same-word k v (restWord k) (omega arith) (omega arith)) (pend-keep k (restAt w k) is (fewer-nodes (omega arith) u) (q .6)),
       )
 
   -- the same below another number
@@ -88,7 +88,7 @@ module _ (c : World) (w w' : Words) where
         h,
         rw head (q .4),
         rw head (q .5),
-        rw (same-word k v 6 (omega arith), same-word k v 7 (omega arith)) (q .6),
+        rw (same-word k v (currentWord k) (omega arith) (omega arith), same-word k v (lastWord k) (omega arith) (omega arith)) (q .6),
         pend-keep n (d .rest) is u (q .7),
       )
   job-keep n d success u q = q
@@ -96,33 +96,33 @@ module _ (c : World) (w w' : Words) where
   job-keep n d (error κ tok) u q = q
 
   pub frame-keep : (i : ℕ) (m : Bool) (f : Frame) → SameNodes (suc i) w w' → FrameAt c w i m f → FrameAt c w' i m f
-  frame-keep i m (pass α) u q = same-word i u 2 (omega arith) ∙ q
+  frame-keep i m (pass α) u q = same-word i u (todoWord i) (omega arith) (omega arith) ∙ q
   frame-keep i m (other G is α) u q =
       let head = same-head i u in (
-        same-word i u 2 (omega arith) ∙ q .0,
+        same-word i u (todoWord i) (omega arith) (omega arith) ∙ q .0,
         rw head (q .1),
         rw head (q .2),
         rw head (q .3),
-        rw (same-word i u 1 (omega arith)) (pend-keep i (restAt w i) is (fewer-nodes (omega arith) u) (q .4)),
+        rw (same-word i u (restWord i) (omega arith) (omega arith)) (pend-keep i (restAt w i) is (fewer-nodes (omega arith) u) (q .4)),
       )
-  frame-keep i m (undo p s α) u q = (same-word i u 2 (omega arith) ∙ q .0, changed-keep i u (q .1))
+  frame-keep i m (undo p s α) u q = (same-word i u (todoWord i) (omega arith) (omega arith) ∙ q .0, changed-keep i u (q .1))
   frame-keep i m (range l x j n F is α) u q =
-      let now = same-word i u 6 (omega arith) in (
-        same-word i u 2 (omega arith) ∙ q .0,
+      let now = same-word i u (currentWord i) (omega arith) (omega arith) in (
+        same-word i u (todoWord i) (omega arith) (omega arith) ∙ q .0,
         changed-keep i u (q .1),
         rw (same-head i u) (q .2),
-        rw (now, same-word i u 7 (omega arith)) (q .3),
+        rw (now, same-word i u (lastWord i) (omega arith) (omega arith)) (q .3),
         rw now (q .4),
-        rw (same-word i u 1 (omega arith)) (pend-keep i (restAt w i) is (fewer-nodes (omega arith) u) (q .5)),
+        rw (same-word i u (restWord i) (omega arith) (omega arith)) (pend-keep i (restAt w i) is (fewer-nodes (omega arith) u) (q .5)),
       )
   frame-keep i m (asks tok q is α e) u h = (
-    same-word i u 2 (omega arith) ∙ h .0,
+    same-word i u (todoWord i) (omega arith) (omega arith) ∙ h .0,
     same-head i u ∙ h .1,
     h .2,
     h .3,
-    same-word i u 8 (omega arith) ∙ h .4,
-    same-word i u 9 (omega arith) ∙ h .5,
-    rw (same-word i u 1 (omega arith)) (pend-keep i (restAt w i) is (fewer-nodes (omega arith) u) (h .6)),
+    same-word i u (innerWord i) (omega arith) (omega arith) ∙ h .4,
+    same-word i u (badWord i) (omega arith) (omega arith) ∙ h .5,
+    rw (same-word i u (restWord i) (omega arith) (omega arith)) (pend-keep i (restAt w i) is (fewer-nodes (omega arith) u) (h .6)),
   )
 
   pub stack-keep : (fr : List Frame) → SameNodes (len fr) w w' → Stack c w fr → Stack c w' fr

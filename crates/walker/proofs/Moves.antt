@@ -10,16 +10,17 @@ use Rattle.specification.specs.declared.Setting.{Setting}
 use Rattle.specification.specs.Bytes.{Bytes}
 use Rattle.sheet.specs.Tables.{Words}
 use Rattle.walker.specs.declared.Regs.{Regs}
+use Rattle.walker.specs.declared.Task.{Task}
 use Rattle.walker.specs.Frame.{the}
 use Rattle.walker.specs.Path.{World}
 use Rattle.walker.specs.Sim.{Down, Leaf, Over, Sim, over, down, up, won, block}
 use Rattle.walker.specs.Loop.{Ups, IsUp, Rising, Rose, Fixed, BlockDue, Blocked, measure, VisitDue, Arrived, Goes, Went, Climbs, Climbed, Runs, Settled, Live, Moved}
-use Rattle.walker.specs.States.{overMode, downMode, blockMode}
+use Rattle.walker.specs.States.{overMode, downMode, blockMode, upMode, wonMode}
 
 -- ---- the invariant by the mode
 
 -- 2 or 3
-up-modes : (m : ℕ) → Ups m → (2 ≤ m) × (m ≤ 3)
+up-modes : (m : ℕ) → Ups m → (upMode ≤ m) × (m ≤ wonMode)
 up-modes m (inl e) = (omega arith, omega arith)
 up-modes m (inr e) = (omega arith, omega arith)
 
@@ -153,11 +154,11 @@ module _ {w w1 : Words} {r q : Regs} (g : Climbing w w1 r q) where
 
 -- ---- a block
 
-module _ {w : Words} {o : Bytes} {r : Regs} {S : Setting} {scalars arrays : ℕ} where
-  pub block-due : Runs w o r S scalars arrays → r .mode ≡ blockMode → BlockDue w o r S scalars arrays
+module _ {w : Words} {o : Bytes} {r : Regs} {t : Task} where
+  pub block-due : Runs w o r t → r .mode ≡ blockMode → BlockDue w o r t
   block-due a m = record { c = a .c; fixed = a .fixed; leaf = sim-leaf m (a .sim) }
 
-  pub settles : {o' : Bytes} {q : Regs} → r .mode ≡ blockMode → Blocked w o o' r q S scalars arrays → Settled w o o' r q S scalars arrays
+  pub settles : {o' : Bytes} {q : Regs} → r .mode ≡ blockMode → Blocked w o o' r q t → Settled w o o' r q t
   settles m v = record {
     sim = λ c f s. v .sim c f (sim-leaf m s);
     nodes = v .nodes;
@@ -165,41 +166,41 @@ module _ {w : Words} {o : Bytes} {r : Regs} {S : Setting} {scalars arrays : ℕ}
     size = v .size;
   }
 
-  pub settled : (r .mode ≡ blockMode → ⊥) → Settled w o o r r S scalars arrays
+  pub settled : (r .mode ≡ blockMode → ⊥) → Settled w o o r r t
   settled n = record { sim = λ c f s. s; nodes = refl; falls = inl (refl, n); size = refl }
 
 -- ---- all three
 
 -- a mode that none of the three changes
-still : {m : ℕ} → m ≤ 4 → (m ≡ 0 → ⊥) → (m ≡ 1 → ⊥) → (m ≡ 4 → ⊥) → (Ups m → ⊥) → ⊥
-still {m} h n0 n1 n4 n = let n2 : m ≡ 2 → ⊥ = λ e. n (inl e) in let n3 : m ≡ 3 → ⊥ = λ e. n (inr e) in omega arith
+still : {m : ℕ} → m ≤ blockMode → (m ≡ overMode → ⊥) → (m ≡ downMode → ⊥) → (m ≡ blockMode → ⊥) → (Ups m → ⊥) → ⊥
+still {m} h n0 n1 n4 n = let n2 : m ≡ upMode → ⊥ = λ e. n (inl e) in let n3 : m ≡ wonMode → ⊥ = λ e. n (inr e) in omega arith
 
-module _ {S : Setting} {scalars arrays : ℕ} where
-  setting-path : (c : World) → Fixed c S scalars arrays → c .setting .path ≡ S .path
+module _ {t : Task} where
+  setting-path : (c : World) → Fixed c t → c .setting .path ≡ t .setting .path
   setting-path c f = ap (λ (z : Setting). z .path) (f .setting)
 
-  setting-budget : (c : World) → Fixed c S scalars arrays → c .setting .budget ≡ S .budget
+  setting-budget : (c : World) → Fixed c t → c .setting .budget ≡ t .setting .budget
   setting-budget c f = ap (λ (z : Setting). z .budget) (f .setting)
 
-  module _ {w : Words} {o : Bytes} {r : Regs} (a : Live w o r S scalars arrays) where
-    pub live-goes : Goes w r (S .path) (S .budget)
+  module _ {w : Words} {o : Bytes} {r : Regs} (a : Live w o r t) where
+    pub live-goes : Goes w r (t .setting .path) (t .setting .budget)
     live-goes =
         let u = a .runs in
         record { c = u .c; o = o; path-is = setting-path (u .c) (u .fixed); budget-is = setting-budget (u .c) (u .fixed); sim = u .sim }
 
-    module _ {w1 : Words} {d : Regs} (x : Went w w1 r d (S .path) (S .budget)) where
-      pub gone-runs : Runs w1 o d S scalars arrays
+    module _ {w1 : Words} {d : Regs} (x : Went w w1 r d (t .setting .path) (t .setting .budget)) where
+      pub gone-runs : Runs w1 o d t
       gone-runs =
           let u = a .runs in
           record { c = u .c; fixed = u .fixed; sim = x .sim (u .c) o (setting-path (u .c) (u .fixed)) (setting-budget (u .c) (u .fixed)) (u .sim) }
 
-      module _ {o' : Bytes} {s : Regs} (y : Settled w1 o o' d s S scalars arrays) where
+      module _ {o' : Bytes} {s : Regs} (y : Settled w1 o o' d s t) where
         pub settled-climbs : Climbs w1 s
         settled-climbs = let u = gone-runs in record { c = u .c; o = o'; sim = y .sim (u .c) (u .fixed) (u .sim) }
 
-        pub moved : {w' : Words} {q : Regs} → Climbed w1 w' s q → Moved w w' o o' r q S scalars arrays
+        pub moved : {w' : Words} {q : Regs} → Climbed w1 w' s q → Moved w w' o o' r q t
         moved {q = q} z = record {
-          sim = λ c f t. z .sim c o' (y .sim c f (x .sim c o (setting-path c f) (setting-budget c f) t));
+          sim = λ c f m. z .sim c o' (y .sim c f (x .sim c o (setting-path c f) (setting-budget c f) m));
           falls = less (x .falls) (y .falls) (z .falls);
           size = y .size;
         }
@@ -207,14 +208,14 @@ module _ {S : Setting} {scalars arrays : ℕ} where
             level : Regs → ℕ
             level t = 2 * t .depth + t .mode
 
-            less : (d ≡ r) ⊎ (measure (S .budget) d < measure (S .budget) r) → ((s ≡ d) × (d .mode ≡ blockMode → ⊥)) ⊎ (level s < level d) →
-                (q ≡ s) ⊎ (level q < level s) → measure (S .budget) q < measure (S .budget) r
+            less : (d ≡ r) ⊎ (measure (t .setting .budget) d < measure (t .setting .budget) r) → ((s ≡ d) × (d .mode ≡ blockMode → ⊥)) ⊎ (level s < level d) →
+                (q ≡ s) ⊎ (level q < level s) → measure (t .setting .budget) q < measure (t .setting .budget) r
             less (inl e) (inl f) (inl g) =
                 absurd (still (sim-mode (a .runs .sim)) (a .on) (subst (λ t. t .mode ≡ downMode → ⊥) e (x .stops)) (subst (λ t. t .mode ≡ blockMode → ⊥) e (f .1))
                 (subst (λ t. Ups (t .mode) → ⊥) (g ∙ f .0 ∙ e) (z .stops)))
-            less (inl e) (inl f) (inr g) = let m = ap level (f .0) in let n = ap (measure (S .budget)) e in omega (arith, y .nodes, z .nodes)
-            less (inl e) (inr f) (inl g) = let m = ap level g in let n = ap (measure (S .budget)) e in omega (arith, y .nodes, z .nodes)
-            less (inl e) (inr f) (inr g) = let n = ap (measure (S .budget)) e in omega (arith, y .nodes, z .nodes)
+            less (inl e) (inl f) (inr g) = let m = ap level (f .0) in let n = ap (measure (t .setting .budget)) e in omega (arith, y .nodes, z .nodes)
+            less (inl e) (inr f) (inl g) = let m = ap level g in let n = ap (measure (t .setting .budget)) e in omega (arith, y .nodes, z .nodes)
+            less (inl e) (inr f) (inr g) = let n = ap (measure (t .setting .budget)) e in omega (arith, y .nodes, z .nodes)
             less (inr e) (inl f) (inl g) = let m = ap level (f .0) in let n = ap level g in omega (arith, y .nodes, z .nodes)
             less (inr e) (inl f) (inr g) = let m = ap level (f .0) in omega (arith, y .nodes, z .nodes)
             less (inr e) (inr f) (inl g) = let n = ap level g in omega (arith, y .nodes, z .nodes)

@@ -17,7 +17,7 @@ use Rattle.specification.proofs.Laws.Place.{valid-put}
 use Rattle.values.specs.Word.{signed, biased}
 use Rattle.values.proofs.Laws.Word.{biased-signed, signed-in32, signed-add}
 use Rattle.tables.specs.Layout.{nodeSlot, firstsAt, pathAt, maxTokens}
-use Rattle.tables.specs.Node.{currentWord, headAt, restAt, todoAt, slotAt, currentAt, lastAt}
+use Rattle.tables.specs.Node.{currentWord, headAt, restAt, todoAt, slotAt, currentAt, lastAt, restWord, todoWord, slotWord, hadWord, oldWord, lastWord}
 use Rattle.tables.specs.Kept.{Kept}
 use Rattle.tables.proofs.Laws.Kept.{kept-both, word-kept, word-slots}
 use Rattle.sheet.specs.Tables.{Words}
@@ -143,9 +143,6 @@ module _ {c : World} {w w' : Words} {r : Regs} {h p : ℕ} (g : Follows w w' r h
   same-word : (j : ℕ) → pathAt ≤ j → ¬ (j ≡ currentWord (len fr)) → getD w' j 0 ≡ getD w j 0
   same-word j low n = from-first j low ∙ rw current-is (getD-set-other w (currentWord (len fr)) j (g .v) 0 (λ y. n (omega arith)))
 
-  same : (k : ℕ) → ¬ (k ≡ 6) → getD w' (nodeSlot (len fr) + k) 0 ≡ getD w (nodeSlot (len fr) + k) 0
-  same k n = same-word (nodeSlot (len fr) + k) (omega arith) (λ y. n (omega arith))
-
   now : currentAt w' (len fr) ≡ currentAt w (len fr) + 1
   now =
       let deep = P .deep in
@@ -156,12 +153,12 @@ module _ {c : World} {w w' : Words} {r : Regs} {h p : ℕ} (g : Follows w w' r h
   next-frame =
       let a = P .stack .0 in
       let ch = a .1 in (
-        same 2 (λ y. omega arith) ∙ a .0,
-        record { slot = same 3 (λ y. omega arith) ∙ ch .slot; inside = ch .inside; saved = rw (same 4 (λ y. omega arith), same 5 (λ y. omega arith)) (ch .saved) },
+        same-word (todoWord (len fr)) (omega arith) (λ y. omega arith) ∙ a .0,
+        record { slot = same-word (slotWord (len fr)) (omega arith) (λ y. omega arith) ∙ ch .slot; inside = ch .inside; saved = rw (same-word (hadWord (len fr)) (omega arith) (λ y. omega arith), same-word (oldWord (len fr)) (omega arith) (λ y. omega arith)) (ch .saved) },
         rw (same-word (nodeSlot (len fr)) (omega arith) (λ y. omega arith)) (a .2),
-        rw (now, same 7 (λ y. omega arith)) (next-left x i (a .3) more-here m refl),
+        rw (now, same-word (lastWord (len fr)) (omega arith) (λ y. omega arith)) (next-left x i (a .3) more-here m refl),
         rw now (next-value x i (a .3) more-here),
-        rw (same 1 (λ y. omega arith)) (pend-keep c w w' (len fr) (restAt w (len fr)) is (next-kept .nodes) (a .5)),
+        rw (same-word (restWord (len fr)) (omega arith) (λ y. omega arith)) (pend-keep c w w' (len fr) (restAt w (len fr)) is (next-kept .nodes) (a .5)),
       )
 
   next-path : Path c w' (r .depth) (put β (local l) (full (x +ℤ pos (suc i)))) (range l x (suc i) m F is β ∷ fr)

@@ -23,7 +23,7 @@ use Rattle.tables.specs.Node.{headAt, currentAt, lastAt}
 use Rattle.tables.proofs.Laws.Kept.{spare-kept}
 use Rattle.sheet.specs.Held.{endAt}
 use Rattle.terms.specs.declared.Sides.{Sides}
-use Rattle.terms.specs.Results.{Valued}
+use Rattle.terms.specs.Results.{Valued, valueTag}
 use Rattle.walker.specs.declared.Regs.{Regs}
 use Rattle.walker.specs.Frame as frames
 use Rattle.walker.specs.Frame.{Item, treeItems, innerIn}
@@ -104,7 +104,7 @@ module _
   unfolding bounded range-terms
   range-errs c o i κ e = grown c o i ∙ rw e
 
-  module _ {w' : Words} {s : Sides} (v : Valued w w' (r .due .head + 2) (bodyOf w (r .due .head)) s) (l : s .ltag ≡ 0) (h : s .rtag ≡ 0) where
+  module _ {w' : Words} {s : Sides} (v : Valued w w' (r .due .head + 2) (bodyOf w (r .due .head)) s) (l : s .ltag ≡ valueTag) (h : s .rtag ≡ valueTag) where
     -- the values of the bounds, and the tree by them
     pub record Valuable (c : World) (o : Bytes) (i : In c o w' r) : Type 0 where
       pub y : ℤ
@@ -175,7 +175,7 @@ all-errs x = range-errs 14 all allOf (λ D t h F q. q) all-grows x
 
 module _ {w w' : Words} {r : Regs} {s : Sides} where
   module _ (x : Entered w r someCode) where
-    module _ (v : Valued w w' (r .due .head + 2) (bodyOf w (r .due .head)) s) (l : s .ltag ≡ 0) (h : s .rtag ≡ 0) where
+    module _ (v : Valued w w' (r .due .head + 2) (bodyOf w (r .due .head)) s) (l : s .ltag ≡ valueTag) (h : s .rtag ≡ valueTag) where
       abbrev some-values : (c : World) (o : Bytes) (i : In c o w' r) → Valuable 13 some someOf (λ D t h F q. q) some-grows x v l h c o i
       some-values = valuable 13 some someOf (λ D t h F q. q) some-grows x v l h
 
@@ -211,7 +211,7 @@ module _ {w w' : Words} {r : Regs} {s : Sides} where
   -- ---- `all`
 
   module _ (x : Entered w r allCode) where
-    module _ (v : Valued w w' (r .due .head + 2) (bodyOf w (r .due .head)) s) (l : s .ltag ≡ 0) (h : s .rtag ≡ 0) where
+    module _ (v : Valued w w' (r .due .head + 2) (bodyOf w (r .due .head)) s) (l : s .ltag ≡ valueTag) (h : s .rtag ≡ valueTag) where
       abbrev all-values : (c : World) (o : Bytes) (i : In c o w' r) → Valuable 14 all allOf (λ D t h F q. q) all-grows x v l h c o i
       all-values = valuable 14 all allOf (λ D t h F q. q) all-grows x v l h
 

@@ -11,7 +11,7 @@ use Rattle.specification.specs.Tree.{errorLeaf, step}
 use Rattle.values.specs.Word.{biased}
 use Rattle.sheet.specs.Tables.{Words}
 use Rattle.terms.specs.declared.Sides.{Sides}
-use Rattle.terms.specs.Results.{tagOf, wordOf, sidesOf, Given, Asked, Valued}
+use Rattle.terms.specs.Results.{tagOf, wordOf, sidesOf, Given, Asked, Valued, valueTag}
 use Rattle.walker.specs.declared.Regs.{Regs}
 use Rattle.walker.specs.Frame as frames
 use Rattle.walker.specs.Path.{World}
@@ -114,13 +114,13 @@ module _ {w w' : Words} {r : Regs} {from to : ℕ} {s : Sides} (p : Terms w r fr
     son = λ c o i. (frames.error k (r .due .head), errs c o (back i) k (f c o i), (refl, refl, refl), omega arith);
   }
 
-  pub left-error : Errs w r from to p → (k : ℕ) → ¬ (s .ltag ≡ 0) → KindOf (s .ltag) (s .left) k → OneLeaf w' r (errorDue k (r .due .head))
+  pub left-error : Errs w r from to p → (k : ℕ) → ¬ (s .ltag ≡ valueTag) → KindOf (s .ltag) (s .left) k → OneLeaf w' r (errorDue k (r .due .head))
   left-error errs k n h =
       error-leaf errs k (λ c o i.
       let e = sides-are c o i in
       left-bad (left-side c o i) (right-side c o i) k (λ z. n (ap (λ y. y .ltag) e ∙ z)) (subst (λ y. KindOf (y .ltag) (y .left) k) e h))
 
-  pub right-error : Errs w r from to p → (k : ℕ) → s .ltag ≡ 0 → ¬ (s .rtag ≡ 0) → KindOf (s .rtag) (s .right) k → OneLeaf w' r (errorDue k (r .due .head))
+  pub right-error : Errs w r from to p → (k : ℕ) → s .ltag ≡ valueTag → ¬ (s .rtag ≡ valueTag) → KindOf (s .rtag) (s .right) k → OneLeaf w' r (errorDue k (r .due .head))
   right-error errs k z n h =
       error-leaf errs k (λ c o i.
       let e = sides-are c o i in
@@ -128,8 +128,8 @@ module _ {w w' : Words} {r : Regs} {from to : ℕ} {s : Sides} (p : Terms w r fr
       (subst (λ y. KindOf (y .rtag) (y .right) k) e h))
 
   -- both have values
-  pub left-value : s .ltag ≡ 0 → (c : World) (o : Bytes) (i : In c o w' r) → Has (left-side c o i) (s .left)
+  pub left-value : s .ltag ≡ valueTag → (c : World) (o : Bytes) (i : In c o w' r) → Has (left-side c o i) (s .left)
   left-value z c o i = let e = sides-are c o i in has-value (left-side c o i) (s .left) (sym (ap (λ y. y .ltag) e) ∙ z) (ap (λ y. y .left) e)
 
-  pub right-value : s .rtag ≡ 0 → (c : World) (o : Bytes) (i : In c o w' r) → Has (right-side c o i) (s .right)
+  pub right-value : s .rtag ≡ valueTag → (c : World) (o : Bytes) (i : In c o w' r) → Has (right-side c o i) (s .right)
   right-value z c o i = let e = sides-are c o i in has-value (right-side c o i) (s .right) (sym (ap (λ y. y .rtag) e) ∙ z) (ap (λ y. y .right) e)

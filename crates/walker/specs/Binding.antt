@@ -9,16 +9,20 @@ use Rattle.sheet.specs.Tables.{Words}
 use Rattle.sheet.specs.Held.{operandAt, endAt}
 use Rattle.walker.specs.declared.Regs.{Regs}
 
+-- after the token of a quantifier comes that of its local, and then its bounds or its formula
+abbrev pub afterLocal : ℕ
+afterLocal = 2
+
 -- token h binds one of the locals
 pub record Local (w : Words) (h : ℕ) : Type 0 where
-  pub near : h + 2 < maxTokens
+  pub near : h + afterLocal < maxTokens
   pub local : operandAt w (h + 1) < maxLocals
   pub size : pathAt ≤ length w
 
 -- token h is a bounded quantifier, and its second bound is in the table
 pub record Middle (w : Words) (h : ℕ) : Type 0 where
-  pub near : h + 2 < maxTokens
-  pub middle : endAt w (h + 2) < maxTokens
+  pub near : h + afterLocal < maxTokens
+  pub middle : endAt w (h + afterLocal) < maxTokens
   pub size : pathAt ≤ length w
 
 -- the slot of the local that token h binds

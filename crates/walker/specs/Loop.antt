@@ -5,7 +5,6 @@ use mathlib.Core.Logic.{_⊎_}
 use mathlib.Core.Bool.{Bool, true, false}
 use mathlib.Core.List.{List, _∷_}
 use lib.ListN.{length}
-use Rattle.specification.specs.declared.Setting.{Setting}
 use Rattle.specification.specs.declared.End.the-variants.{Path}
 use Rattle.specification.specs.Bytes.{Bytes}
 use Rattle.specification.specs.Place.{Place, put}
@@ -14,6 +13,7 @@ use Rattle.specification.specs.Run.{tallies}
 use Rattle.tables.specs.Node.{todoAt}
 use Rattle.sheet.specs.Tables.{Words}
 use Rattle.walker.specs.declared.Regs.{Regs}
+use Rattle.walker.specs.declared.Task.{Task}
 use Rattle.walker.specs.Frame.{Frame, here, below, len, innerIn}
 use Rattle.walker.specs.Path as paths
 use Rattle.walker.specs.Path.{World, Changed}
@@ -93,20 +93,20 @@ pub record LeafDone (r r' : Regs) : Type 0 where
   pub nodes : r' .tallies .nodes ≡ r .tallies .nodes
   pub falls : 2 * r' .depth + r' .mode ≤ 2 * r .depth + blockMode
 
--- the world of these settings and of so many scalars and arrays
-pub record Fixed (c : World) (S : Setting) (scalars arrays : ℕ) : Type 0 where
-  pub setting : c .setting ≡ S
-  pub scalar-count : scalars ≡ c .declared .scalars
-  pub array-count : arrays ≡ length (c .declared .arrays)
+-- the world of this task
+pub record Fixed (c : World) (t : Task) : Type 0 where
+  pub setting : c .setting ≡ t .setting
+  pub scalar-count : t .scalars ≡ c .declared .scalars
+  pub array-count : t .arrays ≡ length (c .declared .arrays)
 
 -- in some world a block is due
-pub record BlockDue (w : Words) (o : Bytes) (r : Regs) (S : Setting) (scalars arrays : ℕ) : Type 0 where
+pub record BlockDue (w : Words) (o : Bytes) (r : Regs) (t : Task) : Type 0 where
   pub c : World
-  pub fixed : Fixed c S scalars arrays
+  pub fixed : Fixed c t
   pub leaf : Leaf c o w r
 
-pub record Blocked (w : Words) (o o' : Bytes) (r r' : Regs) (S : Setting) (scalars arrays : ℕ) : Type 0 where
-  pub sim : (c : World) → Fixed c S scalars arrays → Leaf c o w r → Sim c o' w r'
+pub record Blocked (w : Words) (o o' : Bytes) (r r' : Regs) (t : Task) : Type 0 where
+  pub sim : (c : World) → Fixed c t → Leaf c o w r → Sim c o' w r'
   pub nodes : r' .tallies .nodes ≡ r .tallies .nodes
   pub falls : 2 * r' .depth + r' .mode ≤ 2 * r .depth + upMode
   pub size : length o' ≡ length o
@@ -160,25 +160,25 @@ pub record Climbed (w w' : Words) (r r' : Regs) : Type 0 where
 
 -- ---- down, a block, and up again
 
--- in some world of these settings the invariant holds
-pub record Runs (w : Words) (o : Bytes) (r : Regs) (S : Setting) (scalars arrays : ℕ) : Type 0 where
+-- in some world of this task the invariant holds
+pub record Runs (w : Words) (o : Bytes) (r : Regs) (t : Task) : Type 0 where
   pub c : World
-  pub fixed : Fixed c S scalars arrays
+  pub fixed : Fixed c t
   pub sim : Sim c o w r
 
 -- no block is due any more
-pub record Settled (w : Words) (o o' : Bytes) (r r' : Regs) (S : Setting) (scalars arrays : ℕ) : Type 0 where
-  pub sim : (c : World) → Fixed c S scalars arrays → Sim c o w r → Sim c o' w r'
+pub record Settled (w : Words) (o o' : Bytes) (r r' : Regs) (t : Task) : Type 0 where
+  pub sim : (c : World) → Fixed c t → Sim c o w r → Sim c o' w r'
   pub nodes : r' .tallies .nodes ≡ r .tallies .nodes
   pub falls : ((r' ≡ r) × (r .mode ≡ blockMode → ⊥)) ⊎ (2 * r' .depth + r' .mode < 2 * r .depth + r .mode)
   pub size : length o' ≡ length o
 
 -- the walk is not over
-pub record Live (w : Words) (o : Bytes) (r : Regs) (S : Setting) (scalars arrays : ℕ) : Type 0 where
-  pub runs : Runs w o r S scalars arrays
+pub record Live (w : Words) (o : Bytes) (r : Regs) (t : Task) : Type 0 where
+  pub runs : Runs w o r t
   pub on : r .mode ≡ overMode → ⊥
 
-pub record Moved (w w' : Words) (o o' : Bytes) (r r' : Regs) (S : Setting) (scalars arrays : ℕ) : Type 0 where
-  pub sim : (c : World) → Fixed c S scalars arrays → Sim c o w r → Sim c o' w' r'
-  pub falls : measure (S .budget) r' < measure (S .budget) r
+pub record Moved (w w' : Words) (o o' : Bytes) (r r' : Regs) (t : Task) : Type 0 where
+  pub sim : (c : World) → Fixed c t → Sim c o w r → Sim c o' w' r'
+  pub falls : measure (t .setting .budget) r' < measure (t .setting .budget) r
   pub size : length o' ≡ length o

@@ -2,8 +2,7 @@
 use Prim.Native.Nat.{ℕ, _+_, _*_, _≤_}
 use mathlib.Core.Path.{_≡_}
 use mathlib.Core.List.{_++_}
-use lib.ListN.{length, drop, replicate}
-use Rattle.specification.specs.declared.Setting.{Setting}
+use lib.ListN.{length, drop}
 use Rattle.specification.specs.declared.Outcome.{Outcome}
 use Rattle.specification.specs.Bytes.{Bytes}
 use Rattle.specification.specs.Sheet.{Sheet}
@@ -15,31 +14,32 @@ use Rattle.tables.specs.Layout.{nodeSlot, maxPath}
 use Rattle.sheet.specs.Tables.{Words}
 use Rattle.sheet.specs.Held.{Holds, ArraysAt}
 use Rattle.walker.specs.declared.Regs.{Regs}
+use Rattle.walker.specs.declared.Task.{Task}
 use Rattle.walker.specs.Stands.{Stands}
 use Rattle.walker.specs.Registers.{formulaDue}
 use Rattle.walker.specs.States.{downMode, doneEnd}
 
 -- the work words hold the sheet's tables, with room for the path
-pub record Ready (w : Words) (S : Setting) (scalars arrays : ℕ) (s : Sheet) : Type 0 where
+pub record Ready (w : Words) (t : Task) (s : Sheet) : Type 0 where
   pub well : WellFormed s
-  pub formula : Stands (s .declared) w 0 (s .formula)
+  pub formula : Stands (s .declared) w (t .formula) (s .formula)
   pub holds : Holds w (start (s .given))
   pub firsts : ArraysAt w (s .declared)
-  pub scalar-count : scalars ≡ s .declared .scalars
-  pub array-count : arrays ≡ length (s .declared .arrays)
-  pub limit : S .path ≤ maxPath
-  pub size : nodeSlot (S .path) ≤ length w
+  pub scalar-count : t .scalars ≡ s .declared .scalars
+  pub array-count : t .arrays ≡ length (s .declared .arrays)
+  pub limit : t .setting .path ≤ maxPath
+  pub size : nodeSlot (t .setting .path) ≤ length w
 
-pub record Readied (w : Words) (S : Setting) (scalars arrays : ℕ) : Type 0 where
+pub record Readied (w : Words) (t : Task) : Type 0 where
   pub sheet : Sheet
-  pub ready : Ready w S scalars arrays sheet
+  pub ready : Ready w t sheet
 
 -- before the first visit
-abbrev pub startRegs : Words → Regs
-startRegs w = record {
+abbrev pub startRegs : Words → ℕ → Regs
+startRegs w formula = record {
   mode = downMode;
   depth = 0;
-  due = formulaDue w 0 0;
+  due = formulaDue w formula 0;
   inner = 0;
   bad = 0;
   end = doneEnd;
@@ -48,13 +48,13 @@ startRegs w = record {
 }
 
 -- the walk is over: its registers and the output are those of the sheet's run
-pub record Finished (w w' : Words) (o o' : Bytes) (S : Setting) (scalars arrays : ℕ) (r : Regs) : Type 0 where
-  pub run : (s : Sheet) → Ready w S scalars arrays s → (b : Bytes) × (ran (endFrom (r .end)) (r .tallies) b ≡ resultOf (runOf s S (length o))) × (r .written ≡ length b) × (o' ≡ b ++ drop (length b) o)
+pub record Finished (w w' : Words) (o o' : Bytes) (t : Task) (r : Regs) : Type 0 where
+  pub run : (s : Sheet) → Ready w t s → (b : Bytes) × (ran (endFrom (r .end)) (r .tallies) b ≡ resultOf (runOf s (t .setting) (length o))) × (r .written ≡ length b) × (o' ≡ b ++ drop (length b) o)
   pub words : length w' ≡ length w
   pub size : length o' ≡ length o
 
--- the sheet's run, and the work words all zero
-pub record Walked (w w' : Words) (o o' : Bytes) (S : Setting) (scalars arrays : ℕ) (r : Outcome) : Type 0 where
-  pub result : (s : Sheet) → Ready w S scalars arrays s → r ≡ outcome (resultOf (runOf s S (length o)))
-  pub output : (s : Sheet) → Ready w S scalars arrays s → o' ≡ outputAfter (resultOf (runOf s S (length o))) o
-  pub words : w' ≡ replicate (length w) 0
+-- the sheet's run, in as many work words
+pub record Walked (w w' : Words) (o o' : Bytes) (t : Task) (r : Outcome) : Type 0 where
+  pub result : (s : Sheet) → Ready w t s → r ≡ outcome (resultOf (runOf s (t .setting) (length o)))
+  pub output : (s : Sheet) → Ready w t s → o' ≡ outputAfter (resultOf (runOf s (t .setting) (length o))) o
+  pub words : length w' ≡ length w

@@ -1,4 +1,5 @@
 // The walk of a computation tree over the tables of a sheet: an explicit stack of path nodes in the work words, registers by value.
+use specification::Setting;
 use specification::Tallies;
 
 mod atoms;
@@ -14,6 +15,13 @@ mod registers;
 mod rise;
 mod sons;
 mod todos;
+// What a walk is about: its setting, how many scalars and arrays the tables in the work words have, and the token that its formula begins at.
+pub struct Task {
+    pub setting: Setting,
+    pub scalars: u32,
+    pub arrays: u32,
+    pub formula: u32,
+}
 // What is to be visited, by the job: the code of the formula at token `head`, or one of jobs.rt: of an `all` that goes on, `head` is one more
 // than the number of the node that began it; an error leaf is of token `head` with the kind `rest`. Else `rest` points to the rest of the list.
 pub(crate) struct Due {

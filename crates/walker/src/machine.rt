@@ -2,12 +2,13 @@
 ghost use mathlib.Core.Path.{_≡_};
 ghost use Prim.Native.Nat.{_<_};
 ghost use lib.ListN.{length};
+ghost use Rattle.tables.specs.Layout.{tokenSlot};
 ghost use Rattle.walker.specs.Steps.{Visited, Stepped};
 ghost use Rattle.walker.specs.Loop.{AtLeaf, LeafDone, VisitDue, Arrived, BlockDue, Blocked, Goes, Went, IsUp, Climbs, Climbed, Runs, Settled, Live, Moved};
-ghost use Rattle.specification.specs.Report.{endFrom};
 ghost use Rattle.walker.specs.Walked.{Readied, startRegs, Finished, Walked};
 ghost use Rattle.walker.specs.Blocks.{HeadDue, headDue, passedRegs};
 use crate::Regs;
+use crate::Task;
 use crate::atoms;
 use crate::connectives;
 use crate::dues;
@@ -19,9 +20,7 @@ use crate::registers;
 use crate::rise;
 use listing::Head;
 use listing::Written;
-use specification::End;
 use specification::Outcome;
-use specification::Setting;
 use specification::Tallies;
 use tables::codes;
 
@@ -120,18 +119,18 @@ fn passed(r: Regs, written: usize) -> Regs
 }
 
 // The block that is due: skipped, written into the rest of the output, or without room there.
-fn block(w: &[u32], out: &mut [u8], r: Regs, setting: Setting, scalars: u32, arrays: u32) -> Regs
-    requires { ⌜ BlockDue (now w) (now out) r setting scalars arrays ⌝ }
-    ensures { λ q. ⌜ Blocked (now (w .entry)) (now (out .entry)) (now (out .exit)) r q setting scalars arrays ⌝ }
+fn block(w: &[u32], out: &mut [u8], r: Regs, task: Task) -> Regs
+    requires { ⌜ BlockDue (now w) (now out) r task ⌝ }
+    ensures { λ q. ⌜ Blocked (now (w .entry)) (now (out .entry)) (now (out .exit)) r q task ⌝ }
 {
     let t = r.tallies;
     let written = r.written;
-    if t.answers + t.errors < setting.skip {
+    if t.answers + t.errors < task.setting.skip {
         return passed(r, written);
     }
     let h = head(r);
     let rest = &mut out[written..];
-    match listing::write(rest, w, scalars, arrays, h) {
+    match listing::write(rest, w, task.scalars, task.arrays, h) {
         Written::Full => registers::stop(r, registers::OUTPUT),
         Written::Bytes(n) => passed(r, written + n),
     }
@@ -172,32 +171,32 @@ fn climb(w: &mut [u32], r: Regs) -> Regs
 }
 
 // The block, if one is due.
-fn settle(w: &[u32], out: &mut [u8], r: Regs, setting: Setting, scalars: u32, arrays: u32) -> Regs
-    requires { ⌜ Runs (now w) (now out) r setting scalars arrays ⌝ }
-    ensures { λ q. ⌜ Settled (now (w .entry)) (now (out .entry)) (now (out .exit)) r q setting scalars arrays ⌝ }
+fn settle(w: &[u32], out: &mut [u8], r: Regs, task: Task) -> Regs
+    requires { ⌜ Runs (now w) (now out) r task ⌝ }
+    ensures { λ q. ⌜ Settled (now (w .entry)) (now (out .entry)) (now (out .exit)) r q task ⌝ }
 {
     if r.mode == modes::BLOCK {
-        return block(w, out, r, setting, scalars, arrays);
+        return block(w, out, r, task);
     }
     r
 }
 
 // Down to a leaf, its block, and up again.
-fn step(w: &mut [u32], out: &mut [u8], r: Regs, setting: Setting, scalars: u32, arrays: u32) -> Regs
-    requires { ⌜ Live (now w) (now out) r setting scalars arrays ⌝ }
-    ensures { λ q. ⌜ Moved (now (w .entry)) (now (w .exit)) (now (out .entry)) (now (out .exit)) r q setting scalars arrays ⌝ }
+fn step(w: &mut [u32], out: &mut [u8], r: Regs, task: Task) -> Regs
+    requires { ⌜ Live (now w) (now out) r task ⌝ }
+    ensures { λ q. ⌜ Moved (now (w .entry)) (now (w .exit)) (now (out .entry)) (now (out .exit)) r q task ⌝ }
 {
-    let d = descend(w, r, setting.path, setting.budget);
-    let s = settle(w, out, d, setting, scalars, arrays);
+    let d = descend(w, r, task.setting.path, task.setting.budget);
+    let s = settle(w, out, d, task);
     climb(w, s)
 }
 
-// The walk from the root, before its first visit.
-fn start(w: &[u32]) -> Regs
-    requires { ⌜ 0 < length (now w) ⌝ }
-    ensures { λ r. ⌜ r ≡ startRegs (now (w .entry)) ⌝ }
+// The walk from the formula's first token, before its first visit.
+fn start(w: &[u32], formula: u32) -> Regs
+    requires { ⌜ tokenSlot formula < length (now w) ⌝ }
+    ensures { λ r. ⌜ r ≡ startRegs (now (w .entry)) formula ⌝ }
 {
-    let d = dues::formula(w, 0, 0);
+    let d = dues::formula(w, formula, 0);
     let t = Tallies {
         nodes: 0,
         answers: 0,
@@ -216,43 +215,24 @@ fn start(w: &[u32]) -> Regs
     }
 }
 
-fn walk(w: &mut [u32], out: &mut [u8], setting: Setting, scalars: u32, arrays: u32) -> Regs
-    requires { ⌜ Readied (now w) setting scalars arrays ⌝ }
-    ensures { λ r. ⌜ Finished (now (w .entry)) (now (w .exit)) (now (out .entry)) (now (out .exit)) setting scalars arrays r ⌝ }
+fn walk(w: &mut [u32], out: &mut [u8], task: Task) -> Regs
+    requires { ⌜ Readied (now w) task ⌝ }
+    ensures { λ r. ⌜ Finished (now (w .entry)) (now (w .exit)) (now (out .entry)) (now (out .exit)) task r ⌝ }
 {
-    let mut r = start(w);
+    let mut r = start(w, task.formula);
     while r.mode != modes::OVER {
-        r = step(w, out, r, setting, scalars, arrays);
+        r = step(w, out, r, task);
     }
     r
 }
 
-// How the walk ended.
-fn end_of(code: u32) -> End
-    ensures { λ e. ⌜ e ≡ endFrom code ⌝ }
+// Walks the tree of the sheet whose tables the work words hold, and writes its listing.
+pub fn walk_tables(w: &mut [u32], out: &mut [u8], task: Task) -> Outcome
+    requires { ⌜ Readied (now w) task ⌝ }
+    ensures { λ r. ⌜ Walked (now (w .entry)) (now (w .exit)) (now (out .entry)) (now (out .exit)) task r ⌝ }
 {
-    match code {
-        registers::DONE => End::Done,
-        registers::SPENT => End::Spent,
-        registers::PATH => End::Path,
-        _ => End::Output,
-    }
-}
-
-// Walks the tree of the sheet whose tables the work words hold, writes its listing, and leaves the work words all zero.
-pub fn walk_tables(
-    w: &mut [u32],
-    out: &mut [u8],
-    setting: Setting,
-    scalars: u32,
-    arrays: u32,
-) -> Outcome
-    requires { ⌜ Readied (now w) setting scalars arrays ⌝ }
-    ensures { λ r. ⌜ Walked (now (w .entry)) (now (w .exit)) (now (out .entry)) (now (out .exit)) setting scalars arrays r ⌝ }
-{
-    let r = walk(w, out, setting, scalars, arrays);
-    sheet::clear(w);
-    let end = end_of(r.end);
+    let r = walk(w, out, task);
+    let end = registers::end_of(r.end);
     let t = r.tallies;
     Outcome::Ran {
         end,

@@ -5,7 +5,7 @@ ghost use Rattle.tables.specs.Codes.{exCode, someCode, allCode};
 ghost use Rattle.terms.specs.Results.{Asked, Valued};
 ghost use Rattle.walker.specs.States.{againJob};
 ghost use Rattle.walker.specs.Stands.{bodyOf};
-ghost use Rattle.walker.specs.Binding.{Local, Middle, binderNode};
+ghost use Rattle.walker.specs.Binding.{afterLocal, Local, Middle, binderNode};
 ghost use Rattle.walker.specs.Steps.{Visited, Entered, Stepped, Opens, Rounds};
 use crate::Regs;
 use crate::atoms;
@@ -59,8 +59,8 @@ fn body(w: &[u32], h: u32) -> u32
 
 // The values of the two bounds of the quantifier at token h.
 fn bounds(w: &mut [u32], h: u32) -> Sides
-    requires { ⌜ Middle (now w) h × Asked (now w) (h + 2) (bodyOf (now w) h) ⌝ }
-    ensures { λ s. ⌜ Valued (now (w .entry)) (now (w .exit)) (h + 2) (bodyOf (now (w .entry)) h) s ⌝ }
+    requires { ⌜ Middle (now w) h × Asked (now w) (h + afterLocal) (bodyOf (now w) h) ⌝ }
+    ensures { λ s. ⌜ Valued (now (w .entry)) (now (w .exit)) (h + afterLocal) (bodyOf (now (w .entry)) h) s ⌝ }
 {
     let e = body(w, h);
     terms::evaluation::sides(w, h + AFTER_LOCAL, e)

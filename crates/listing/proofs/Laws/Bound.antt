@@ -14,7 +14,7 @@ use Rattle.specification.specs.Listing.{Line, cellLabel, _is_, labelText, lines
 use Rattle.specification.specs.Printed.{fieldText}
 use Rattle.specification.proofs.Laws.Blocks.{linesText-++}
 use Rattle.values.specs.Word.{signed}
-use Rattle.tables.specs.Layout.{Words, cellSlot, flagAt, valueAt, firstAt}
+use Rattle.tables.specs.Layout.{Words, cellSlot, flagAt, valueAt, firstAt, maxCells, maxArrays}
 use Rattle.listing.specs.declared.Head.the-variants.{Answer, Error}
 use Rattle.listing.specs.Put.{Room, Put}
 use Rattle.listing.specs.Model.{Laid, eachLine, lineAt, scalarLine, elementLine, arrayLines, headText, Headed}
@@ -95,35 +95,35 @@ module _ (w : Words) (word : (j : ℕ) → getD w j 0 < 4294967296) where
             value-bound (valueAt w c) (word (cellSlot c + 1)),
           )
 
-  scalar-bound : (i : ℕ) → i < 512 → length (linesText (scalarLine w i)) ≤ 35
+  scalar-bound : (i : ℕ) → i < maxCells → length (linesText (scalarLine w i)) ≤ 35
   unfolding labelText
   scalar-bound i h = line-bound (scalar i) i (omega (arith, length-within 9 i (omega arith)))
 
-  element-bound : (a c i : ℕ) → a < 16 → i < 512 → length (linesText (elementLine w a c i)) ≤ 35
+  element-bound : (a c i : ℕ) → a < maxArrays → i < maxCells → length (linesText (elementLine w a c i)) ≤ 35
   unfolding labelText
   element-bound a c i h l =
       line-bound (element a i) (c + i)
       (omega (arith, length-append (printℕ a) (bytes "." ++ printℕ i), length-within 9 a (omega arith), length-within 9 i (omega arith)))
 
-  scalars-bound : (n : ℕ) → n ≤ 512 → length (linesText (eachLine (scalarLine w) 0 n)) ≤ 17920
-  scalars-bound n h = omega (arith, each-bound (scalarLine w) 512 35 scalar-bound 0 n (omega arith))
+  scalars-bound : (n : ℕ) → n ≤ maxCells → length (linesText (eachLine (scalarLine w) 0 n)) ≤ 35 * maxCells
+  scalars-bound n h = omega (arith, each-bound (scalarLine w) maxCells 35 scalar-bound 0 n (omega arith))
 
   module _ (arrays : ℕ) (l : Laid w arrays) where
-    array-bound : (a : ℕ) → a < arrays → length (linesText (arrayLines w a)) ≤ 17920
+    array-bound : (a : ℕ) → a < arrays → length (linesText (arrayLines w a)) ≤ 35 * maxCells
     array-bound a h =
         let n = firstAt w (a + 1) - firstAt w a in
         omega (
           arith,
-          each-bound (elementLine w a (firstAt w a)) 512 35 (λ i k. element-bound a (firstAt w a) i (omega (arith, l .few)) k) 0 n
+          each-bound (elementLine w a (firstAt w a)) maxCells 35 (λ i k. element-bound a (firstAt w a) i (omega (arith, l .few)) k) 0 n
               (omega (arith, l .spans a h .limit)),
           l .spans a h .limit,
         )
 
     arrays-bound : length (linesText (eachLine (arrayLines w) 0 arrays)) ≤ 286720
-    arrays-bound = omega (arith, each-bound (arrayLines w) arrays 17920 array-bound 0 arrays (omega arith), l .few)
+    arrays-bound = omega (arith, each-bound (arrayLines w) arrays (35 * maxCells) array-bound 0 arrays (omega arith), l .few)
 
     -- after a short head there is room for the scalars, and then for the arrays
-    module _ (scalars p : ℕ) (few : scalars ≤ 512) (short : p ≤ 47) where
+    module _ (scalars p : ℕ) (few : scalars ≤ maxCells) (short : p ≤ 47) where
       pub scalars-room : Room p (linesText (eachLine (scalarLine w) 0 scalars))
       scalars-room = omega (arith, scalars-bound scalars few)
 

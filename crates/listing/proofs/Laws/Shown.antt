@@ -19,7 +19,7 @@ use Rattle.specification.proofs.Laws.Allowed.{inRange-in32}
 use Rattle.specification.proofs.Laws.Blocks.{linesText-++}
 use Rattle.values.specs.Word.{signed}
 use Rattle.values.proofs.Laws.Word.{signed-biased}
-use Rattle.tables.specs.Layout.{Words, cellSlot, flagAt, firstAt}
+use Rattle.tables.specs.Layout.{Words, cellSlot, flagAt, firstAt, maxCells, maxArrays}
 use Rattle.sheet.specs.Held.{SlotAt}
 use Rattle.listing.specs.declared.Head.{Head}
 use Rattle.listing.specs.declared.Written.the-variants.{Full, Bytes as Count}
@@ -37,7 +37,7 @@ first-after D a = rw (add-one a) (first-next D a)
 -- ---- the lines of the cells
 
 module _ {w : Words} {scalars arrays : ℕ} {D : Declared} {β : Valuation} (s : Shows w scalars arrays D β) where
-  pub few-scalars : scalars ≤ 512
+  pub few-scalars : scalars ≤ maxCells
   unfolding cells
   few-scalars = omega (arith, s .limit, s .scalar-count)
 
@@ -55,7 +55,7 @@ module _ {w : Words} {scalars arrays : ℕ} {D : Declared} {β : Valuation} (s :
             };
       }
 
-  cell-line : (n : CellName) → cellOf D n < 512 → (ns : List Named) →
+  cell-line : (n : CellName) → cellOf D n < maxCells → (ns : List Named) →
       cellLines (namedIf n (β (cell (cellOf D n))) ns) ≡ lineAt w n (cellOf D n) ++ cellLines ns
   unfolding lineAt cellLines
   cell-line n h ns = go (β (cell (cellOf D n))) refl (s .holds .cells (cellOf D n) h)
@@ -68,14 +68,14 @@ module _ {w : Words} {scalars arrays : ℕ} {D : Declared} {β : Valuation} (s :
           rw (ne-eqb (flagAt w (cellOf D n)) 0 (λ q. omega (arith, k .0)))
           (ap (λ y. (cellLabel n is y) ∷ cellLines ns) (sym (ap signed v ∙ signed-biased z (inRange-in32 D (cellOf D n) z (s .valid (cell (cellOf D n)) z e)))))
 
-  scalar-lines : (i n : ℕ) → i + n ≤ 512 → cellLines (valued D β (scalarNames i n)) ≡ eachLine (scalarLine w) i n
+  scalar-lines : (i n : ℕ) → i + n ≤ maxCells → cellLines (valued D β (scalarNames i n)) ≡ eachLine (scalarLine w) i n
   unfolding scalarNames valued cellLines eachLine cellOf
   scalar-lines i zero h = refl
   scalar-lines i (suc n) h =
       cell-line (scalar i) (omega arith) (valued D β (scalarNames (suc i) n)) ∙
       ap (λ ls. lineAt w (scalar i) i ++ ls) (scalar-lines (suc i) n (omega arith))
 
-  element-lines : (a i n : ℕ) → firstOf D a + (i + n) ≤ 512 →
+  element-lines : (a i n : ℕ) → firstOf D a + (i + n) ≤ maxCells →
       cellLines (valued D β (elementNames a i n)) ≡ eachLine (elementLine w a (firstOf D a)) i n
   unfolding elementNames valued cellLines eachLine cellOf
   element-lines a i zero h = refl
@@ -95,7 +95,7 @@ module _ {w : Words} {scalars arrays : ℕ} {D : Declared} {β : Valuation} (s :
       go (full z) e = ap (λ ls. (cellLabel x is z) ∷ ls) e
 
   -- one array
-  one-array : (a n : ℕ) → a < 16 → n ≡ getD (D .arrays) a 0 → cellLines (valued D β (elementNames a 0 n)) ≡ arrayLines w a
+  one-array : (a n : ℕ) → a < maxArrays → n ≡ getD (D .arrays) a 0 → cellLines (valued D β (elementNames a 0 n)) ≡ arrayLines w a
   one-array a n h e =
       let f = s .firsts a (omega arith) in
       let g = s .firsts (a + 1) (omega arith) ∙ first-after D a in

@@ -71,6 +71,9 @@ walk-tables-requires c κs =
     let (limit, size) = memory-of (a .setting .path) (length (a .work .now)) enough in
     readied (a .sheet .now) (a .setting) (length (a .work .now)) limit size _ _ _ _ (sym (at-scalars .scalars .given .1) ∙ read .0) (read .1)
 
+clear-requires-3 : tie.Need-clear-requires-3
+clear-requires-3 c κs = search needs
+
 same-length-3 : tie.Need-same-length-3
 same-length-3 c = search needs
 
@@ -96,7 +99,8 @@ same-length-5 c = search needs
 
 returns-4 : tie.Need-returns-4
 returns-4 c =
-    let at-walk-tables = c .before .before .before .before in
+    let at-output = c .before .before .before .before .before in
+    let at-walk-tables = at-output .before .before .before in
     let at-scalars = at-walk-tables .before .before .before .before in
     let at-read-sheet = at-scalars .before .before .before .before in
     let at-if2 = at-read-sheet .before .before in
@@ -107,8 +111,8 @@ returns-4 c =
     let enough = sym (at-enough .enough .ensures) ∙ not-false _ (at-if1 .if1 .left) in
     let read = (at-read-sheet .read-sheet .ensures) in
     walk-answers (a .sheet .now) (a .setting) (a .work .now) _ (a .output .now) enough
-    (le-leb (length (a .sheet .now)) 4096 (at-if2 .if2 .left)) _ _ _ _ _ _
-    (sym (at-scalars .scalars .given .1) ∙ read .0) (read .1) (at-walk-tables .walk-tables .ensures)
+    (le-leb (length (a .sheet .now)) 4096 (at-if2 .if2 .left)) _ _ _ _ _ _ _
+    (sym (at-scalars .scalars .given .1) ∙ read .0) (read .1) (at-walk-tables .walk-tables .ensures) (c .before .before .clear3 .ensures)
 
 pub run-spec : {M : Type 1} → statement M
 run-spec =
@@ -125,6 +129,7 @@ run-spec =
     enum-known-number
     enum-known-scalars
     walk-tables-requires
+    clear-requires-3
     same-length-3
     returns-3
     same-length-4

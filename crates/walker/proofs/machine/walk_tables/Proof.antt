@@ -7,9 +7,6 @@ use Rattle.walker.proofs.machine.walk_tables.Tie as tie
 walk-requires : tie.Need-walk-requires
 walk-requires c κs = search needs
 
-clear-requires : tie.Need-clear-requires
-clear-requires c κs = search needs
-
 end-of-requires : tie.Need-end-of-requires
 end-of-requires c κs = search needs
 
@@ -21,10 +18,9 @@ same-length-2 c = search needs
 
 returns : tie.Need-returns
 returns c =
-    let at-clear = c .before .before .before .before in
-    let at-w = at-clear .before .before .before .before .before in
+    let at-w = c .before .before .before .before .before in
     let at-walk = at-w .before in
-    walked (at-walk .walk .ensures) (at-clear .clear .ensures) (c .before .end-of .ensures)
+    walked (at-walk .walk .ensures) (c .before .end-of .ensures)
 
 pub walk-tables-spec : {M : Type 1} → statement M
-walk-tables-spec = tie.close (tie.spec walk-requires clear-requires end-of-requires same-length same-length-2 returns)
+walk-tables-spec = tie.close (tie.spec walk-requires end-of-requires same-length same-length-2 returns)

@@ -1,9 +1,9 @@
--- `machine::end_of` meets its contract.
+-- `registers::end_of` meets its contract.
 use mathlib.Core.Path.{sym, ap}
 use borrow.Author.Tests.{ne-eqb}
 use Rattle.specification.specs.Report.{endFrom}
-use Rattle.walker.proofs.machine.end_of.Statement.{statement}
-use Rattle.walker.proofs.machine.end_of.Tie as tie
+use Rattle.walker.proofs.registers.end_of.Statement.{statement}
+use Rattle.walker.proofs.registers.end_of.Tie as tie
 
 returns : tie.Need-returns
 returns c = sym (ap endFrom (c .match .keys1))
