@@ -2,7 +2,6 @@
 ghost use mathlib.Core.Path.{_≡_};
 ghost use Prim.Native.Nat.{_≤_, _<_};
 ghost use lib.ListN.{length};
-ghost use Rattle.specification.specs.Bytes.{between};
 ghost use Rattle.specification.specs.Lines.{Declared};
 ghost use Rattle.specification.specs.Formula.{Locals};
 ghost use Rattle.tables.specs.Layout.{maxTokens, maxLocals, pathAt};
@@ -42,22 +41,13 @@ pub(crate) enum Scanned {
 
 // ---- one token
 
-fn between(lo: u32, hi: u32, n: u32) -> bool
-    ensures { λ r. ⌜ r ≡ between lo hi n ⌝ }
-{
-    if n < lo {
-        return false;
-    }
-    n <= hi
-}
-
 // Whether a code is of the sort that is due.
 fn suits(sort: u32, code: u32) -> bool
     ensures { λ r. ⌜ ((d : Due) → sort ≡ sortOf d → r ≡ suits d code) ⌝ }
 {
     match sort {
-        sorts::FORMULA => between(codes::FIRST_FORMULA, codes::LAST_FORMULA, code),
-        sorts::TERM => between(codes::FIRST_TERM, codes::LAST_TERM, code),
+        sorts::FORMULA => codes::is_formula(code),
+        sorts::TERM => codes::is_term(code),
         _ => code == codes::LOCAL,
     }
 }

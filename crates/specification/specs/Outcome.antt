@@ -60,8 +60,15 @@ afterReading S size (found s r) = resultOf (runOf s S size)
 
 -- ---- the call: refusal 1, then 2, then the first fault met in reading, then the run
 
+abbrev pub longestPath : ℕ
+longestPath = 32768
+
+-- the work words that a path limit asks for
+abbrev pub wordsFor : ℕ → ℕ
+wordsFor limit = 6144 + 12 * limit
+
 abbrev pub enoughMemory : Setting → ℕ → Bool
-enoughMemory S words = between 1 32768 (S .path) && leb (6144 + 12 * S .path) words
+enoughMemory S words = between 1 longestPath (S .path) && leb (wordsFor (S .path)) words
 
 unfoldable pub call : Bytes → Setting → ℕ → ℕ → Result
 call sheet S words size =

@@ -1,7 +1,21 @@
-// The codes of tokens (specs/Codes.antt has the same numbers for contracts and proofs): formulas, then terms, with gaps for later words.
+// The codes of tokens (specs/Codes.antt has the same numbers for contracts and proofs): ranges separate formulas from terms, with gaps for the
+// words of later editions.
+ghost use mathlib.Core.Path.{_≡_};
+ghost use mathlib.Core.Bool.{_&&_};
+ghost use lib.Dec.{leb};
+ghost use Rattle.tables.specs.Codes.{firstFormula, lastFormula, firstTerm, lastTerm};
+
+// ---- formulas: connectives and atoms, then quantifiers
+
 pub const FIRST_FORMULA: u32 = 1;
 
 pub const LAST_FORMULA: u32 = 31;
+
+pub fn is_formula(code: u32) -> bool
+    ensures { λ r. ⌜ r ≡ (leb firstFormula code && leb code lastFormula) ⌝ }
+{
+    between(FIRST_FORMULA, LAST_FORMULA, code)
+}
 
 pub const TRUE: u32 = 1;
 
@@ -12,6 +26,21 @@ pub const OR: u32 = 3;
 pub const IMP: u32 = 4;
 
 pub const NOT: u32 = 5;
+
+pub const EX: u32 = 12;
+
+pub const SOME: u32 = 13;
+
+pub const ALL: u32 = 14;
+
+fn between(lo: u32, hi: u32, code: u32) -> bool
+    ensures { λ r. ⌜ r ≡ (leb lo code && leb code hi) ⌝ }
+{
+    if code < lo {
+        return false;
+    }
+    code <= hi
+}
 
 pub const EQ: u32 = 6;
 
@@ -25,15 +54,17 @@ pub const GT: u32 = 10;
 
 pub const GE: u32 = 11;
 
-pub const EX: u32 = 12;
-
-pub const SOME: u32 = 13;
-
-pub const ALL: u32 = 14;
+// ---- terms: operations lie below the others
 
 pub const FIRST_TERM: u32 = 32;
 
 pub const LAST_TERM: u32 = 63;
+
+pub fn is_term(code: u32) -> bool
+    ensures { λ r. ⌜ r ≡ (leb firstTerm code && leb code lastTerm) ⌝ }
+{
+    between(FIRST_TERM, LAST_TERM, code)
+}
 
 pub const ADD: u32 = 32;
 
@@ -45,7 +76,6 @@ pub const DIV: u32 = 35;
 
 pub const MOD: u32 = 36;
 
-// Operations lie below the other terms.
 pub const CONSTANT: u32 = 40;
 
 pub const SCALAR: u32 = 41;
@@ -54,7 +84,8 @@ pub const LOCAL: u32 = 42;
 
 pub const ARRAY: u32 = 43;
 
-// No token: bytes that are no word of the set, and a constant in bad form or outside 32 bits.
-pub const UNKNOWN: u32 = 64;
+// ---- no token: bytes that are no word of the set, and a constant in bad form or outside 32 bits
 
-pub const BAD_CONSTANT: u32 = 65;
+pub const UNKNOWN: u32 = LAST_TERM + 1;
+
+pub const BAD_CONSTANT: u32 = LAST_TERM + 2;

@@ -14,12 +14,13 @@ use Rattle.specification.specs.Bytes.{Bytes, bytes, pick, between}
 use Rattle.specification.specs.Parser.{Reader, Read, refused, found}
 use Rattle.specification.specs.Sheet.{Sheet, read}
 use Rattle.specification.specs.WellFormed.{nowhere}
-use Rattle.specification.specs.Outcome.{refusal, afterReading, enoughMemory, call, outcome, outputAfter, wordsAfter}
+use Rattle.specification.specs.Outcome.{longestPath, wordsFor, refusal, afterReading, enoughMemory, call, outcome, outputAfter, wordsAfter}
 use Rattle.specification.proofs.Laws.Contradiction.{contradiction}
 use Rattle.specification.proofs.Laws.Parser.{of-found}
 use Rattle.specification.proofs.Laws.SheetLines.{sheet-lines}
 use Rattle.specification.proofs.Laws.ReadLines.{line-post}
 use Rattle.specification.proofs.Laws.ReadSheet.{read-well-formed}
+use Rattle.tables.specs.Layout.{pathAt}
 use Rattle.sheet.specs.declared.Reading.the-variants as reading
 use Rattle.sheet.specs.Tables.{Words, tables}
 use Rattle.sheet.specs.Held.{Shallow}
@@ -46,11 +47,11 @@ both : (x y : Bool) → (x && y) ≡ true → (x ≡ true) × (y ≡ true)
 both true y e = (refl, e)
 both false y e = contradiction cc
 
-pub memory-of : (path words : ℕ) → (between 1 32768 path && leb (6144 + 12 * path) words) ≡ true → (path ≤ 32768) × (6144 + 12 * path ≤ words)
+pub memory-of : (path words : ℕ) → (between 1 longestPath path && leb (wordsFor path) words) ≡ true → (path ≤ longestPath) × (wordsFor path ≤ words)
 memory-of path words e =
-    let (a, b) = both (between 1 32768 path) (leb (6144 + 12 * path) words) e in
-    let (c, d) = both (leb 1 path) (leb path 32768) a in
-    (leb-true path 32768 d, leb-true (6144 + 12 * path) words b)
+    let (a, b) = both (between 1 longestPath path) (leb (wordsFor path) words) e in
+    let (c, d) = both (leb 1 path) (leb path longestPath) a in
+    (leb-true path longestPath d, leb-true (wordsFor path) words b)
 
 and-false : (x : Bool) → (x && false) ≡ false
 and-false true = refl
@@ -58,16 +59,16 @@ and-false false = refl
 
 module _ (path words : ℕ) where
   abbrev wide : Bool
-  wide = leb (6144 + 12 * path) words
+  wide = leb (wordsFor path) words
 
-  pub low : path < 1 → (between 1 32768 path && wide) ≡ false
-  low h = ap (λ t. (t && leb path 32768) && wide) (lt-leb 1 path h)
+  pub low : path < 1 → (between 1 longestPath path && wide) ≡ false
+  low h = ap (λ t. (t && leb path longestPath) && wide) (lt-leb 1 path h)
 
-  pub high : 32768 < path → (between 1 32768 path && wide) ≡ false
-  high h = ap (λ t. (leb 1 path && t) && wide) (lt-leb path 32768 h) ∙ ap (λ t. t && wide) (and-false (leb 1 path))
+  pub high : longestPath < path → (between 1 longestPath path && wide) ≡ false
+  high h = ap (λ t. (leb 1 path && t) && wide) (lt-leb path longestPath h) ∙ ap (λ t. t && wide) (and-false (leb 1 path))
 
-  pub within : 1 ≤ path → path ≤ 32768 → (between 1 32768 path && wide) ≡ wide
-  within a b = ap (λ t. (t && leb path 32768) && wide) (le-leb 1 path a) ∙ ap (λ t. t && wide) (le-leb path 32768 b)
+  pub within : 1 ≤ path → path ≤ longestPath → (between 1 longestPath path && wide) ≡ wide
+  within a b = ap (λ t. (t && leb path longestPath) && wide) (le-leb 1 path a) ∙ ap (λ t. t && wide) (le-leb path longestPath b)
 
 module _ (b : Bytes) (S : Setting) (n m : ℕ) where
   pub first-refused : enoughMemory S n ≡ false → call b S n m ≡ refusal 1 0
@@ -98,11 +99,11 @@ record Found (b : Bytes) (n : ℕ) (w : Words) (t : Task) : Type 0 where
   pub long : length w ≡ n
   pub ready : Ready w t sheet
 
-module _ (b : Bytes) (S : Setting) (n : ℕ) (limit : S .path ≤ 32768) (size : 6144 + 12 * S .path ≤ n) (w : Words) (scalars arrays tokens : ℕ) where
+module _ (b : Bytes) (S : Setting) (n : ℕ) (limit : S .path ≤ longestPath) (size : wordsFor (S .path) ≤ n) (w : Words) (scalars arrays tokens : ℕ) where
   found-of : (x : Read Sheet) → read b ≡ x → reading.Read scalars arrays tokens ≡ readingOf x → w ≡ wordsOf n x → Found b n w (taskOf S scalars arrays)
   found-of (refused k p) e t h = contradiction cc
   found-of (found s r) e t h =
-      let enough : 6144 ≤ n = omega (arith, size) in
+      let enough : pathAt ≤ n = omega (arith, size) in
       let count = read-counts b s r e in
       let held = read-ready b s r n e enough in
       let well = read-well-formed b s r e in
@@ -125,7 +126,7 @@ module _ (b : Bytes) (S : Setting) (n : ℕ) (limit : S .path ≤ 32768) (size :
           scalar-count = p;
           array-count = q;
           limit = limit;
-          size = subst (λ k. 6144 + 12 * S .path ≤ k) (sym (tables-length s n enough (count .1))) size;
+          size = subst (λ k. wordsFor (S .path) ≤ k) (sym (tables-length s n enough (count .1))) size;
         });
       }
 

@@ -4,6 +4,7 @@ ghost use mathlib.Core.Bool.{_&&_};
 ghost use Prim.Native.Nat.{_+_, _*_};
 ghost use lib.Dec.{leb};
 ghost use Rattle.specification.specs.Bytes.{between};
+ghost use Rattle.specification.specs.Outcome.{longestPath, wordsFor};
 ghost use Rattle.vodlasim.specs.Answered.{Answered};
 use sheet::Reading;
 use sheet::clear;
@@ -13,17 +14,20 @@ use specification::Setting;
 use walker::Task;
 use walker::machine::walk_tables;
 
+// The longest path that a setting may allow.
+const LONGEST_PATH: u32 = 32768;
+
 // Whether the path limit and the number of work words are as document 01 wants them.
 fn enough(path: u32, words: usize) -> bool
-    ensures { λ r. ⌜ r ≡ (between 1 32768 path && leb (6144 + 12 * path) words) ⌝ }
+    ensures { λ r. ⌜ r ≡ (between 1 longestPath path && leb (wordsFor path) words) ⌝ }
 {
     if path < 1 {
         return false;
     }
-    if path > 32768 {
+    if path > LONGEST_PATH {
         return false;
     }
-    6144 + 12 * (path as usize) <= words
+    tables::PATH + tables::NODE_WORDS * (path as usize) <= words
 }
 
 // Reads the sheet, walks its tree, writes the listing and leaves the work words all zero; every length of the slices is allowed.

@@ -10,7 +10,7 @@ use lib.IntN.{ℤ}
 use Rattle.specification.specs.Bytes.{Bytes}
 use Rattle.specification.specs.Ast.{Formula}
 use Rattle.specification.specs.Tree.{grow, rounds}
-use Rattle.tables.specs.Layout.{nodeEnd, duesAt, duesEnd, maxTokens}
+use Rattle.tables.specs.Layout.{nodeEnd, duesAt, duesEnd, maxTokens, maxPath}
 use Rattle.tables.specs.Node.{headAt, currentAt, lastAt}
 use Rattle.tables.specs.Codes.{allCode, firstFormula, lastFormula}
 use Rattle.tables.proofs.Laws.Kept.{spare-kept, spare-slots}
@@ -131,7 +131,7 @@ module _ {c : World} {o : Bytes} {w : Words} {r : Regs} (i : In c o w r) where
   pub room-words : nodeEnd (r .depth) ≤ length w
   room-words = omega (arith, i .path .size, i .room)
 
-  pub shallow : r .depth < 32768
+  pub shallow : r .depth < maxPath
   shallow = omega (arith, i .path .limit, i .room)
 
 -- the code of the token that is due, in the present words

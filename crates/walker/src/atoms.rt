@@ -12,14 +12,9 @@ use crate::sons;
 use crate::todos;
 use tables::codes;
 use tables::nodes::Node;
+use tables::slots;
 use terms::kinds;
 use terms::tags;
-
-const CELLS: u32 = tables::CELLS as u32;
-
-const LOCALS: u32 = tables::LOCALS as u32;
-
-const SLOT_WORDS: u32 = tables::SLOT_WORDS as u32;
 
 // The value goes into the empty slot, then the rest.
 fn set(w: &mut [u32], r: Regs, slot: u32, value: u32) -> Regs
@@ -53,10 +48,10 @@ fn assignable(w: &[u32], inner: u32, slot: u32) -> bool
         return true;
     }
     // the first element's slot: array 0 begins after the scalars
-    if slot < CELLS + SLOT_WORDS * tables::first_cell(w, 0) {
+    if slot < slots::CELLS + slots::WORDS * tables::first_cell(w, 0) {
         return true;
     }
-    LOCALS <= slot
+    slots::LOCALS <= slot
 }
 
 // An `eq` with a bare side.

@@ -16,12 +16,9 @@ use crate::sons;
 use crate::todos;
 use tables::nodes;
 use tables::nodes::Node;
+use tables::slots;
 use terms::Sides;
 use terms::tags;
-
-const LOCALS: u32 = tables::LOCALS as u32;
-
-const SLOT_WORDS: u32 = tables::SLOT_WORDS as u32;
 
 // After the token of a quantifier comes that of its local, and then its bounds or its formula.
 pub(crate) const AFTER_LOCAL: u32 = 2;
@@ -31,7 +28,7 @@ fn binder(w: &[u32], r: Regs, head: u32, todo: u32, current: u32, last: u32) -> 
     requires { ⌜ Local (now w) head ⌝ }
     ensures { λ n. ⌜ n ≡ binderNode (now (w .entry)) r head todo current last ⌝ }
 {
-    let slot = LOCALS + SLOT_WORDS * tables::operand(w, head + 1);
+    let slot = slots::LOCALS + slots::WORDS * tables::operand(w, head + 1);
     let had = tables::word(w, slot);
     let old = tables::word(w, slot + 1);
     Node {

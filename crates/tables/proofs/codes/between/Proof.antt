@@ -1,7 +1,7 @@
 -- Below, or by the upper bound. Assumes nothing.
 use borrow.Author.Tests.{le-leb, lt-leb}
-use Rattle.sheet.proofs.formula.between.Statement.{statement}
-use Rattle.sheet.proofs.formula.between.Tie as tie
+use Rattle.tables.proofs.codes.between.Statement.{statement}
+use Rattle.tables.proofs.codes.between.Tie as tie
 
 returns : tie.Need-returns
 returns c = rw (lt-leb _ _ (c .if1 .taken))
