@@ -26,6 +26,14 @@ pub(crate) fn operands_of(code: u32) -> Operands
             sort: FORMULA,
             count: 1,
         },
+        codes::EX => Operands {
+            sort: EX_LOCAL,
+            count: 1,
+        },
+        codes::ARRAY => Operands {
+            sort: TERM,
+            count: 1,
+        },
         codes::AND..=codes::IMP => Operands {
             sort: FORMULA,
             count: 2,
@@ -34,10 +42,6 @@ pub(crate) fn operands_of(code: u32) -> Operands
             sort: TERM,
             count: 2,
         },
-        codes::EX => Operands {
-            sort: EX_LOCAL,
-            count: 1,
-        },
         codes::SOME..=codes::ALL => Operands {
             sort: RANGE_LOCAL,
             count: 1,
@@ -45,10 +49,6 @@ pub(crate) fn operands_of(code: u32) -> Operands
         codes::ADD..=codes::MOD => Operands {
             sort: TERM,
             count: 2,
-        },
-        codes::ARRAY => Operands {
-            sort: TERM,
-            count: 1,
         },
         _ => Operands {
             sort: FORMULA,

@@ -5,19 +5,13 @@ ghost use mathlib.Core.Bool.{_&&_};
 ghost use lib.Dec.{leb};
 ghost use Rattle.tables.specs.Codes.{firstFormula, lastFormula, firstTerm, lastTerm};
 
-// ---- formulas: connectives and atoms, then quantifiers
+// ---- formulas
 
 pub const FIRST_FORMULA: u32 = 1;
 
 pub const LAST_FORMULA: u32 = 31;
 
-pub fn is_formula(code: u32) -> bool
-    ensures { λ r. ⌜ r ≡ (leb firstFormula code && leb code lastFormula) ⌝ }
-{
-    between(FIRST_FORMULA, LAST_FORMULA, code)
-}
-
-pub const TRUE: u32 = 1;
+pub const TRUE: u32 = FIRST_FORMULA;
 
 pub const AND: u32 = 2;
 
@@ -27,24 +21,10 @@ pub const IMP: u32 = 4;
 
 pub const NOT: u32 = 5;
 
-pub const EX: u32 = 12;
-
-pub const SOME: u32 = 13;
-
-pub const ALL: u32 = 14;
-
-fn between(lo: u32, hi: u32, code: u32) -> bool
-    ensures { λ r. ⌜ r ≡ (leb lo code && leb code hi) ⌝ }
-{
-    if code < lo {
-        return false;
-    }
-    code <= hi
-}
-
 pub const EQ: u32 = 6;
 
-pub const NE: u32 = 7;
+// The atoms that compare follow `eq`.
+pub const NE: u32 = EQ + 1;
 
 pub const LT: u32 = 8;
 
@@ -54,19 +34,21 @@ pub const GT: u32 = 10;
 
 pub const GE: u32 = 11;
 
-// ---- terms: operations lie below the others
+// Quantifiers follow the atoms.
+pub const EX: u32 = GE + 1;
+
+pub const SOME: u32 = 13;
+
+pub const ALL: u32 = 14;
+
+// ---- terms
 
 pub const FIRST_TERM: u32 = 32;
 
 pub const LAST_TERM: u32 = 63;
 
-pub fn is_term(code: u32) -> bool
-    ensures { λ r. ⌜ r ≡ (leb firstTerm code && leb code lastTerm) ⌝ }
-{
-    between(FIRST_TERM, LAST_TERM, code)
-}
-
-pub const ADD: u32 = 32;
+// Operations lie below the other terms.
+pub const ADD: u32 = FIRST_TERM;
 
 pub const SUB: u32 = 33;
 
@@ -89,3 +71,26 @@ pub const ARRAY: u32 = 43;
 pub const UNKNOWN: u32 = LAST_TERM + 1;
 
 pub const BAD_CONSTANT: u32 = LAST_TERM + 2;
+
+// ---- the ranges
+
+fn between(lo: u32, hi: u32, code: u32) -> bool
+    ensures { λ r. ⌜ r ≡ (leb lo code && leb code hi) ⌝ }
+{
+    if code < lo {
+        return false;
+    }
+    code <= hi
+}
+
+pub fn is_formula(code: u32) -> bool
+    ensures { λ r. ⌜ r ≡ (leb firstFormula code && leb code lastFormula) ⌝ }
+{
+    between(FIRST_FORMULA, LAST_FORMULA, code)
+}
+
+pub fn is_term(code: u32) -> bool
+    ensures { λ r. ⌜ r ≡ (leb firstTerm code && leb code lastTerm) ⌝ }
+{
+    between(FIRST_TERM, LAST_TERM, code)
+}
