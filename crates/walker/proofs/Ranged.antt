@@ -1,5 +1,6 @@
--- The bounds of a quantifier: an error, no value, or a first value and how many come after it. Assumes nothing.
-use Prim.Native.Nat.{ℕ, suc, _+_, _*_, _-_, _≤_, _<_}
+-- The bounds of a quantifier: how many values lie between them, and what the node's tree is by them. What `some` and `all` make of it is in
+-- Bounded.antt. Assumes nothing.
+use Prim.Native.Nat.{ℕ, suc, _+_, _-_, _≤_, _<_}
 use native.Mathlib.Omega.{arith}
 use mathlib.Core.Path.{_≡_, refl, sym, _∙_, ap, subst}
 use mathlib.Core.Bool.{Bool}
@@ -7,36 +8,28 @@ use mathlib.Core.List.{List}
 use lib.IntN.{ℤ, pos, _+ℤ_}
 use Rattle.specification.specs.Bytes.{Bytes}
 use Rattle.specification.specs.Lines.{Declared}
-use Rattle.specification.specs.Ast.{Term, Formula, some, all}
-use Rattle.specification.specs.Place.{local, put}
+use Rattle.specification.specs.Ast.{Term, Formula}
 use Rattle.specification.specs.Arithmetic.{count}
-use Rattle.specification.specs.Value.{full, Valuation, pairOf, side}
-use Rattle.specification.specs.Tree.{Rest, bounded, sons, rounds, grow}
+use Rattle.specification.specs.Value.{Valuation, pairOf, side}
+use Rattle.specification.specs.Tree.{Rest, bounded, grow}
 use Rattle.specification.proofs.Laws.Value.{sane-val}
 use Rattle.values.specs.Word.{signed}
-use Rattle.values.proofs.Laws.Word.{signed-biased, signed-count, signed-add, biased-word}
-use Rattle.tables.specs.Codes.{someCode, allCode}
+use Rattle.values.proofs.Laws.Word.{signed-biased, signed-count, biased-word}
 use Rattle.sheet.specs.Tables.{Words}
-use lib.ListN.{length}
-use Rattle.tables.specs.Layout.{nodeEnd}
-use Rattle.tables.specs.Node.{headAt, currentAt, lastAt}
 use Rattle.tables.proofs.Laws.Kept.{spare-kept}
 use Rattle.sheet.specs.Held.{endAt}
 use Rattle.terms.specs.declared.Sides.{Sides}
 use Rattle.terms.specs.Results.{Valued, valueTag}
 use Rattle.walker.specs.declared.Regs.{Regs}
-use Rattle.walker.specs.Frame as frames
 use Rattle.walker.specs.Frame.{Item, treeItems, innerIn}
 use Rattle.walker.specs.Path.{World, Pend}
 use Rattle.walker.specs.Stands.{Binds, bodyOf, LeftAfter}
 use Rattle.walker.specs.Sim.{tree, In}
-use Rattle.walker.specs.Steps.{Visited, Entered, GoesOn, OneLeaf, Opens, Rounds}
-use Rattle.walker.specs.Registers.{dueOf}
-use Rattle.walker.specs.States.{againJob, failureJob}
-use Rattle.walker.proofs.Here.{body-here, code-here}
+use Rattle.walker.specs.Steps.{Entered}
+use Rattle.walker.proofs.Here.{body-here}
 use Rattle.walker.proofs.Under.{Ranges, Says}
 use Rattle.walker.proofs.Keep.{pend-keep}
-use Rattle.walker.proofs.Heads.{at-form, head-code, form-tree, at-again, again-tree, in-spare, visited-spare, entered-spare}
+use Rattle.walker.proofs.Heads.{at-form, form-tree, in-spare}
 use Rattle.walker.proofs.Sided.{Terms, Errs, back, left-value, right-value}
 
 -- the place of the lower bound, as the code has it
@@ -142,160 +135,3 @@ module _
           rest = pend-keep c w w' (r .depth) (r .due .rest) (a .is) (spare-kept w w' (v .kept) (v .size) (r .depth) .nodes) (a .rest);
           grown = grown c o j ∙ rw (p .is, q .is);
         }
-
--- ---- `some`
-
-abbrev pub someOf : Declared → Bool → ℕ → Formula → Rest → ℤ → ℤ → Rest
-someOf D m l F k x y β = sons x (count x y) (λ i. grow D m F k (put β (local l) (full (x +ℤ pos i))))
-
-pub some-grows : (D : Declared) (m : Bool) (tok l : ℕ) (a b : Term) (F : Formula) (k : Rest) (α : Valuation) →
-    grow D m (some tok l a b F) k α ≡ bounded tok (pairOf (side D α a) (side D α b)) (someOf D m l F k) α
-unfolding grow
-some-grows D m tok l a b F k α = refl
-
-abbrev pub allOf : Declared → Bool → ℕ → Formula → Rest → ℤ → ℤ → Rest
-allOf D m l F k x y = rounds (λ k′ β. grow D m F k′ β) l k (count x y) x
-
-pub all-grows : (D : Declared) (m : Bool) (tok l : ℕ) (a b : Term) (F : Formula) (k : Rest) (α : Valuation) →
-    grow D m (all tok l a b F) k α ≡ bounded tok (pairOf (side D α a) (side D α b)) (allOf D m l F k) α
-unfolding grow
-all-grows D m tok l a b F k α = refl
-
-abbrev pub some-terms : {w : Words} {r : Regs} → Entered w r someCode → Terms w r (r .due .head + 2) (bodyOf w (r .due .head))
-some-terms x = range-terms 13 some someOf (λ D t h F q. q) some-grows x
-
-pub some-errs : {w : Words} {r : Regs} (x : Entered w r someCode) → Errs w r (r .due .head + 2) (bodyOf w (r .due .head)) (some-terms x)
-some-errs x = range-errs 13 some someOf (λ D t h F q. q) some-grows x
-
-abbrev pub all-terms : {w : Words} {r : Regs} → Entered w r allCode → Terms w r (r .due .head + 2) (bodyOf w (r .due .head))
-all-terms x = range-terms 14 all allOf (λ D t h F q. q) all-grows x
-
-pub all-errs : {w : Words} {r : Regs} (x : Entered w r allCode) → Errs w r (r .due .head + 2) (bodyOf w (r .due .head)) (all-terms x)
-all-errs x = range-errs 14 all allOf (λ D t h F q. q) all-grows x
-
-module _ {w w' : Words} {r : Regs} {s : Sides} where
-  module _ (x : Entered w r someCode) where
-    module _ (v : Valued w w' (r .due .head + 2) (bodyOf w (r .due .head)) s) (l : s .ltag ≡ valueTag) (h : s .rtag ≡ valueTag) where
-      abbrev some-values : (c : World) (o : Bytes) (i : In c o w' r) → Valuable 13 some someOf (λ D t h F q. q) some-grows x v l h c o i
-      some-values = valuable 13 some someOf (λ D t h F q. q) some-grows x v l h
-
-      -- no value: a failure leaf
-      pub some-none : s .right < s .left → OneLeaf w' r (dueOf failureJob 0 0)
-      unfolding sons
-      some-none less = record {
-        at = visited-spare w w' (v .kept) (v .size) (x .at);
-        son = λ c o i.
-            let a = some-values c o i in
-            (frames.failure, a .grown ∙ rw (count-none (s .left) (s .right) (a .y) (a .z) (a .bounds) less), refl, omega arith);
-      }
-
-      pub some-opens : s .left ≤ s .right → Opens w' r (s .left) (s .right)
-      unfolding sons treeItems
-      some-opens more = record {
-        at = entered-spare w w' (v .kept) (v .size) x;
-        sons = λ c o i.
-            let a = some-values c o i in (
-              a .local,
-              a .body,
-              s .right - s .left,
-              a .y,
-              a .is,
-              a .grown ∙ rw (count-some (s .left) (s .right) (a .y) (a .z) (a .bounds) more),
-              a .binds,
-              left-after (s .left) (s .right) (a .y) (a .z) (a .bounds) more,
-              a .bounds .first,
-              a .rest,
-            );
-      }
-
-  -- ---- `all`
-
-  module _ (x : Entered w r allCode) where
-    module _ (v : Valued w w' (r .due .head + 2) (bodyOf w (r .due .head)) s) (l : s .ltag ≡ valueTag) (h : s .rtag ≡ valueTag) where
-      abbrev all-values : (c : World) (o : Bytes) (i : In c o w' r) → Valuable 14 all allOf (λ D t h F q. q) all-grows x v l h c o i
-      all-values = valuable 14 all allOf (λ D t h F q. q) all-grows x v l h
-
-      -- no value: go on
-      pub all-none : s .right < s .left → GoesOn w' r
-      unfolding rounds
-      all-none less = record {
-        at = visited-spare w w' (v .kept) (v .size) (x .at);
-        son = λ c o i.
-            let a = all-values c o i in
-            (a .is, a .grown ∙ rw (count-none (s .left) (s .right) (a .y) (a .z) (a .bounds) less), a .rest);
-      }
-
-      pub all-rounds : s .left ≤ s .right → Rounds w' r (r .due .head) (s .left) (s .right)
-      unfolding rounds treeItems
-      all-rounds more = record {
-        at = visited-spare w w' (v .kept) (v .size) (x .at);
-        code = head-code (entered-spare w w' (v .kept) (v .size) x);
-        son = λ c o i.
-            let a = all-values c o i in (
-              a .local,
-              a .body,
-              s .right - s .left,
-              a .y,
-              a .is,
-              a .grown ∙ rw (count-some (s .left) (s .right) (a .y) (a .z) (a .bounds) more),
-              a .binds,
-              left-after (s .left) (s .right) (a .y) (a .z) (a .bounds) more,
-              a .bounds .first,
-              a .rest,
-            );
-      }
-
--- ---- an `all` that goes on
-
-module _ {w : Words} {r : Regs} (x : Visited w r) (j : r .due .job ≡ againJob) where
-  -- the node that began it
-  pub again-node : (1 ≤ r .due .head) × (nodeEnd (r .due .head - 1) ≤ length w)
-  again-node =
-      let i = x .ins in
-      let a = at-again i j in
-      (a .below .0, omega (arith, a .below .0, a .below .1, i .path .size, i .room))
-
-  module _ {current last : ℕ} (ec : current ≡ currentAt w (r .due .head - 1)) (el : last ≡ lastAt w (r .due .head - 1)) where
-    left-is : {c : World} {o : Bytes} (i : In c o w r) → let a = at-again i j in LeftAfter current last (a .m) (a .v)
-    left-is i = rw (ec, el) (at-again i j .left)
-
-    pub again-small : (current ≤ last) × (last < 4294967296)
-    again-small = let q = left-is (x .ins) in (q .order, q .fits)
-
-    pub again-none : current ≡ last → GoesOn w r
-    unfolding rounds
-    again-none e = record {
-      at = x;
-      son = λ c o i.
-          let a = at-again i j in
-          let none : a .m ≡ 0 = left-is i .count ∙ omega arith in
-          (a .is, again-tree i a ∙ rw none, a .rest);
-    }
-
-    pub again-rounds : {h : ℕ} → h ≡ headAt w (r .due .head - 1) → ¬ (current ≡ last) → Rounds w r h (current + 1) last
-    unfolding rounds treeItems
-    again-rounds {h} eh n = record {
-      at = x;
-      code = (
-          let i = x .ins in
-          let a = at-again i j in
-          rw eh (code-here (x .c .tables) w (i .path .tokens) (omega (arith, a .binds .near)) ∙ a .code));
-      son = λ c o i.
-          let a = at-again i j in
-          let q = left-is i in
-          let order = q .order in
-          let differ : ¬ (current ≡ last) = n in
-          let more : a .m ≡ suc (last - (current + 1)) = q .count ∙ omega arith in
-          let next : signed (current + 1) ≡ a .v = sym (signed-add current 1) ∙ sym (q .lowest) in (
-            a .l,
-            a .F,
-            last - (current + 1),
-            a .v,
-            a .is,
-            again-tree i a ∙ rw more,
-            rw eh (a .binds),
-            record { fits = q .fits; order = omega arith; count = refl; lowest = ap (_+ℤ pos 1) (sym next) },
-            next,
-            a .rest,
-          );
-    }

@@ -5,10 +5,14 @@ use native.Mathlib.Omega.{arith}
 use mathlib.Core.Path.{_≡_, refl, sym, _∙_, ap, subst}
 use lib.IntN.{ℤ}
 use Rattle.specification.specs.Bytes.{Bytes}
+use Rattle.specification.specs.Lines.{Declared}
 use Rattle.specification.specs.Ast.{Term}
-use Rattle.specification.specs.Value.{Side, val, bare, err, values, faulty, pairOf, side}
+use Rattle.specification.specs.Value.{Valuation, Side, val, bare, err, faulty, pairOf, side}
+use Rattle.specification.specs.WellFormed as scopes
 use Rattle.specification.specs.Tree.{errorLeaf, step}
-use Rattle.values.specs.Word.{biased}
+use Rattle.specification.proofs.Laws.Value.{sane-val}
+use Rattle.values.specs.Word.{biased, signed}
+use Rattle.values.proofs.Laws.Word.{signed-biased}
 use Rattle.sheet.specs.Tables.{Words}
 use Rattle.terms.specs.declared.Sides.{Sides}
 use Rattle.terms.specs.Results.{tagOf, wordOf, sidesOf, Given, Asked, Valued, valueTag}
@@ -68,6 +72,10 @@ pub has-value : (x : Side) (w : ℕ) → tagOf x ≡ 0 → w ≡ wordOf x → Ha
 has-value (val z) w e h = record { z = z; is = refl; word = h }
 has-value (bare p) w e h = absurd (omega arith)
 has-value (err κ) w e h = absurd (omega arith)
+
+-- the value of a side by its word
+pub value-is : (D : Declared) (S : scopes.Scope) (α : Valuation) → scopes.Valid D α → (t : Term) → scopes.OkTerm D S t → (w : ℕ) (z : ℤ) → side D α t ≡ val z → w ≡ biased z → signed w ≡ z
+value-is D S α v t ok w z e h = ap signed h ∙ signed-biased z (sane-val D S α v t ok z e)
 
 -- ---- the two terms of the node's formula
 

@@ -1,25 +1,24 @@
--- The steps into atoms, by what the two sides are. Assumes nothing.
+-- The step into an `eq`, by what its two sides are: an error leaf, an assignment or a test. Assumes nothing.
 use Prim.Native.Nat.{ℕ, _+_, _≤_, _<_}
 use native.Mathlib.Omega.{arith}
 use native.Mathlib.Numerals.{add-one}
 use mathlib.Core.Path.{_≡_, refl, sym, _∙_, ap}
-use mathlib.Core.Bool.{Bool, not}
+use mathlib.Core.Bool.{Bool}
 use mathlib.Core.List.{List}
-use lib.Dec.{T, leb, ltb, eqb}
+use lib.Dec.{T, eqb}
 use lib.IntN.{ℤ}
 use Rattle.specification.specs.Bytes.{Bytes}
 use Rattle.specification.specs.Lines.{Declared, cells}
-use Rattle.specification.specs.Ast.{ne, lt, le, gt, ge, Term, eq, compare}
-use Rattle.specification.specs.Arithmetic.{eqZ, test, noValue}
+use Rattle.specification.specs.Arithmetic.{eqZ, noValue}
 use Rattle.specification.specs.Place.{Place, cell, local}
-use Rattle.specification.specs.Value.{Valuation, Side, val, bare, err, pairOf, side}
+use Rattle.specification.specs.Value.{Valuation, Side, val, bare, err}
 use Rattle.specification.specs.WellFormed as scopes
-use Rattle.specification.specs.Tree.{errorLeaf, step, Rest, assign, equate, compared, grow}
+use Rattle.specification.specs.Tree.{errorLeaf, step, Rest, assign, equate, grow}
 use Rattle.specification.proofs.Laws.Scope as places
 use Rattle.specification.proofs.Laws.Value.{sane-val, sane-bare}
-use Rattle.values.specs.Word.{biased, signed}
-use Rattle.values.proofs.Laws.Word.{signed-biased, signed-eq, signed-lt, signed-le}
-use Rattle.tables.specs.Codes.{eqCode, neCode, ltCode, leCode, gtCode, geCode}
+use Rattle.values.specs.Word.{signed}
+use Rattle.values.proofs.Laws.Word.{signed-eq}
+use Rattle.tables.specs.Codes.{eqCode}
 use Rattle.tables.specs.Layout.{maxLocals, maxCells}
 use Rattle.tables.proofs.Laws.Kept.{spare-kept}
 use Rattle.sheet.specs.Tables.{Words}
@@ -31,59 +30,12 @@ use Rattle.walker.specs.Frame as frames
 use Rattle.walker.specs.Frame.{Item, treeItems, innerIn}
 use Rattle.walker.specs.Path.{World, Pend, InTable}
 use Rattle.walker.specs.Sim.{tree, In}
-use Rattle.walker.specs.Steps.{Visited, Entered, OneLeaf, Assigns, Tested, Compares}
+use Rattle.walker.specs.Steps.{Visited, Entered, OneLeaf, Assigns, Tested}
 use Rattle.walker.specs.Registers.{errorDue}
 use Rattle.walker.proofs.Keep.{pend-keep}
 use Rattle.walker.proofs.Here.{end-here}
-use Rattle.walker.proofs.Under.{Compared}
-use Rattle.walker.proofs.Inverse.{says-compared}
 use Rattle.walker.proofs.Heads.{at-form, form-tree, in-spare, visited-spare}
-use Rattle.walker.proofs.Sided.{Terms, Errs, back, forth, left-side, right-side, sides-are, left-value, right-value}
-
--- the value of a side by its word
-value-is : (D : Declared) (S : scopes.Scope) (α : Valuation) → scopes.Valid D α → (t : Term) → scopes.OkTerm D S t → (w : ℕ) (z : ℤ) → side D α t ≡ val z → w ≡ biased z → signed w ≡ z
-value-is D S α v t ok w z e h = ap signed h ∙ signed-biased z (sane-val D S α v t ok z e)
-
--- ---- the atoms that compare
-
-module _ {n : ℕ} {w : Words} {r : Regs} (x : Entered w r n) (low : neCode ≤ n) (high : n ≤ geCode) where
-  abbrev pub comparing : (c : World) (o : Bytes) (i : In c o w r) → Compared (c .declared) (c .tables) (r .due .head) n (at-form i (x .formula) (x .code) .F)
-  comparing c o i = let a = at-form i (x .formula) (x .code) in says-compared (a .stands) (a .code) low high
-
-  unfoldable pub compare-terms : Terms w r (r .due .head + 1) (endAt w (r .due .head))
-  compare-terms = record {
-    at = x .at;
-    both = λ c o i.
-        let a = at-form i (x .formula) (x .code) in
-        let b = comparing c o i .2 in
-        (b .left, b .right, rw (add-one (r .due .head), end-here (c .tables) w (i .path .tokens) (a .small)) (b .terms));
-  }
-
-  pub compare-errs : Errs w r (r .due .head + 1) (endAt w (r .due .head)) compare-terms
-  unfolding compare-terms grow compared
-  compare-errs c o i κ e = let a = at-form i (x .formula) (x .code) in form-tree i a ∙ rw (comparing c o i .2 .is, e)
-
-  pub compare-tested : {w' : Words} {s : Sides} (v : Valued w w' (r .due .head + 1) (endAt w (r .due .head)) s) → s .ltag ≡ valueTag → s .rtag ≡ valueTag →
-      (b : Bool) → Compares n (s .left) (s .right) b → Tested w' r b
-  unfolding compare-terms back in-spare grow compared pairOf
-  compare-tested {w'} {s} v l h b k = record {
-    at = visited-spare w w' (v .kept) (v .size) (x .at);
-    son = λ c o i.
-        let j = back compare-terms v i in
-        let a = at-form j (x .formula) (x .code) in
-        let (rel, code, t) = comparing c o j in
-        let p = left-value compare-terms v l c o i in
-        let q = right-value compare-terms v h c o i in
-        let left : signed (s .left) ≡ p .z = value-is (c .declared) (t .terms .scope) (i .α) (i .path .valid) (t .left) (t .terms .left) (s .left) (p .z) (p .is) (p .word) in
-        let right : signed (s .right) ≡ q .z = value-is (c .declared) (t .terms .scope) (i .α) (i .path .valid) (t .right) (t .terms .right) (s .right) (q .z) (q .is) (q .word) in
-        let holds : b ≡ test rel (p .z) (q .z) = k rel code ∙ ap (λ y. test rel y (signed (s .right))) left ∙ ap (test rel (p .z)) right in (
-          a .is,
-          form-tree j a ∙ rw (t .is, p .is, q .is, holds),
-          pend-keep c w w' (r .depth) (r .due .rest) (a .is) (spare-kept w w' (v .kept) (v .size) (r .depth) .nodes) (a .rest),
-        );
-  }
-
--- ---- `eq`
+use Rattle.walker.proofs.Sided.{Terms, back, forth, left-side, right-side, sides-are, left-value, right-value, value-is}
 
 -- a bare place that a term names has a slot in the tables
 in-table : (D : Declared) (S : scopes.Scope) → cells D ≤ maxCells → ((l : ℕ) → T (S l) → l < maxLocals) → (p : Place) → places.In D S p → InTable p
@@ -291,46 +243,3 @@ module _ {w : Words} {r : Regs} (x : Entered w r eqCode) where
 
     pub right-tag : ¬ (s .rtag ≡ bareTag) → ¬ (s .rtag ≡ errorTag) → s .rtag ≡ valueTag
     right-tag a b = omega (arith, rtag-is (x .at .c) (x .at .o) some-in, tag-small (rights (x .at .c) (x .at .o) some-in))
-
--- ---- comparisons of words, by the code
-
-module _ (x y : ℕ) where
-  pub compares-ne : Compares neCode x y (not (eqb x y))
-  unfolding test
-  compares-ne ne e = ap not (sym (signed-eq x y))
-  compares-ne lt e = absurd (omega arith)
-  compares-ne le e = absurd (omega arith)
-  compares-ne gt e = absurd (omega arith)
-  compares-ne ge e = absurd (omega arith)
-
-  pub compares-lt : Compares ltCode x y (ltb x y)
-  unfolding test
-  compares-lt ne e = absurd (omega arith)
-  compares-lt lt e = sym (signed-lt x y)
-  compares-lt le e = absurd (omega arith)
-  compares-lt gt e = absurd (omega arith)
-  compares-lt ge e = absurd (omega arith)
-
-  pub compares-le : Compares leCode x y (leb x y)
-  unfolding test
-  compares-le ne e = absurd (omega arith)
-  compares-le lt e = absurd (omega arith)
-  compares-le le e = sym (signed-le x y)
-  compares-le gt e = absurd (omega arith)
-  compares-le ge e = absurd (omega arith)
-
-  pub compares-gt : Compares gtCode x y (ltb y x)
-  unfolding test
-  compares-gt ne e = absurd (omega arith)
-  compares-gt lt e = absurd (omega arith)
-  compares-gt le e = absurd (omega arith)
-  compares-gt gt e = sym (signed-lt y x)
-  compares-gt ge e = absurd (omega arith)
-
-  pub compares-ge : (code : ℕ) → ¬ (code ≡ neCode) → ¬ (code ≡ ltCode) → ¬ (code ≡ leCode) → ¬ (code ≡ gtCode) → Compares code x y (leb y x)
-  unfolding test
-  compares-ge code a b c d ne e = absurd (a e)
-  compares-ge code a b c d lt e = absurd (b e)
-  compares-ge code a b c d le e = absurd (c e)
-  compares-ge code a b c d gt e = absurd (d e)
-  compares-ge code a b c d ge e = sym (signed-le y x)
