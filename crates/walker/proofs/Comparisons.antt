@@ -10,7 +10,6 @@ use Rattle.specification.specs.Ast.{ne, lt, le, gt, ge}
 use Rattle.specification.specs.Arithmetic.{test}
 use Rattle.specification.specs.Value.{pairOf}
 use Rattle.specification.specs.Tree.{compared, grow}
-use Rattle.values.specs.Word.{signed}
 use Rattle.values.proofs.Laws.Word.{signed-eq, signed-lt, signed-le}
 use Rattle.tables.specs.Codes.{neCode, ltCode, leCode, gtCode, geCode}
 use Rattle.tables.proofs.Laws.Kept.{spare-kept}
@@ -27,7 +26,7 @@ use Rattle.walker.proofs.Here.{end-here}
 use Rattle.walker.proofs.Under.{Compared}
 use Rattle.walker.proofs.Inverse.{says-compared}
 use Rattle.walker.proofs.Heads.{at-form, form-tree, in-spare, visited-spare}
-use Rattle.walker.proofs.Sided.{Terms, Errs, back, left-value, right-value, value-is}
+use Rattle.walker.proofs.Sided.{Terms, Errs, back, left-value, right-value, left-signed, right-signed}
 
 -- ---- the atoms that compare
 
@@ -59,9 +58,7 @@ module _ {n : ℕ} {w : Words} {r : Regs} (x : Entered w r n) (low : neCode ≤ 
         let (rel, code, t) = comparing c o j in
         let p = left-value compare-terms v l c o i in
         let q = right-value compare-terms v h c o i in
-        let left : signed (s .left) ≡ p .z = value-is (c .declared) (t .terms .scope) (i .α) (i .path .valid) (t .left) (t .terms .left) (s .left) (p .z) (p .is) (p .word) in
-        let right : signed (s .right) ≡ q .z = value-is (c .declared) (t .terms .scope) (i .α) (i .path .valid) (t .right) (t .terms .right) (s .right) (q .z) (q .is) (q .word) in
-        let holds : b ≡ test rel (p .z) (q .z) = k rel code ∙ ap (λ y. test rel y (signed (s .right))) left ∙ ap (test rel (p .z)) right in (
+        let holds : b ≡ test rel (p .z) (q .z) = k rel code ∙ rw (left-signed compare-terms v l c o i, right-signed compare-terms v h c o i) in (
           a .is,
           form-tree j a ∙ rw (t .is, p .is, q .is, holds),
           pend-keep c w w' (r .depth) (r .due .rest) (a .is) (spare-kept w w' (v .kept) (v .size) (r .depth) .nodes) (a .rest),

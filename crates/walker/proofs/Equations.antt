@@ -6,23 +6,22 @@ use mathlib.Core.Path.{_≡_, refl, sym, _∙_, ap}
 use mathlib.Core.Bool.{Bool}
 use mathlib.Core.List.{List}
 use lib.Dec.{T, eqb}
-use lib.IntN.{ℤ}
 use Rattle.specification.specs.Bytes.{Bytes}
 use Rattle.specification.specs.Lines.{Declared, cells}
+use Rattle.specification.specs.Ast.{Term}
 use Rattle.specification.specs.Arithmetic.{eqZ, noValue}
 use Rattle.specification.specs.Place.{Place, cell, local}
-use Rattle.specification.specs.Value.{Valuation, Side, val, bare, err}
+use Rattle.specification.specs.Value.{Valuation, Side, val, bare, err, side}
 use Rattle.specification.specs.WellFormed as scopes
 use Rattle.specification.specs.Tree.{errorLeaf, step, Rest, assign, equate, grow}
 use Rattle.specification.proofs.Laws.Scope as places
 use Rattle.specification.proofs.Laws.Value.{sane-val, sane-bare}
-use Rattle.values.specs.Word.{signed}
 use Rattle.values.proofs.Laws.Word.{signed-eq}
 use Rattle.tables.specs.Codes.{eqCode}
 use Rattle.tables.specs.Layout.{maxLocals, maxCells}
 use Rattle.tables.proofs.Laws.Kept.{spare-kept}
 use Rattle.sheet.specs.Tables.{Words}
-use Rattle.sheet.specs.Held.{endAt, slotOf}
+use Rattle.sheet.specs.Held.{endAt}
 use Rattle.terms.specs.declared.Sides.{Sides}
 use Rattle.terms.specs.Results.{tagOf, wordOf, Valued, valueTag, bareTag, errorTag}
 use Rattle.walker.specs.declared.Regs.{Regs}
@@ -35,32 +34,12 @@ use Rattle.walker.specs.Registers.{errorDue}
 use Rattle.walker.proofs.Keep.{pend-keep}
 use Rattle.walker.proofs.Here.{end-here}
 use Rattle.walker.proofs.Heads.{at-form, form-tree, in-spare, visited-spare}
-use Rattle.walker.proofs.Sided.{Terms, back, forth, left-side, right-side, sides-are, left-value, right-value, value-is}
+use Rattle.walker.proofs.Sided.{Terms, Has, Bare, back, forth, left-side, right-side, ltag-is, left-is, rtag-is, right-is, left-place, right-place, left-value, right-value, left-signed, right-signed}
 
 -- a bare place that a term names has a slot in the tables
 in-table : (D : Declared) (S : scopes.Scope) → cells D ≤ maxCells → ((l : ℕ) → T (S l) → l < maxLocals) → (p : Place) → places.In D S p → InTable p
 in-table D S few small (cell c) h = omega arith
 in-table D S few small (local l) h = small l h
-
--- a bare side, by the first word of its slot
-record Bare (x : Side) (w : ℕ) : Type 0 where
-  place : Place
-  is : x ≡ bare place
-  word : w ≡ slotOf place
-
-has-place : (x : Side) (w : ℕ) → tagOf x ≡ 1 → w ≡ wordOf x → Bare x w
-has-place (val z) w e h = absurd (omega arith)
-has-place (bare p) w e h = record { place = p; is = refl; word = h }
-has-place (err κ) w e h = absurd (omega arith)
-
-module _ (D : Declared) (m : Bool) (tok : ℕ) (x y : Side) (rest : Rest) (α : Valuation) where
-  equate-left : (p : Place) (z : ℤ) → x ≡ bare p → y ≡ val z → equate D m tok x y rest α ≡ assign D m tok p z rest α
-  unfolding equate
-  equate-left p z e f = rw (e, f)
-
-  equate-right : (p : Place) (z : ℤ) → x ≡ val z → y ≡ bare p → equate D m tok x y rest α ≡ assign D m tok p z rest α
-  unfolding equate
-  equate-right p z e f = rw (e, f)
 
 module _ {w : Words} {r : Regs} (x : Entered w r eqCode) where
   unfoldable pub eq-terms : Terms w r (r .due .head + 1) (endAt w (r .due .head))
@@ -100,20 +79,6 @@ module _ {w : Words} {r : Regs} (x : Entered w r eqCode) where
         let a = at-form (back eq-terms v i) (x .formula) (x .code) in
         pend-keep c w w' (r .depth) (r .due .rest) (a .is) (spare-kept w w' (v .kept) (v .size) (r .depth) .nodes) (a .rest)
 
-    -- the tags and words, side by side
-    module _ (c : World) (o : Bytes) (i : In c o w' r) where
-      ltag-is : s .ltag ≡ tagOf (lefts c o i)
-      ltag-is = ap (λ y. y .ltag) (sides-are eq-terms v c o i)
-
-      left-is : s .left ≡ wordOf (lefts c o i)
-      left-is = ap (λ y. y .left) (sides-are eq-terms v c o i)
-
-      rtag-is : s .rtag ≡ tagOf (rights c o i)
-      rtag-is = ap (λ y. y .rtag) (sides-are eq-terms v c o i)
-
-      right-is : s .right ≡ wordOf (rights c o i)
-      right-is = ap (λ y. y .right) (sides-are eq-terms v c o i)
-
     -- an error leaf by the two sides
     leaf-by : (k : ℕ) →
         ((D : Declared) (m : Bool) (tok : ℕ) (p q : Side) (rest : Rest) (α : Valuation) →
@@ -125,7 +90,7 @@ module _ {w : Words} {r : Regs} (x : Entered w r eqCode) where
         frames.error k (r .due .head),
         equated c o i ∙
             ap step (f (c .declared) (innerIn (i .fr)) (r .due .head) (lefts c o i) (rights c o i) (λ β. treeItems (c .declared) (innerIn (i .fr)) (items c o i) β) (i .α)
-            (ltag-is c o i) (left-is c o i) (rtag-is c o i) (right-is c o i)),
+            (ltag-is eq-terms v c o i) (left-is eq-terms v c o i) (rtag-is eq-terms v c o i) (right-is eq-terms v c o i)),
         (refl, refl, refl),
         omega arith,
       );
@@ -166,66 +131,88 @@ module _ {w : Words} {r : Regs} (x : Entered w r eqCode) where
         go D m tok (bare y) (bare z) rest α a b c d = refl
 
     -- one side bare, the other with a value
-    pub eq-assign-left : s .ltag ≡ bareTag → s .rtag ≡ valueTag → Assigns w' r (s .left) (s .right)
-    unfolding eq-terms back in-spare equate
-    eq-assign-left e f = record {
+    record Crossed (c : World) (o : Bytes) (i : In c o w' r) (slot value : ℕ) : Type 0 where
+      scope : scopes.Scope
+      locals : (l : ℕ) → T (scope l) → l < maxLocals
+      one : Term
+      other : Term
+      one-ok : scopes.OkTerm (c .declared) scope one
+      other-ok : scopes.OkTerm (c .declared) scope other
+      at : Bare (side (c .declared) (i .α) one) slot
+      has : Has (side (c .declared) (i .α) other) value
+      assigned : (rest : Rest) →
+          equate (c .declared) (innerIn (i .fr)) (r .due .head) (lefts c o i) (rights c o i) rest (i .α) ≡
+          assign (c .declared) (innerIn (i .fr)) (r .due .head) (at .place) (has .z) rest (i .α)
+
+    assigns : {slot value : ℕ} → ((c : World) (o : Bytes) (i : In c o w' r) → Crossed c o i slot value) → Assigns w' r slot value
+    assigns f = record {
       at = visited;
       son = λ c o i.
-          let t = at-form (back eq-terms v i) (x .formula) (x .code) .under in
-          let g = t .terms in
-          let p = has-place (lefts c o i) (s .left) (sym (ltag-is c o i) ∙ e) (left-is c o i) in
-          let q = right-value eq-terms v f c o i in
-          let b = sane-bare (c .declared) (g .scope) (i .α) (i .path .valid) (t .left) (g .left) (p .place) (p .is) in (
+          let k = f c o i in
+          let p = k .at in
+          let q = k .has in
+          let b = sane-bare (c .declared) (k .scope) (i .α) (i .path .valid) (k .one) (k .one-ok) (p .place) (p .is) in (
             items c o i,
             p .place,
             q .z,
-            equated c o i ∙ ap step (equate-left (c .declared) (innerIn (i .fr)) (r .due .head) (lefts c o i) (rights c o i) (λ β. treeItems (c .declared) (innerIn (i .fr)) (items c o i) β) (i .α) (p .place) (q .z) (p .is) (q .is)),
+            equated c o i ∙ ap step (k .assigned (λ β. treeItems (c .declared) (innerIn (i .fr)) (items c o i) β)),
             rests c o i,
             p .word,
             q .word,
-            in-table (c .declared) (g .scope) (i .path .cells) (g .locals) (p .place) (b .0),
+            in-table (c .declared) (k .scope) (i .path .cells) (k .locals) (p .place) (b .0),
             b .1,
-            sane-val (c .declared) (g .scope) (i .α) (i .path .valid) (t .right) (g .right) (q .z) (q .is),
+            sane-val (c .declared) (k .scope) (i .α) (i .path .valid) (k .other) (k .other-ok) (q .z) (q .is),
           );
     }
 
+    pub eq-assign-left : s .ltag ≡ bareTag → s .rtag ≡ valueTag → Assigns w' r (s .left) (s .right)
+    unfolding equate
+    eq-assign-left e f =
+        assigns (λ c o i.
+        let (one, other, t) = eq-terms .both c o (back eq-terms v i) in
+        let p = left-place eq-terms v e c o i in
+        let q = right-value eq-terms v f c o i in
+        record {
+          scope = t .scope;
+          locals = t .locals;
+          one = one;
+          other = other;
+          one-ok = t .left;
+          other-ok = t .right;
+          at = p;
+          has = q;
+          assigned = λ rest. rw (p .is, q .is);
+        })
+
     pub eq-assign-right : s .ltag ≡ valueTag → s .rtag ≡ bareTag → Assigns w' r (s .right) (s .left)
-    unfolding eq-terms back in-spare equate
-    eq-assign-right e f = record {
-      at = visited;
-      son = λ c o i.
-          let t = at-form (back eq-terms v i) (x .formula) (x .code) .under in
-          let g = t .terms in
-          let p = has-place (rights c o i) (s .right) (sym (rtag-is c o i) ∙ f) (right-is c o i) in
-          let q = left-value eq-terms v e c o i in
-          let b = sane-bare (c .declared) (g .scope) (i .α) (i .path .valid) (t .right) (g .right) (p .place) (p .is) in (
-            items c o i,
-            p .place,
-            q .z,
-            equated c o i ∙ ap step (equate-right (c .declared) (innerIn (i .fr)) (r .due .head) (lefts c o i) (rights c o i) (λ β. treeItems (c .declared) (innerIn (i .fr)) (items c o i) β) (i .α) (p .place) (q .z) (q .is) (p .is)),
-            rests c o i,
-            p .word,
-            q .word,
-            in-table (c .declared) (g .scope) (i .path .cells) (g .locals) (p .place) (b .0),
-            b .1,
-            sane-val (c .declared) (g .scope) (i .α) (i .path .valid) (t .left) (g .left) (q .z) (q .is),
-          );
-    }
+    unfolding equate
+    eq-assign-right e f =
+        assigns (λ c o i.
+        let (other, one, t) = eq-terms .both c o (back eq-terms v i) in
+        let p = right-place eq-terms v f c o i in
+        let q = left-value eq-terms v e c o i in
+        record {
+          scope = t .scope;
+          locals = t .locals;
+          one = one;
+          other = other;
+          one-ok = t .right;
+          other-ok = t .left;
+          at = p;
+          has = q;
+          assigned = λ rest. rw (p .is, q .is);
+        })
 
     -- two values
     pub eq-tested : s .ltag ≡ valueTag → s .rtag ≡ valueTag → Tested w' r (eqb (s .left) (s .right))
-    unfolding eq-terms back in-spare equate
+    unfolding equate
     eq-tested e f = record {
       at = visited;
       son = λ c o i.
-          let t = at-form (back eq-terms v i) (x .formula) (x .code) .under in
-          let g = t .terms in
           let p = left-value eq-terms v e c o i in
           let q = right-value eq-terms v f c o i in
-          let left : signed (s .left) ≡ p .z = value-is (c .declared) (g .scope) (i .α) (i .path .valid) (t .left) (g .left) (s .left) (p .z) (p .is) (p .word) in
-          let right : signed (s .right) ≡ q .z = value-is (c .declared) (g .scope) (i .α) (i .path .valid) (t .right) (g .right) (s .right) (q .z) (q .is) (q .word) in
           let same : eqb (s .left) (s .right) ≡ eqZ (p .z) (q .z) =
-          sym (signed-eq (s .left) (s .right)) ∙ ap (λ y. eqZ y (signed (s .right))) left ∙ ap (eqZ (p .z)) right in
+          sym (signed-eq (s .left) (s .right)) ∙ rw (left-signed eq-terms v e c o i, right-signed eq-terms v f c o i) in
           (items c o i, equated c o i ∙ rw (p .is, q .is, same), rests c o i);
     }
 
@@ -239,7 +226,7 @@ module _ {w : Words} {r : Regs} (x : Entered w r eqCode) where
     some-in = forth eq-terms v (x .at .ins)
 
     pub left-tag : ¬ (s .ltag ≡ bareTag) → ¬ (s .ltag ≡ errorTag) → s .ltag ≡ valueTag
-    left-tag a b = omega (arith, ltag-is (x .at .c) (x .at .o) some-in, tag-small (lefts (x .at .c) (x .at .o) some-in))
+    left-tag a b = omega (arith, ltag-is eq-terms v (x .at .c) (x .at .o) some-in, tag-small (lefts (x .at .c) (x .at .o) some-in))
 
     pub right-tag : ¬ (s .rtag ≡ bareTag) → ¬ (s .rtag ≡ errorTag) → s .rtag ≡ valueTag
-    right-tag a b = omega (arith, rtag-is (x .at .c) (x .at .o) some-in, tag-small (rights (x .at .c) (x .at .o) some-in))
+    right-tag a b = omega (arith, rtag-is eq-terms v (x .at .c) (x .at .o) some-in, tag-small (rights (x .at .c) (x .at .o) some-in))

@@ -14,7 +14,7 @@ use Rattle.specification.specs.Value.{Valuation, pairOf, side}
 use Rattle.specification.specs.Tree.{Rest, bounded, grow}
 use Rattle.specification.proofs.Laws.Value.{sane-val}
 use Rattle.values.specs.Word.{signed}
-use Rattle.values.proofs.Laws.Word.{signed-biased, signed-count, biased-word}
+use Rattle.values.proofs.Laws.Word.{signed-count, biased-word}
 use Rattle.sheet.specs.Tables.{Words}
 use Rattle.tables.proofs.Laws.Kept.{spare-kept}
 use Rattle.sheet.specs.Held.{endAt}
@@ -30,7 +30,7 @@ use Rattle.walker.proofs.Here.{body-here}
 use Rattle.walker.proofs.Under.{Ranges, Says}
 use Rattle.walker.proofs.Keep.{pend-keep}
 use Rattle.walker.proofs.Heads.{at-form, form-tree, in-spare}
-use Rattle.walker.proofs.Sided.{Terms, Errs, back, left-value, right-value}
+use Rattle.walker.proofs.Sided.{Terms, Errs, back, left-value, right-value, left-signed, right-signed}
 
 -- the place of the lower bound, as the code has it
 pub two : (h : ℕ) → h + 2 ≡ suc (suc h)
@@ -61,29 +61,35 @@ module _ (low high : ℕ) (x y : ℤ) (b : Bounds low high x y) where
   pub left-after : low ≤ high → LeftAfter low high (high - low) (x +ℤ pos 1)
   left-after h = record { fits = b .fits; order = h; count = refl; lowest = ap (_+ℤ pos 1) (sym (b .first)) }
 
--- ---- a bounded quantifier: its code, its formula and what its values lead to
+-- ---- a bounded quantifier
 
-module _
-    (n : ℕ) (make : ℕ → ℕ → Term → Term → Formula → Formula) (K : Declared → Bool → ℕ → Formula → Rest → ℤ → ℤ → Rest)
-    (says : (D : Declared) (t : Words) (h : ℕ) (F : Formula) → Says D t h n F → Ranges D t h (make h) F)
-    (grows : (D : Declared) (m : Bool) (tok l : ℕ) (a b : Term) (F : Formula) (k : Rest) (α : Valuation) →
-    grow D m (make tok l a b F) k α ≡ bounded tok (pairOf (side D α a) (side D α b)) (K D m l F k) α)
-    {w : Words} {r : Regs} (x : Entered w r n) where
-  abbrev pub quantifier : (c : World) (o : Bytes) (i : In c o w r) → Ranges (c .declared) (c .tables) (r .due .head) (make (r .due .head)) (at-form i (x .formula) (x .code) .F)
-  quantifier c o i = let a = at-form i (x .formula) (x .code) in says (c .declared) (c .tables) (r .due .head) (a .F) (a .under)
+-- its code n, its formula, and the tree that its first value and their number lead to
+pub record Quantifier (n : ℕ) : Type 0 where
+  pub make : ℕ → ℕ → Term → Term → Formula → Formula
+  pub over : Declared → Bool → ℕ → Formula → Rest → ℤ → ℕ → Rest
+  pub says : (D : Declared) (t : Words) (h : ℕ) (F : Formula) → Says D t h n F → Ranges D t h (make h) F
+  pub grows :
+      (D : Declared) (m : Bool) (tok l : ℕ) (a b : Term) (F : Formula) (k : Rest) (α : Valuation) →
+      grow D m (make tok l a b F) k α ≡ bounded tok (pairOf (side D α a) (side D α b)) (λ x y. over D m l F k x (count x y)) α
+
+module _ {n : ℕ} (Q : Quantifier n) {w : Words} {r : Regs} (x : Entered w r n) where
+  abbrev pub quantifier : (c : World) (o : Bytes) (i : In c o w r) → Ranges (c .declared) (c .tables) (r .due .head) (Q .make (r .due .head)) (at-form i (x .formula) (x .code) .F)
+  quantifier c o i = let a = at-form i (x .formula) (x .code) in Q .says (c .declared) (c .tables) (r .due .head) (a .F) (a .under)
 
   -- the tree, by its bounds
   pub grown : (c : World) (o : Bytes) (i : In c o w r) →
       tree c (i .fr) (i .x) (i .α) ≡
       bounded (r .due .head) (pairOf (side (c .declared) (i .α) (quantifier c o i .low)) (side (c .declared) (i .α) (quantifier c o i .high)))
-      (K (c .declared) (innerIn (i .fr)) (quantifier c o i .l) (quantifier c o i .body) (λ β. treeItems (c .declared) (innerIn (i .fr)) (at-form i (x .formula) (x .code) .is) β))
+      (λ y z.
+      Q .over (c .declared) (innerIn (i .fr)) (quantifier c o i .l) (quantifier c o i .body) (λ β. treeItems (c .declared) (innerIn (i .fr)) (at-form i (x .formula) (x .code) .is) β) y
+      (count y z))
       (i .α)
   grown c o i =
       let a = at-form i (x .formula) (x .code) in
       let q = quantifier c o i in
       let k : Rest = λ β. treeItems (c .declared) (innerIn (i .fr)) (a .is) β in
       form-tree i a ∙ ap (λ F. grow (c .declared) (innerIn (i .fr)) F k (i .α)) (q .is) ∙
-      grows (c .declared) (innerIn (i .fr)) (r .due .head) (q .l) (q .low) (q .high) (q .body) k (i .α)
+      Q .grows (c .declared) (innerIn (i .fr)) (r .due .head) (q .l) (q .low) (q .high) (q .body) k (i .α)
 
   unfoldable pub range-terms : Terms w r (r .due .head + 2) (bodyOf w (r .due .head))
   range-terms = record {
@@ -108,7 +114,7 @@ module _
       pub body : Formula
       pub binds : Binds (c .declared) (c .tables) (r .due .head) local body
       pub rest : Pend c w' (r .depth) (r .due .rest) is
-      pub grown : tree c (i .fr) (i .x) (i .α) ≡ K (c .declared) (innerIn (i .fr)) local body (λ β. treeItems (c .declared) (innerIn (i .fr)) is β) y z (i .α)
+      pub grown : tree c (i .fr) (i .x) (i .α) ≡ Q .over (c .declared) (innerIn (i .fr)) local body (λ β. treeItems (c .declared) (innerIn (i .fr)) is β) y (count y z) (i .α)
 
     pub valuable : (c : World) (o : Bytes) (i : In c o w' r) → Valuable c o i
     unfolding range-terms back in-spare bounded pairOf
@@ -118,14 +124,13 @@ module _
         let t = quantifier c o j in
         let p = left-value range-terms v l c o i in
         let q = right-value range-terms v h c o i in
-        let in-left = sane-val (c .declared) (t .terms .scope) (i .α) (i .path .valid) (t .low) (t .terms .left) (p .z) (p .is) in
         let in-right = sane-val (c .declared) (t .terms .scope) (i .α) (i .path .valid) (t .high) (t .terms .right) (q .z) (q .is) in
         record {
           y = p .z;
           z = q .z;
           bounds = record {
-            first = ap signed (p .word) ∙ signed-biased (p .z) in-left;
-            last = ap signed (q .word) ∙ signed-biased (q .z) in-right;
+            first = left-signed range-terms v l c o i;
+            last = right-signed range-terms v h c o i;
             fits = subst (_< 4294967296) (sym (q .word)) (biased-word (q .z) in-right);
           };
           is = a .is;
@@ -135,3 +140,17 @@ module _
           rest = pend-keep c w w' (r .depth) (r .due .rest) (a .is) (spare-kept w w' (v .kept) (v .size) (r .depth) .nodes) (a .rest);
           grown = grown c o j ∙ rw (p .is, q .is);
         }
+
+    -- the first value, and how many are left after it
+    pub first-value : s .left ≤ s .right → (c : World) (o : Bytes) (i : In c o w' r) →
+        (b : ℕ) × (F : Formula) × (m : ℕ) × (y : ℤ) × (is : List Item)
+        × (tree c (i .fr) (i .x) (i .α) ≡ Q .over (c .declared) (innerIn (i .fr)) b F (λ β. treeItems (c .declared) (innerIn (i .fr)) is β) y (suc m) (i .α))
+        × Binds (c .declared) (c .tables) (r .due .head) b F
+        × LeftAfter (s .left) (s .right) m (y +ℤ pos 1)
+        × (signed (s .left) ≡ y)
+        × Pend c w' (r .depth) (r .due .rest) is
+    first-value more c o i =
+        let a = valuable c o i in
+        let b = a .bounds in
+        let some : count (a .y) (a .z) ≡ suc (s .right - s .left) = count-some (s .left) (s .right) (a .y) (a .z) b more in
+        (a .local, a .body, s .right - s .left, a .y, a .is, rw some at (a .grown), a .binds, left-after (s .left) (s .right) (a .y) (a .z) b more, b .first, a .rest)
