@@ -16,12 +16,16 @@ pub mod Simple
 pub mod Quantified
 pub mod Sided
 pub mod Ranged
-pub mod Atomic
+pub mod Bounded
+pub mod Again
+pub mod Comparisons
+pub mod Equations
 pub mod Assigned
 pub mod Asked
 pub mod Tops
 pub mod Rises
 pub mod Turns
+pub mod Judged
 pub mod NextValue
 pub mod Leaves
 pub mod Visits

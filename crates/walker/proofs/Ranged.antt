@@ -1,5 +1,6 @@
--- The bounds of a quantifier: an error, no value, or a first value and how many come after it. Assumes nothing.
-use Prim.Native.Nat.{ℕ, suc, _+_, _*_, _-_, _≤_, _<_}
+-- The bounds of a quantifier: how many values lie between them, and what the node's tree is by them. What `some` and `all` make of it is in
+-- Bounded.antt. Assumes nothing.
+use Prim.Native.Nat.{ℕ, suc, _+_, _-_, _≤_, _<_}
 use native.Mathlib.Omega.{arith}
 use mathlib.Core.Path.{_≡_, refl, sym, _∙_, ap, subst}
 use mathlib.Core.Bool.{Bool}
@@ -7,37 +8,29 @@ use mathlib.Core.List.{List}
 use lib.IntN.{ℤ, pos, _+ℤ_}
 use Rattle.specification.specs.Bytes.{Bytes}
 use Rattle.specification.specs.Lines.{Declared}
-use Rattle.specification.specs.Ast.{Term, Formula, some, all}
-use Rattle.specification.specs.Place.{local, put}
+use Rattle.specification.specs.Ast.{Term, Formula}
 use Rattle.specification.specs.Arithmetic.{count}
-use Rattle.specification.specs.Value.{full, Valuation, pairOf, side}
-use Rattle.specification.specs.Tree.{Rest, bounded, sons, rounds, grow}
+use Rattle.specification.specs.Value.{Valuation, pairOf, side}
+use Rattle.specification.specs.Tree.{Rest, bounded, grow}
 use Rattle.specification.proofs.Laws.Value.{sane-val}
 use Rattle.values.specs.Word.{signed}
-use Rattle.values.proofs.Laws.Word.{signed-biased, signed-count, signed-add, biased-word}
-use Rattle.tables.specs.Codes.{someCode, allCode}
+use Rattle.values.proofs.Laws.Word.{signed-count, biased-word}
 use Rattle.sheet.specs.Tables.{Words}
-use lib.ListN.{length}
-use Rattle.tables.specs.Layout.{nodeEnd}
-use Rattle.tables.specs.Node.{headAt, currentAt, lastAt}
 use Rattle.tables.proofs.Laws.Kept.{spare-kept}
 use Rattle.sheet.specs.Held.{endAt}
 use Rattle.terms.specs.declared.Sides.{Sides}
 use Rattle.terms.specs.Results.{Valued, valueTag}
 use Rattle.walker.specs.declared.Regs.{Regs}
-use Rattle.walker.specs.Frame as frames
 use Rattle.walker.specs.Frame.{Item, treeItems, innerIn}
 use Rattle.walker.specs.Path.{World, Pend}
 use Rattle.walker.specs.Stands.{Binds, bodyOf, LeftAfter}
 use Rattle.walker.specs.Sim.{tree, In}
-use Rattle.walker.specs.Steps.{Visited, Entered, GoesOn, OneLeaf, Opens, Rounds}
-use Rattle.walker.specs.Registers.{dueOf}
-use Rattle.walker.specs.States.{againJob, failureJob}
-use Rattle.walker.proofs.Here.{body-here, code-here}
+use Rattle.walker.specs.Steps.{Entered}
+use Rattle.walker.proofs.Here.{body-here}
 use Rattle.walker.proofs.Under.{Ranges, Says}
 use Rattle.walker.proofs.Keep.{pend-keep}
-use Rattle.walker.proofs.Heads.{at-form, head-code, form-tree, at-again, again-tree, in-spare, visited-spare, entered-spare}
-use Rattle.walker.proofs.Sided.{Terms, Errs, back, left-value, right-value}
+use Rattle.walker.proofs.Heads.{at-form, form-tree, in-spare}
+use Rattle.walker.proofs.Sided.{Terms, Errs, back, left-value, right-value, left-signed, right-signed}
 
 -- the place of the lower bound, as the code has it
 pub two : (h : ℕ) → h + 2 ≡ suc (suc h)
@@ -68,29 +61,35 @@ module _ (low high : ℕ) (x y : ℤ) (b : Bounds low high x y) where
   pub left-after : low ≤ high → LeftAfter low high (high - low) (x +ℤ pos 1)
   left-after h = record { fits = b .fits; order = h; count = refl; lowest = ap (_+ℤ pos 1) (sym (b .first)) }
 
--- ---- a bounded quantifier: its code, its formula and what its values lead to
+-- ---- a bounded quantifier
 
-module _
-    (n : ℕ) (make : ℕ → ℕ → Term → Term → Formula → Formula) (K : Declared → Bool → ℕ → Formula → Rest → ℤ → ℤ → Rest)
-    (says : (D : Declared) (t : Words) (h : ℕ) (F : Formula) → Says D t h n F → Ranges D t h (make h) F)
-    (grows : (D : Declared) (m : Bool) (tok l : ℕ) (a b : Term) (F : Formula) (k : Rest) (α : Valuation) →
-    grow D m (make tok l a b F) k α ≡ bounded tok (pairOf (side D α a) (side D α b)) (K D m l F k) α)
-    {w : Words} {r : Regs} (x : Entered w r n) where
-  abbrev pub quantifier : (c : World) (o : Bytes) (i : In c o w r) → Ranges (c .declared) (c .tables) (r .due .head) (make (r .due .head)) (at-form i (x .formula) (x .code) .F)
-  quantifier c o i = let a = at-form i (x .formula) (x .code) in says (c .declared) (c .tables) (r .due .head) (a .F) (a .under)
+-- its code n, its formula, and the tree that its first value and their number lead to
+pub record Quantifier (n : ℕ) : Type 0 where
+  pub make : ℕ → ℕ → Term → Term → Formula → Formula
+  pub over : Declared → Bool → ℕ → Formula → Rest → ℤ → ℕ → Rest
+  pub says : (D : Declared) (t : Words) (h : ℕ) (F : Formula) → Says D t h n F → Ranges D t h (make h) F
+  pub grows :
+      (D : Declared) (m : Bool) (tok l : ℕ) (a b : Term) (F : Formula) (k : Rest) (α : Valuation) →
+      grow D m (make tok l a b F) k α ≡ bounded tok (pairOf (side D α a) (side D α b)) (λ x y. over D m l F k x (count x y)) α
+
+module _ {n : ℕ} (Q : Quantifier n) {w : Words} {r : Regs} (x : Entered w r n) where
+  abbrev pub quantifier : (c : World) (o : Bytes) (i : In c o w r) → Ranges (c .declared) (c .tables) (r .due .head) (Q .make (r .due .head)) (at-form i (x .formula) (x .code) .F)
+  quantifier c o i = let a = at-form i (x .formula) (x .code) in Q .says (c .declared) (c .tables) (r .due .head) (a .F) (a .under)
 
   -- the tree, by its bounds
   pub grown : (c : World) (o : Bytes) (i : In c o w r) →
       tree c (i .fr) (i .x) (i .α) ≡
       bounded (r .due .head) (pairOf (side (c .declared) (i .α) (quantifier c o i .low)) (side (c .declared) (i .α) (quantifier c o i .high)))
-      (K (c .declared) (innerIn (i .fr)) (quantifier c o i .l) (quantifier c o i .body) (λ β. treeItems (c .declared) (innerIn (i .fr)) (at-form i (x .formula) (x .code) .is) β))
+      (λ y z.
+      Q .over (c .declared) (innerIn (i .fr)) (quantifier c o i .l) (quantifier c o i .body) (λ β. treeItems (c .declared) (innerIn (i .fr)) (at-form i (x .formula) (x .code) .is) β) y
+      (count y z))
       (i .α)
   grown c o i =
       let a = at-form i (x .formula) (x .code) in
       let q = quantifier c o i in
       let k : Rest = λ β. treeItems (c .declared) (innerIn (i .fr)) (a .is) β in
       form-tree i a ∙ ap (λ F. grow (c .declared) (innerIn (i .fr)) F k (i .α)) (q .is) ∙
-      grows (c .declared) (innerIn (i .fr)) (r .due .head) (q .l) (q .low) (q .high) (q .body) k (i .α)
+      Q .grows (c .declared) (innerIn (i .fr)) (r .due .head) (q .l) (q .low) (q .high) (q .body) k (i .α)
 
   unfoldable pub range-terms : Terms w r (r .due .head + 2) (bodyOf w (r .due .head))
   range-terms = record {
@@ -115,7 +114,7 @@ module _
       pub body : Formula
       pub binds : Binds (c .declared) (c .tables) (r .due .head) local body
       pub rest : Pend c w' (r .depth) (r .due .rest) is
-      pub grown : tree c (i .fr) (i .x) (i .α) ≡ K (c .declared) (innerIn (i .fr)) local body (λ β. treeItems (c .declared) (innerIn (i .fr)) is β) y z (i .α)
+      pub grown : tree c (i .fr) (i .x) (i .α) ≡ Q .over (c .declared) (innerIn (i .fr)) local body (λ β. treeItems (c .declared) (innerIn (i .fr)) is β) y (count y z) (i .α)
 
     pub valuable : (c : World) (o : Bytes) (i : In c o w' r) → Valuable c o i
     unfolding range-terms back in-spare bounded pairOf
@@ -125,14 +124,13 @@ module _
         let t = quantifier c o j in
         let p = left-value range-terms v l c o i in
         let q = right-value range-terms v h c o i in
-        let in-left = sane-val (c .declared) (t .terms .scope) (i .α) (i .path .valid) (t .low) (t .terms .left) (p .z) (p .is) in
         let in-right = sane-val (c .declared) (t .terms .scope) (i .α) (i .path .valid) (t .high) (t .terms .right) (q .z) (q .is) in
         record {
           y = p .z;
           z = q .z;
           bounds = record {
-            first = ap signed (p .word) ∙ signed-biased (p .z) in-left;
-            last = ap signed (q .word) ∙ signed-biased (q .z) in-right;
+            first = left-signed range-terms v l c o i;
+            last = right-signed range-terms v h c o i;
             fits = subst (_< 4294967296) (sym (q .word)) (biased-word (q .z) in-right);
           };
           is = a .is;
@@ -143,159 +141,16 @@ module _
           grown = grown c o j ∙ rw (p .is, q .is);
         }
 
--- ---- `some`
-
-abbrev pub someOf : Declared → Bool → ℕ → Formula → Rest → ℤ → ℤ → Rest
-someOf D m l F k x y β = sons x (count x y) (λ i. grow D m F k (put β (local l) (full (x +ℤ pos i))))
-
-pub some-grows : (D : Declared) (m : Bool) (tok l : ℕ) (a b : Term) (F : Formula) (k : Rest) (α : Valuation) →
-    grow D m (some tok l a b F) k α ≡ bounded tok (pairOf (side D α a) (side D α b)) (someOf D m l F k) α
-unfolding grow
-some-grows D m tok l a b F k α = refl
-
-abbrev pub allOf : Declared → Bool → ℕ → Formula → Rest → ℤ → ℤ → Rest
-allOf D m l F k x y = rounds (λ k′ β. grow D m F k′ β) l k (count x y) x
-
-pub all-grows : (D : Declared) (m : Bool) (tok l : ℕ) (a b : Term) (F : Formula) (k : Rest) (α : Valuation) →
-    grow D m (all tok l a b F) k α ≡ bounded tok (pairOf (side D α a) (side D α b)) (allOf D m l F k) α
-unfolding grow
-all-grows D m tok l a b F k α = refl
-
-abbrev pub some-terms : {w : Words} {r : Regs} → Entered w r someCode → Terms w r (r .due .head + 2) (bodyOf w (r .due .head))
-some-terms x = range-terms 13 some someOf (λ D t h F q. q) some-grows x
-
-pub some-errs : {w : Words} {r : Regs} (x : Entered w r someCode) → Errs w r (r .due .head + 2) (bodyOf w (r .due .head)) (some-terms x)
-some-errs x = range-errs 13 some someOf (λ D t h F q. q) some-grows x
-
-abbrev pub all-terms : {w : Words} {r : Regs} → Entered w r allCode → Terms w r (r .due .head + 2) (bodyOf w (r .due .head))
-all-terms x = range-terms 14 all allOf (λ D t h F q. q) all-grows x
-
-pub all-errs : {w : Words} {r : Regs} (x : Entered w r allCode) → Errs w r (r .due .head + 2) (bodyOf w (r .due .head)) (all-terms x)
-all-errs x = range-errs 14 all allOf (λ D t h F q. q) all-grows x
-
-module _ {w w' : Words} {r : Regs} {s : Sides} where
-  module _ (x : Entered w r someCode) where
-    module _ (v : Valued w w' (r .due .head + 2) (bodyOf w (r .due .head)) s) (l : s .ltag ≡ valueTag) (h : s .rtag ≡ valueTag) where
-      abbrev some-values : (c : World) (o : Bytes) (i : In c o w' r) → Valuable 13 some someOf (λ D t h F q. q) some-grows x v l h c o i
-      some-values = valuable 13 some someOf (λ D t h F q. q) some-grows x v l h
-
-      -- no value: a failure leaf
-      pub some-none : s .right < s .left → OneLeaf w' r (dueOf failureJob 0 0)
-      unfolding sons
-      some-none less = record {
-        at = visited-spare w w' (v .kept) (v .size) (x .at);
-        son = λ c o i.
-            let a = some-values c o i in
-            (frames.failure, a .grown ∙ rw (count-none (s .left) (s .right) (a .y) (a .z) (a .bounds) less), refl, omega arith);
-      }
-
-      pub some-opens : s .left ≤ s .right → Opens w' r (s .left) (s .right)
-      unfolding sons treeItems
-      some-opens more = record {
-        at = entered-spare w w' (v .kept) (v .size) x;
-        sons = λ c o i.
-            let a = some-values c o i in (
-              a .local,
-              a .body,
-              s .right - s .left,
-              a .y,
-              a .is,
-              a .grown ∙ rw (count-some (s .left) (s .right) (a .y) (a .z) (a .bounds) more),
-              a .binds,
-              left-after (s .left) (s .right) (a .y) (a .z) (a .bounds) more,
-              a .bounds .first,
-              a .rest,
-            );
-      }
-
-  -- ---- `all`
-
-  module _ (x : Entered w r allCode) where
-    module _ (v : Valued w w' (r .due .head + 2) (bodyOf w (r .due .head)) s) (l : s .ltag ≡ valueTag) (h : s .rtag ≡ valueTag) where
-      abbrev all-values : (c : World) (o : Bytes) (i : In c o w' r) → Valuable 14 all allOf (λ D t h F q. q) all-grows x v l h c o i
-      all-values = valuable 14 all allOf (λ D t h F q. q) all-grows x v l h
-
-      -- no value: go on
-      pub all-none : s .right < s .left → GoesOn w' r
-      unfolding rounds
-      all-none less = record {
-        at = visited-spare w w' (v .kept) (v .size) (x .at);
-        son = λ c o i.
-            let a = all-values c o i in
-            (a .is, a .grown ∙ rw (count-none (s .left) (s .right) (a .y) (a .z) (a .bounds) less), a .rest);
-      }
-
-      pub all-rounds : s .left ≤ s .right → Rounds w' r (r .due .head) (s .left) (s .right)
-      unfolding rounds treeItems
-      all-rounds more = record {
-        at = visited-spare w w' (v .kept) (v .size) (x .at);
-        code = head-code (entered-spare w w' (v .kept) (v .size) x);
-        son = λ c o i.
-            let a = all-values c o i in (
-              a .local,
-              a .body,
-              s .right - s .left,
-              a .y,
-              a .is,
-              a .grown ∙ rw (count-some (s .left) (s .right) (a .y) (a .z) (a .bounds) more),
-              a .binds,
-              left-after (s .left) (s .right) (a .y) (a .z) (a .bounds) more,
-              a .bounds .first,
-              a .rest,
-            );
-      }
-
--- ---- an `all` that goes on
-
-module _ {w : Words} {r : Regs} (x : Visited w r) (j : r .due .job ≡ againJob) where
-  -- the node that began it
-  pub again-node : (1 ≤ r .due .head) × (nodeEnd (r .due .head - 1) ≤ length w)
-  again-node =
-      let i = x .ins in
-      let a = at-again i j in
-      (a .below .0, omega (arith, a .below .0, a .below .1, i .path .size, i .room))
-
-  module _ {current last : ℕ} (ec : current ≡ currentAt w (r .due .head - 1)) (el : last ≡ lastAt w (r .due .head - 1)) where
-    left-is : {c : World} {o : Bytes} (i : In c o w r) → let a = at-again i j in LeftAfter current last (a .m) (a .v)
-    left-is i = rw (ec, el) (at-again i j .left)
-
-    pub again-small : (current ≤ last) × (last < 4294967296)
-    again-small = let q = left-is (x .ins) in (q .order, q .fits)
-
-    pub again-none : current ≡ last → GoesOn w r
-    unfolding rounds
-    again-none e = record {
-      at = x;
-      son = λ c o i.
-          let a = at-again i j in
-          let none : a .m ≡ 0 = left-is i .count ∙ omega arith in
-          (a .is, again-tree i a ∙ rw none, a .rest);
-    }
-
-    pub again-rounds : {h : ℕ} → h ≡ headAt w (r .due .head - 1) → ¬ (current ≡ last) → Rounds w r h (current + 1) last
-    unfolding rounds treeItems
-    again-rounds {h} eh n = record {
-      at = x;
-      code = (
-          let i = x .ins in
-          let a = at-again i j in
-          rw eh (code-here (x .c .tables) w (i .path .tokens) (omega (arith, a .binds .near)) ∙ a .code));
-      son = λ c o i.
-          let a = at-again i j in
-          let q = left-is i in
-          let order = q .order in
-          let differ : ¬ (current ≡ last) = n in
-          let more : a .m ≡ suc (last - (current + 1)) = q .count ∙ omega arith in
-          let next : signed (current + 1) ≡ a .v = sym (signed-add current 1) ∙ sym (q .lowest) in (
-            a .l,
-            a .F,
-            last - (current + 1),
-            a .v,
-            a .is,
-            again-tree i a ∙ rw more,
-            rw eh (a .binds),
-            record { fits = q .fits; order = omega arith; count = refl; lowest = ap (_+ℤ pos 1) (sym next) },
-            next,
-            a .rest,
-          );
-    }
+    -- the first value, and how many are left after it
+    pub first-value : s .left ≤ s .right → (c : World) (o : Bytes) (i : In c o w' r) →
+        (b : ℕ) × (F : Formula) × (m : ℕ) × (y : ℤ) × (is : List Item)
+        × (tree c (i .fr) (i .x) (i .α) ≡ Q .over (c .declared) (innerIn (i .fr)) b F (λ β. treeItems (c .declared) (innerIn (i .fr)) is β) y (suc m) (i .α))
+        × Binds (c .declared) (c .tables) (r .due .head) b F
+        × LeftAfter (s .left) (s .right) m (y +ℤ pos 1)
+        × (signed (s .left) ≡ y)
+        × Pend c w' (r .depth) (r .due .rest) is
+    first-value more c o i =
+        let a = valuable c o i in
+        let b = a .bounds in
+        let some : count (a .y) (a .z) ≡ suc (s .right - s .left) = count-some (s .left) (s .right) (a .y) (a .z) b more in
+        (a .local, a .body, s .right - s .left, a .y, a .is, rw some at (a .grown), a .binds, left-after (s .left) (s .right) (a .y) (a .z) b more, b .first, a .rest)

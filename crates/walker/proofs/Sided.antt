@@ -1,17 +1,23 @@
--- Two terms of the node's formula, as `terms::sides` gives them: an error on either side leads to an error leaf, or both have values.
--- Assumes nothing.
+-- Two terms of the node's formula, as `terms::sides` gives them: an error on either side leads to an error leaf; else each is a bare place
+-- or has a value. Assumes nothing.
 use Prim.Native.Nat.{ℕ}
 use native.Mathlib.Omega.{arith}
 use mathlib.Core.Path.{_≡_, refl, sym, _∙_, ap, subst}
 use lib.IntN.{ℤ}
 use Rattle.specification.specs.Bytes.{Bytes}
+use Rattle.specification.specs.Lines.{Declared}
 use Rattle.specification.specs.Ast.{Term}
-use Rattle.specification.specs.Value.{Side, val, bare, err, values, faulty, pairOf, side}
+use Rattle.specification.specs.Place.{Place}
+use Rattle.specification.specs.Value.{Valuation, Side, val, bare, err, faulty, pairOf, side}
+use Rattle.specification.specs.WellFormed as scopes
 use Rattle.specification.specs.Tree.{errorLeaf, step}
-use Rattle.values.specs.Word.{biased}
+use Rattle.specification.proofs.Laws.Value.{sane-val}
+use Rattle.values.specs.Word.{biased, signed}
+use Rattle.values.proofs.Laws.Word.{signed-biased}
 use Rattle.sheet.specs.Tables.{Words}
+use Rattle.sheet.specs.Held.{slotOf}
 use Rattle.terms.specs.declared.Sides.{Sides}
-use Rattle.terms.specs.Results.{tagOf, wordOf, sidesOf, Given, Asked, Valued, valueTag}
+use Rattle.terms.specs.Results.{tagOf, wordOf, sidesOf, Given, Asked, Valued, valueTag, bareTag}
 use Rattle.walker.specs.declared.Regs.{Regs}
 use Rattle.walker.specs.Frame as frames
 use Rattle.walker.specs.Path.{World}
@@ -68,6 +74,21 @@ pub has-value : (x : Side) (w : ℕ) → tagOf x ≡ 0 → w ≡ wordOf x → Ha
 has-value (val z) w e h = record { z = z; is = refl; word = h }
 has-value (bare p) w e h = absurd (omega arith)
 has-value (err κ) w e h = absurd (omega arith)
+
+-- a bare side, by the first word of its slot
+pub record Bare (x : Side) (w : ℕ) : Type 0 where
+  pub place : Place
+  pub is : x ≡ bare place
+  pub word : w ≡ slotOf place
+
+has-place : (x : Side) (w : ℕ) → tagOf x ≡ 1 → w ≡ wordOf x → Bare x w
+has-place (val z) w e h = absurd (omega arith)
+has-place (bare p) w e h = record { place = p; is = refl; word = h }
+has-place (err κ) w e h = absurd (omega arith)
+
+-- the value of a side by its word
+value-is : (D : Declared) (S : scopes.Scope) (α : Valuation) → scopes.Valid D α → (t : Term) → scopes.OkTerm D S t → (w : ℕ) (z : ℤ) → side D α t ≡ val z → w ≡ biased z → signed w ≡ z
+value-is D S α v t ok w z e h = ap signed h ∙ signed-biased z (sane-val D S α v t ok z e)
 
 -- ---- the two terms of the node's formula
 
@@ -127,9 +148,42 @@ module _ {w w' : Words} {r : Regs} {from to : ℕ} {s : Sides} (p : Terms w r fr
       right-bad (left-side c o i) (right-side c o i) k (sym (ap (λ y. y .ltag) e) ∙ z) (λ x. n (ap (λ y. y .rtag) e ∙ x))
       (subst (λ y. KindOf (y .rtag) (y .right) k) e h))
 
-  -- both have values
+  -- the tags and words, side by side
+  module _ (c : World) (o : Bytes) (i : In c o w' r) where
+    pub ltag-is : s .ltag ≡ tagOf (left-side c o i)
+    ltag-is = ap (λ y. y .ltag) (sides-are c o i)
+
+    pub left-is : s .left ≡ wordOf (left-side c o i)
+    left-is = ap (λ y. y .left) (sides-are c o i)
+
+    pub rtag-is : s .rtag ≡ tagOf (right-side c o i)
+    rtag-is = ap (λ y. y .rtag) (sides-are c o i)
+
+    pub right-is : s .right ≡ wordOf (right-side c o i)
+    right-is = ap (λ y. y .right) (sides-are c o i)
+
+  -- a side that is bare
+  pub left-place : s .ltag ≡ bareTag → (c : World) (o : Bytes) (i : In c o w' r) → Bare (left-side c o i) (s .left)
+  left-place z c o i = has-place (left-side c o i) (s .left) (sym (ltag-is c o i) ∙ z) (left-is c o i)
+
+  pub right-place : s .rtag ≡ bareTag → (c : World) (o : Bytes) (i : In c o w' r) → Bare (right-side c o i) (s .right)
+  right-place z c o i = has-place (right-side c o i) (s .right) (sym (rtag-is c o i) ∙ z) (right-is c o i)
+
+  -- a side that has a value
   pub left-value : s .ltag ≡ valueTag → (c : World) (o : Bytes) (i : In c o w' r) → Has (left-side c o i) (s .left)
-  left-value z c o i = let e = sides-are c o i in has-value (left-side c o i) (s .left) (sym (ap (λ y. y .ltag) e) ∙ z) (ap (λ y. y .left) e)
+  left-value z c o i = has-value (left-side c o i) (s .left) (sym (ltag-is c o i) ∙ z) (left-is c o i)
 
   pub right-value : s .rtag ≡ valueTag → (c : World) (o : Bytes) (i : In c o w' r) → Has (right-side c o i) (s .right)
-  right-value z c o i = let e = sides-are c o i in has-value (right-side c o i) (s .right) (sym (ap (λ y. y .rtag) e) ∙ z) (ap (λ y. y .right) e)
+  right-value z c o i = has-value (right-side c o i) (s .right) (sym (rtag-is c o i) ∙ z) (right-is c o i)
+
+  pub left-signed : (z : s .ltag ≡ valueTag) (c : World) (o : Bytes) (i : In c o w' r) → signed (s .left) ≡ left-value z c o i .z
+  left-signed z c o i =
+      let (a, b, t) = p .both c o (back i) in
+      let h = left-value z c o i in
+      value-is (c .declared) (t .scope) (i .α) (i .path .valid) a (t .left) (s .left) (h .z) (h .is) (h .word)
+
+  pub right-signed : (z : s .rtag ≡ valueTag) (c : World) (o : Bytes) (i : In c o w' r) → signed (s .right) ≡ right-value z c o i .z
+  right-signed z c o i =
+      let (a, b, t) = p .both c o (back i) in
+      let h = right-value z c o i in
+      value-is (c .declared) (t .scope) (i .α) (i .path .valid) b (t .right) (s .right) (h .z) (h .is) (h .word)

@@ -1,45 +1,41 @@
--- Going up: the topmost node has another son, the second of an `or` or the one that a verdict leads to, and nothing is left to do there
--- afterwards. Assumes nothing.
-use Prim.Native.Nat.{ℕ, suc, _+_, _*_, _-_, _<_}
+-- Going up: the topmost node has another son, and nothing is left to do there afterwards. That of an `or` is here, that of a verdict in
+-- Judged.antt. Assumes nothing.
+use Prim.Native.Nat.{ℕ, suc, _+_, _-_, _<_}
 use native.Mathlib.Omega.{arith}
 use native.Mathlib.Numerals.{add-one}
 use mathlib.Core.Path.{_≡_, refl, sym, _∙_, ap, subst}
-use mathlib.Core.Bool.{Bool, true, false}
+use mathlib.Core.Bool.{Bool}
 use mathlib.Core.List.{List, _∷_}
 use lib.ListN.{length, set}
 use lib.Seq.{getD-set-same}
 use Rattle.specification.specs.Bytes.{Bytes}
-use Rattle.specification.specs.Lines.{Declared}
 use Rattle.specification.specs.Value.{Valuation}
-use Rattle.specification.specs.Tree.{Tree, errorLeaf, fails, undecided}
-use Rattle.specification.specs.Arithmetic.{undecidedInside}
-use Rattle.tables.specs.Node.{todoWord, headAt, restAt, todoAt, innerAt, badAt}
+use Rattle.specification.specs.Tree.{Tree}
+use Rattle.tables.specs.Node.{todoWord, headAt, restAt, todoAt}
 use Rattle.tables.specs.Kept.{Kept}
-use Rattle.tables.specs.Codes.{impCode}
 use Rattle.tables.specs.Layout.{maxTokens}
 use Rattle.tables.proofs.Laws.Kept.{word-kept, word-slots}
 use Rattle.sheet.specs.Tables.{Words}
-use Rattle.sheet.specs.Held.{codeAt, endAt, Holds}
+use Rattle.sheet.specs.Held.{endAt, Holds}
 use Rattle.walker.specs.declared.Regs.{Regs}
 use Rattle.walker.specs.declared.Due.{Due}
 use Rattle.walker.specs.Walk.{walk}
-use Rattle.walker.specs.Frame.{Item, form, What, the, failure, error, treeItems, Question, denying, implying, Frame, pass, asks, here, below, len, innerIn, sonOf}
+use Rattle.walker.specs.Frame.{Item, form, What, the, Frame, pass, here, below, len, innerIn}
 use Rattle.walker.specs.Path.{World, Pend, Job, bit, Path, Output, Count}
 use Rattle.walker.specs.Sim.{yes, no, tree, Down, Up, Yes, down}
-use Rattle.walker.specs.Steps.{Leads, Listed}
-use Rattle.walker.specs.Registers.{dueOf, formulaDue, errorDue, dueRegs}
+use Rattle.walker.specs.Registers.{formulaDue, dueRegs}
 use Rattle.walker.specs.Loop.{Topped, Rose}
-use Rattle.walker.specs.States.{upMode, wonMode, failureJob, otherTodo, judgeTodo}
+use Rattle.walker.specs.States.{upMode, wonMode, otherTodo}
 use Rattle.walker.proofs.Keep.{pend-onto}
 use Rattle.walker.proofs.Here.{code-here, end-here}
 use Rattle.walker.proofs.Slots.{holds-keep}
 use Rattle.walker.proofs.Whole.{path-top}
-use Rattle.walker.proofs.Tops.{top-index, top-other, top-asks}
+use Rattle.walker.proofs.Tops.{top-index, top-other}
 
 -- ---- a son of the topmost node is due
 
 -- what its walk has to give
-abbrev Gives : World → Regs → Frame → List Frame → Bool → Bytes → Tree → Type 0
+abbrev pub Gives : World → Regs → Frame → List Frame → Bool → Bytes → Tree → Type 0
 Gives c r g fr e b T =
     walk (c .declared) (c .setting) (length (c .output)) (innerIn (g ∷ fr)) (suc (suc (len fr))) T (yes c (g ∷ fr)) (no c (g ∷ fr)) e (r .tallies) b
     ≡ c .result
@@ -130,130 +126,3 @@ other-up {c} {o} {w} {w'} {r} {h} {n} {p} some t eh en ep ew u =
     son-due r (u .e) (u .b) (the (form G ∷ is)) (turned P ew refl) i (u .bad)
     (code-here (c .tables) w (P .tokens) (rw at (a .2)), rw at (a .2), rw at (a .3), rest-under P k is ep (a .4)) (u .out) (u .count) q)
     (u .fr) (u .path) (u .inner) (u .result)
-
--- ---- the son that a verdict leads to
-
--- what is read at the node
-pub record Judges (w w' : Words) (r : Regs) (h p inner bad : ℕ) : Type 0 where
-  pub some : 0 < r .depth
-  pub todo : todoAt w (r .depth - 1) ≡ judgeTodo
-  pub head : h ≡ headAt w (r .depth - 1)
-  pub rest : p ≡ restAt w (r .depth - 1)
-  pub inside : inner ≡ innerAt w (r .depth - 1)
-  pub flag : bad ≡ badAt w (r .depth - 1)
-  pub words : w' ≡ set w (todoWord (r .depth - 1)) 0
-
-pub judging : {w w' : Words} {r : Regs} {h p inner bad : ℕ} → Topped w r judgeTodo → h ≡ headAt w (r .depth - 1) → p ≡ restAt w (r .depth - 1) →
-    inner ≡ innerAt w (r .depth - 1) → bad ≡ badAt w (r .depth - 1) → w' ≡ set w (todoWord (r .depth - 1)) 0 → Judges w w' r h p inner bad
-judging t eh ep ei eb ew = record { some = t .some; todo = t .todo; head = eh; rest = ep; inside = ei; flag = eb; words = ew }
-
-module _ (D : Declared) (m : Bool) (tok : ℕ) (is : List Item) (α : Valuation) where
-  son-undecided : (q : Question) → sonOf D m tok q is undecided α ≡ errorLeaf undecidedInside tok α
-  son-undecided denying = refl
-  son-undecided (implying G) = refl
-
-  son-fails : (q : Question) → sonOf D m tok q is fails α ≡ treeItems D m is α
-  son-fails denying = refl
-  son-fails (implying G) = refl
-
-pub judge-small : {w : Words} {r : Regs} → Topped w r judgeTodo → headAt w (r .depth - 1) < maxTokens
-judge-small {w} {r} t =
-    top-asks (λ fr. headAt w (r .depth - 1) < maxTokens) (t .some) (t .todo) (λ tok q is β e fr P. rw (top-index P, P .stack .0 .1) (P .stack .0 .2)) (t .fr)
-    (t .path)
-
-flag-on : (e : Bool) → bit e ≡ 1 → e ≡ true
-flag-on true h = refl
-flag-on false h = absurd (omega arith)
-
-flag-off : (e : Bool) → (bit e ≡ 1 → ⊥) → e ≡ false
-flag-off true h = absurd (h refl)
-flag-off false h = refl
-
-module _ {w w' : Words} {r : Regs} {h p inner bad : ℕ} (g : Judges w w' r h p inner bad) where
-  module _ {c : World} {α : Valuation} {tok : ℕ} {q : Question} {is : List Item} {β : Valuation} {e : Bool} {fr : List Frame}
-      (P : Path c w (r .depth) α (asks tok q is β e ∷ fr)) where
-    token-is : h ≡ tok
-    token-is = g .head ∙ ap (headAt w) (top-index P) ∙ P .stack .0 .1
-
-    code-is : codeAt w' h ≡ codeAt (c .tables) tok
-    code-is = rw token-is (code-here (c .tables) w' (turned P (g .words) refl .tokens) (P .stack .0 .2))
-
-    list-is : Pend c w' (r .depth) p is
-    list-is = rest-under P (turned-kept P (g .words)) is (g .rest) (P .stack .0 .6)
-
-    judged : {o : Bytes} (b : Bytes) (x : What) {d : Due} → Job c w' (r .depth) d x → Output c o (r .written) b → Count c (r .tallies) →
-        Gives c r (pass β) fr e b (tree c fr x β) → Down c o w' (dueRegs r (r .depth) d inner bad)
-    judged b x j out n z =
-        let i = top-index P in
-        son-due r e b x (turned P (g .words) refl) (g .inside ∙ ap (innerAt w) i ∙ P .stack .0 .4) (g .flag ∙ ap (badAt w) i ∙ P .stack .0 .5) j out n z
-
-  -- the rest of the node's list can be read
-  pub judge-leads : Topped w r judgeTodo → Leads w' p
-  judge-leads t =
-      top-asks (λ fr. Leads w' p) (t .some) (t .todo)
-      (λ tok q is β e fr P.
-      let k = turned-kept P (g .words) in
-      record {
-        c = t .c;
-        n = r .depth;
-        is = is;
-        tokens = turned P (g .words) refl .tokens;
-        size = omega (arith, k .size, P .size, P .inside);
-        pend = list-is P;
-      }) (t .fr) (t .path)
-
-  module _ {c : World} {o : Bytes} where
-    -- the inner tree has had an error leaf, and no success leaf
-    pub judge-bad : r .bad ≡ 1 → Up c o w r → Down c o w' (dueRegs r (r .depth) (errorDue undecidedInside h) inner bad)
-    judge-bad one u =
-        top-asks (λ fr. no c fr true (r .tallies) (u .b) ≡ c .result → Down c o w' (dueRegs r (r .depth) (errorDue undecidedInside h) inner bad)) (g .some) (g .todo)
-        (λ tok q is β e fr P z.
-        judged P (u .b) (error undecidedInside tok) (refl, refl, token-is P) (u .out) (u .count) (rw (son-undecided (c .declared) (innerIn fr) tok is β q) at z))
-        (u .fr) (u .path) (rw (flag-on (u .e) (sym (u .bad) ∙ one)) at (u .result))
-
-    -- it has had failure leaves only
-    pub judge-on : {d : Due} → (r .bad ≡ 1 → ⊥) → Listed w' p d → Up c o w r → Down c o w' (dueRegs r (r .depth) d inner bad)
-    judge-on {d} none f u =
-        top-asks (λ fr. no c fr false (r .tallies) (u .b) ≡ c .result → Down c o w' (dueRegs r (r .depth) d inner bad)) (g .some) (g .todo)
-        (λ tok q is β e fr P z.
-        judged P (u .b) (the is) (f c (r .depth) is (turned P (g .words) refl .tokens) (list-is P)) (u .out) (u .count)
-        (rw (son-fails (c .declared) (innerIn fr) tok is β q) at z))
-        (u .fr) (u .path) (rw (flag-off (u .e) (λ y. none (u .bad ∙ y))) at (u .result))
-
-    -- it has had a success leaf, and the node is one of `not`
-    pub judge-not : (codeAt w' h ≡ impCode → ⊥) → Yes c o w r → Down c o w' (dueRegs r (r .depth) (dueOf failureJob 0 0) inner bad)
-    judge-not code u =
-        top-asks (λ fr. yes c fr (r .tallies) (u .b) ≡ c .result → Down c o w' (dueRegs r (r .depth) (dueOf failureJob 0 0) inner bad)) (g .some) (g .todo)
-        (λ tok q is β e fr P z. go q is P z) (u .fr) (u .path) (u .result)
-      where
-        go : {tok : ℕ} {β : Valuation} {e : Bool} {fr : List Frame} (q : Question) (is : List Item) → Path c w (r .depth) (u .α) (asks tok q is β e ∷ fr) →
-            yes c (asks tok q is β e ∷ fr) (r .tallies) (u .b) ≡ c .result → Down c o w' (dueRegs r (r .depth) (dueOf failureJob 0 0) inner bad)
-        go denying is P z = judged P (u .b) failure refl (u .out) (u .count) z
-        go (implying G) is P z = absurd (code (code-is P ∙ P .stack .0 .3 .0))
-
-    -- the same of `imp`
-    pub judge-imp : {n : ℕ} → codeAt w' h ≡ impCode → n ≡ endAt w' (h + 1) → Yes c o w r → Down c o w' (dueRegs r (r .depth) (formulaDue w' n p) inner bad)
-    judge-imp {n} code en u =
-        top-asks (λ fr. yes c fr (r .tallies) (u .b) ≡ c .result → Down c o w' (dueRegs r (r .depth) (formulaDue w' n p) inner bad)) (g .some) (g .todo)
-        (λ tok q is β e fr P z. go q is P z) (u .fr) (u .path) (u .result)
-      where
-        go : {tok : ℕ} {β : Valuation} {e : Bool} {fr : List Frame} (q : Question) (is : List Item) → Path c w (r .depth) (u .α) (asks tok q is β e ∷ fr) →
-            yes c (asks tok q is β e ∷ fr) (r .tallies) (u .b) ≡ c .result → Down c o w' (dueRegs r (r .depth) (formulaDue w' n p) inner bad)
-        go denying is P z = absurd (omega (arith, code, code-is P, P .stack .0 .3))
-        go {tok} (implying G) is P z =
-            let a = P .stack .0 .3 in
-            let s = turned P (g .words) refl .tokens in
-            let at : n ≡ endAt (c .tables) (suc tok) = en ∙ rw (add-one, token-is P) (end-here (c .tables) w' s (a .1)) in
-            judged P (u .b) (the (form G ∷ is)) (code-here (c .tables) w' s (rw at (a .2)), rw at (a .2), rw at (a .3), list-is P) (u .out) (u .count) z
-
-  -- its second part is one of the table
-  pub judge-far : {n : ℕ} → Topped w r judgeTodo → codeAt w' h ≡ impCode → n ≡ endAt w' (h + 1) → n < maxTokens
-  judge-far {n} t code en = top-asks (λ fr. n < maxTokens) (t .some) (t .todo) (λ tok q is β e fr P. go q is P) (t .fr) (t .path)
-    where
-      go : {tok : ℕ} {β : Valuation} {e : Bool} {fr : List Frame} (q : Question) (is : List Item) →
-          Path (t .c) w (r .depth) (t .α) (asks tok q is β e ∷ fr) → n < maxTokens
-      go denying is P = absurd (omega (arith, code, code-is P, P .stack .0 .3))
-      go {tok} (implying G) is P =
-          let a = P .stack .0 .3 in
-          let s = turned P (g .words) refl .tokens in
-          rw (en, token-is P, add-one tok, end-here (t .c .tables) w' s (a .1)) (a .2)

@@ -3,7 +3,7 @@ use native.Mathlib.Omega.{arith}
 use Rattle.walker.proofs.Heads.{stepped-spare}
 use Rattle.walker.proofs.Simple.{head-small}
 use Rattle.walker.proofs.Sided.{terms-asked, left-error, right-error}
-use Rattle.walker.proofs.Atomic.{compare-terms, compare-errs, compare-tested}
+use Rattle.walker.proofs.Comparisons.{compare-terms, compare-errs, compare-tested}
 use borrow.Author.Needs.{needs}
 use Rattle.walker.proofs.atoms.enter_compare.Statement.{statement}
 use Rattle.walker.proofs.atoms.enter_compare.Tie as tie

@@ -3,7 +3,7 @@ use native.Mathlib.Omega.{arith}
 use Rattle.walker.proofs.Heads.{stepped-spare}
 use Rattle.walker.proofs.Simple.{head-small}
 use Rattle.walker.proofs.Sided.{terms-asked}
-use Rattle.walker.proofs.Atomic.{eq-terms, eq-left-error, eq-right-error, eq-both-bare, eq-assign-left, eq-assign-right, eq-tested, left-tag, right-tag}
+use Rattle.walker.proofs.Equations.{eq-terms, eq-left-error, eq-right-error, eq-both-bare, eq-assign-left, eq-assign-right, eq-tested, left-tag, right-tag}
 use borrow.Author.Needs.{needs}
 use Rattle.walker.proofs.atoms.enter_eq.Statement.{statement}
 use Rattle.walker.proofs.atoms.enter_eq.Tie as tie

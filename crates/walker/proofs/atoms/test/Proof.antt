@@ -1,5 +1,5 @@
 -- `atoms::test` meets its contract.
-use Rattle.walker.proofs.Atomic.{compares-ne, compares-lt, compares-le, compares-gt, compares-ge}
+use Rattle.walker.proofs.Comparisons.{compares-ne, compares-lt, compares-le, compares-gt, compares-ge}
 use Rattle.walker.proofs.atoms.test.Statement.{statement}
 use Rattle.walker.proofs.atoms.test.Tie as tie
 

@@ -1,7 +1,7 @@
 -- `quantifiers::enter_again` meets its contract.
 use borrow.Author.Needs.{needs}
 use native.Mathlib.Omega.{arith}
-use Rattle.walker.proofs.Ranged.{again-node, again-small, again-none, again-rounds}
+use Rattle.walker.proofs.Again.{again-node, again-small, again-none, again-rounds}
 use Rattle.walker.proofs.quantifiers.enter_again.Statement.{statement}
 use Rattle.walker.proofs.quantifiers.enter_again.Tie as tie
 

@@ -4,7 +4,7 @@ use native.Mathlib.Omega.{arith}
 use Rattle.walker.proofs.Heads.{stepped-spare}
 use Rattle.walker.proofs.Quantified.{all-middle}
 use Rattle.walker.proofs.Sided.{terms-asked, left-error, right-error}
-use Rattle.walker.proofs.Ranged.{all-terms, all-errs, all-none, all-rounds}
+use Rattle.walker.proofs.Bounded.{all-terms, all-errs, all-none, all-rounds}
 use Rattle.walker.proofs.quantifiers.enter_all.Statement.{statement}
 use Rattle.walker.proofs.quantifiers.enter_all.Tie as tie
 

@@ -4,7 +4,7 @@ use native.Mathlib.Omega.{arith}
 use Rattle.walker.proofs.Heads.{stepped-spare}
 use Rattle.walker.proofs.Quantified.{some-middle}
 use Rattle.walker.proofs.Sided.{terms-asked, left-error, right-error}
-use Rattle.walker.proofs.Ranged.{some-terms, some-errs, some-none, some-opens}
+use Rattle.walker.proofs.Bounded.{some-terms, some-errs, some-none, some-opens}
 use Rattle.walker.proofs.quantifiers.enter_some.Statement.{statement}
 use Rattle.walker.proofs.quantifiers.enter_some.Tie as tie
 

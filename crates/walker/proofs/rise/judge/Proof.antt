@@ -10,7 +10,8 @@ use Rattle.tables.specs.Layout.{maxTokens}
 use Rattle.walker.specs.Loop.{Topped, Rising}
 use Rattle.walker.specs.States.{judgeTodo}
 use Rattle.walker.proofs.Rises.{son-finished}
-use Rattle.walker.proofs.Turns.{rose-up, rose-yes, Judges, judging, judge-small, judge-leads, judge-bad, judge-on, judge-not, judge-imp, judge-far}
+use Rattle.walker.proofs.Turns.{rose-up, rose-yes}
+use Rattle.walker.proofs.Judged.{Judges, judging, judge-small, judge-leads, judge-bad, judge-on, judge-not, judge-imp, judge-far}
 use Rattle.walker.proofs.rise.judge.Statement.{statement}
 use Rattle.walker.proofs.rise.judge.Tie as tie
 
