@@ -15,7 +15,7 @@ use Rattle.specification.specs.Parser.{Reader, Read, refused, found, require, a
 use Rattle.specification.specs.Lines.{index, count, lengths, arraysLine, sum, Declared, firstOf}
 use Rattle.text.specs.Class.{classAt}
 use Rattle.text.proofs.Laws.Class.{class-next, class-not-next}
-use Rattle.tables.specs.Layout.{firstSlot}
+use Rattle.tables.specs.Layout.{maxArrays, maxCells, firstSlot}
 use Rattle.sheet.specs.declared.arrays.Arrays.{Arrays}
 use Rattle.sheet.specs.declared.arrays.Arrays.the-variants as arrays
 use Rattle.sheet.specs.declared.lines.Count.{Count}
@@ -28,32 +28,27 @@ use Rattle.sheet.proofs.NumberLines.{Origin, mapped-refused, mapped-fou
 
 -- ---- first cells
 
-pub laid-length : (m a end : ℕ) (ns : List ℕ) (w : Words) → length (laidOn m a end ns w) ≡ length w
-unfolding laidOn
-laid-length zero a end ns w = refl
-laid-length (suc m) a end ns w = laid-length m (suc a) (end + getD ns 0 0) (drop 1 ns) (set w (firstSlot a) end) ∙ length-set w (firstSlot a) end
-
 module _ (a end : ℕ) (w : Words) where
-  laid-next : (ns : List ℕ) → a < 17
-      → laidOn (17 - a) a end ns w ≡ laidOn (17 - (a + 1)) (a + 1) (end + getD ns 0 0) (drop 1 ns) (set w (firstSlot a) end)
+  laid-next : (ns : List ℕ) → a ≤ maxArrays
+      → laidOn (suc maxArrays - a) a end ns w ≡ laidOn (suc maxArrays - (a + 1)) (a + 1) (end + getD ns 0 0) (drop 1 ns) (set w (firstSlot a) end)
   unfolding laidOn
   laid-next ns h =
-      let q : 17 - a ≡ suc (17 - (a + 1)) = omega arith in
+      let q : suc maxArrays - a ≡ suc (suc maxArrays - (a + 1)) = omega arith in
       rw (q, add-one)
 
 -- ---- the loop of `fill`: what is laid from the start on is laid from here on
 
 pub record Filling (w₀ : Words) (from end : ℕ) (w : Words) (a : ℕ) : Type 0 where
   pub long : length w ≡ length w₀
-  pub rest : laidOn (17 - from) from end [] w₀ ≡ laidOn (17 - a) a end [] w
+  pub rest : laidOn (suc maxArrays - from) from end [] w₀ ≡ laidOn (suc maxArrays - a) a end [] w
 
 module _ {w₀ : Words} {from end : ℕ} {w : Words} {a : ℕ} (st : Filling w₀ from end w a) where
-  pub fill-more : a < 17 → Filling w₀ from end (set w (firstSlot a) end) (a + 1)
-  fill-more h = record { long = length-set w (firstSlot a) end ∙ st .long; rest = st .rest ∙ laid-next a end w [] h ∙ rw add-zero }
+  pub fill-more : a ≤ maxArrays → (w′ : Words) → w′ ≡ set w (firstSlot a) end → Filling w₀ from end w′ (a + 1)
+  fill-more h w′ laid = rw laid (record { long = length-set w (firstSlot a) end ∙ st .long; rest = st .rest ∙ laid-next a end w [] h ∙ rw add-zero })
 
-  pub fill-done : 17 ≤ a → w ≡ laidOn (17 - from) from end [] w₀
+  pub fill-done : maxArrays < a → w ≡ laidOn (suc maxArrays - from) from end [] w₀
   unfolding laidOn
-  fill-done h = let q : 17 - a ≡ 0 = omega arith in sym (rw q at (st .rest))
+  fill-done h = let q : suc maxArrays - a ≡ 0 = omega arith in sym (rw q at (st .rest))
 
 -- ---- the first cells of a sheet
 
@@ -74,10 +69,10 @@ laid-declared D zero a w = refl
 laid-declared D (suc m) a w = rw (sym (first-more D a), drop-drop, add-one a) (laid-declared D m (suc a) (set w (firstSlot a) (firstOf D a)))
 
 -- the first cells of a sheet that declares the lengths
-declared-laid : (D : Declared) (scalars : ℕ) (ns : List ℕ) (w : Words) → D .scalars ≡ scalars → D .arrays ≡ ns → laidOn 17 0 scalars ns w ≡ laidArrays D w
+declared-laid : (D : Declared) (scalars : ℕ) (ns : List ℕ) (w : Words) → D .scalars ≡ scalars → D .arrays ≡ ns → laidOn (suc maxArrays) 0 scalars ns w ≡ laidArrays D w
 unfolding laidArrays firstOf sum
 declared-laid D scalars ns w a b =
-    ap (λ (x : ℕ). laidOn 17 0 x ns w) (sym a ∙ sym (add-zero (D .scalars))) ∙ ap (λ (l : List ℕ). laidOn 17 0 (D .scalars + 0) l w) (sym b) ∙ sym (laid-declared D 17 0 w)
+    ap (λ (x : ℕ). laidOn (suc maxArrays) 0 x ns w) (sym a ∙ sym (add-zero (D .scalars))) ∙ ap (λ (l : List ℕ). laidOn (suc maxArrays) 0 (D .scalars + 0) l w) (sym b) ∙ sym (laid-declared D (suc maxArrays) 0 w)
 
 -- ---- one turn of the reading of lengths
 
@@ -97,13 +92,13 @@ count-few lo hi m r r′ e = by-index (index r) e
 
 -- what is laid from the start on is laid from here on
 pub record Reading (s : Bytes) (from scalars : ℕ) (w₀ w : Words) (at n end : ℕ) : Type 0 where
-  pub few : n ≤ 16
-  pub small : end ≤ 512
+  pub few : n ≤ maxArrays
+  pub small : end ≤ maxCells
   pub long : length w ≡ length w₀
-  pub rest : mapped (tabled 0 scalars w₀) (lengths 16 (512 - scalars) (lineAt s from)) ≡ mapped (tabled n end w) (lengths (16 - n) (512 - end) (lineAt s at))
+  pub rest : mapped (tabled 0 scalars w₀) (lengths maxArrays (maxCells - scalars) (lineAt s from)) ≡ mapped (tabled n end w) (lengths (maxArrays - n) (maxCells - end) (lineAt s at))
 
 -- a length that was read, before those that follow
-tabled-more : (n end m : ℕ) (w : Words) → n < 16 → (x : Read (List ℕ))
+tabled-more : (n end m : ℕ) (w : Words) → n < maxArrays → (x : Read (List ℕ))
     → mapped (tabled n end w) (andThen (λ ns. give (m ∷ ns)) x) ≡ mapped (tabled (n + 1) (end + m) (set w (firstSlot n) end)) x
 unfolding sum
 tabled-more n end m w h (refused k p) = refl
@@ -114,68 +109,64 @@ tabled-more n end m w h (found ns r) =
 
 module _ {s : Bytes} {from scalars : ℕ} {w₀ w : Words} {at n end : ℕ} (st : Reading s from scalars w₀ w at n end) where
   abbrev Whole : Read Table → Type 0
-  Whole x = x ≡ mapped (tabled 0 scalars w₀) (lengths 16 (512 - scalars) (lineAt s from))
-
-  pub turn-long : (a b : ℕ) → length (set w a b) ≡ length w₀
-  turn-long a b = length-set w a b ∙ st .long
-
-  pub turn-same : (m a b i j : ℕ) (w′ : Words) → w′ ≡ laidOn m a b [] (set w i j) → length w′ ≡ length w₀
-  turn-same m a b i j w′ laid = ap length laid ∙ laid-length m a b [] (set w i j) ∙ turn-long i j
+  Whole x = x ≡ mapped (tabled 0 scalars w₀) (lengths maxArrays (maxCells - scalars) (lineAt s from))
 
   -- the seventeenth
-  pub turn-none : 16 ≤ n → Whole (refused 4 at)
+  pub turn-none : maxArrays ≤ n → Whole (refused 4 at)
   unfolding lengths
-  turn-none h = let q : 16 - n ≡ 0 = omega arith in sym (rw q at (st .rest))
+  turn-none h = let q : maxArrays - n ≡ 0 = omega arith in sym (rw q at (st .rest))
 
-  module _ (h : n < 16) where
+  module _ (h : n < maxArrays) where
     -- what follows a length that ends at e
     abbrev following : ℕ → Read ℕ → Read (List ℕ)
-    following k x = andThen (λ m r. andThen (λ ns. give (m ∷ ns)) (pick (next comma (r .rest)) (mark comma >> lengths k (512 - end - m)) (give []) r)) x
+    following k x = andThen (λ m r. andThen (λ ns. give (m ∷ ns)) (pick (next comma (r .rest)) (mark comma >> lengths k (maxCells - end - m)) (give []) r)) x
 
-    turned : (x : Read ℕ) → x ≡ count 1 (512 - end) (lineAt s at) → Whole (mapped (tabled n end w) (following (16 - (n + 1)) x))
+    turned : (x : Read ℕ) → x ≡ count 1 (maxCells - end) (lineAt s at) → Whole (mapped (tabled n end w) (following (maxArrays - (n + 1)) x))
     unfolding lengths
     turned x e =
-        let q : 16 - n ≡ suc (16 - (n + 1)) = omega arith in
+        let q : maxArrays - n ≡ suc (maxArrays - (n + 1)) = omega arith in
         rw e (sym (rw q at (st .rest)))
 
-    pub turn-refused : (x : Count) → countRead s x ≡ count 1 (512 - end) (lineAt s at) → (k p : ℕ) → x ≡ counted.Refused k p → Whole (refused k p)
+    pub turn-refused : (x : Count) → countRead s x ≡ count 1 (maxCells - end) (lineAt s at) → (k p : ℕ) → x ≡ counted.Refused k p → Whole (refused k p)
     turn-refused x read k p told = turned (refused k p) (rw told at read)
 
-    module _ (x : Count) (read : countRead s x ≡ count 1 (512 - end) (lineAt s at)) (m e : ℕ) (told : x ≡ counted.Is m e) where
-      is : found m (lineAt s e) ≡ count 1 (512 - end) (lineAt s at)
+    module _ (x : Count) (read : countRead s x ≡ count 1 (maxCells - end) (lineAt s at)) (m e : ℕ) (told : x ≡ counted.Is m e) where
+      is : found m (lineAt s e) ≡ count 1 (maxCells - end) (lineAt s at)
       is = rw told at read
 
-      pub turn-few : end + m ≤ 512
-      turn-few = omega (arith, count-few 1 (512 - end) m (lineAt s at) (lineAt s e) is .1, st .small)
+      pub turn-few : end + m ≤ maxCells
+      turn-few = omega (arith, count-few 1 (maxCells - end) m (lineAt s at) (lineAt s e) is .1, st .small)
 
-      pub turn-last : (classAt s e ≡ classNumber comma → ⊥) → (w′ : Words) → w′ ≡ laidOn (17 - (n + 1)) (n + 1) (end + m) [] (set w (firstSlot n) end)
-          → Whole (found (record { arrays = n + 1; end = end + m; words = w′ }) (lineAt s e))
-      unfolding sum
-      turn-last other w′ laid =
-          let last = rw (class-not-next s e comma other) at (turned (found m (lineAt s e)) is) in
-          rw laid (rw (add-zero (n + 1), add-zero (end + m)) at (sym (tabled-more n end m w h (found [] (lineAt s e))) ∙ last))
+      -- with its first cell
+      module _ (w₁ : Words) (first : w₁ ≡ set w (firstSlot n) end) where
+        pub turn-last : (classAt s e ≡ classNumber comma → ⊥) → (w′ : Words) → w′ ≡ laidOn (suc maxArrays - (n + 1)) (n + 1) (end + m) [] w₁
+            → Whole (found (record { arrays = n + 1; end = end + m; words = w′ }) (lineAt s e))
+        unfolding sum
+        turn-last other w′ laid =
+            let last = rw (class-not-next s e comma other) at (turned (found m (lineAt s e)) is) in
+            rw (laid, first) (rw (add-zero (n + 1), add-zero (end + m)) at (sym (tabled-more n end m w h (found [] (lineAt s e))) ∙ last))
 
-      pub turn-next : classAt s e ≡ classNumber comma → Reading s from scalars w₀ (set w (firstSlot n) end) (e + 1) (n + 1) (end + m)
-      turn-next is-comma =
-          let left : 512 - end - m ≡ 512 - (end + m) = omega arith in
-          let more = rw (class-next s e comma is-comma, mark-yes s e comma _ is-comma, left) at (turned (found m (lineAt s e)) is) in
-          record {
-            few = omega arith;
-            small = turn-few;
-            long = length-set w (firstSlot n) end ∙ st .long;
-            rest = sym (sym (tabled-more n end m w h (lengths (16 - (n + 1)) (512 - (end + m)) (lineAt s (e + 1)))) ∙ more);
-          }
+        pub turn-next : classAt s e ≡ classNumber comma → Reading s from scalars w₀ w₁ (e + 1) (n + 1) (end + m)
+        turn-next is-comma =
+            let left : maxCells - end - m ≡ maxCells - (end + m) = omega arith in
+            let more = rw (class-next s e comma is-comma, mark-yes s e comma _ is-comma, left) at (turned (found m (lineAt s e)) is) in
+            rw first (record {
+              few = omega arith;
+              small = turn-few;
+              long = length-set w (firstSlot n) end ∙ st .long;
+              rest = sym (sym (tabled-more n end m w h (lengths (maxArrays - (n + 1)) (maxCells - (end + m)) (lineAt s (e + 1)))) ∙ more);
+            })
 
 -- ---- the line
 
 module _ (s : Bytes) (from scalars : ℕ) (w : Words) where
-  pub value-none : classAt s from ≡ classNumber feed → (w′ : Words) → w′ ≡ laidOn 17 0 scalars [] w
+  pub value-none : classAt s from ≡ classNumber feed → (w′ : Words) → w′ ≡ laidOn (suc maxArrays) 0 scalars [] w
       → found (record { arrays = 0; end = scalars; words = w′ }) (lineAt s from) ≡ mapped (tabled 0 scalars w) (arraysValue scalars (lineAt s from))
   unfolding sum
   value-none is-feed w′ laid = rw (class-next s from feed is-feed, laid, add-zero scalars)
 
   pub value-some : (classAt s from ≡ classNumber feed → ⊥)
-      → mapped (tabled 0 scalars w) (lengths 16 (512 - scalars) (lineAt s from)) ≡ mapped (tabled 0 scalars w) (arraysValue scalars (lineAt s from))
+      → mapped (tabled 0 scalars w) (lengths maxArrays (maxCells - scalars) (lineAt s from)) ≡ mapped (tabled 0 scalars w) (arraysValue scalars (lineAt s from))
   value-some other = rw (class-not-next s from feed other)
 
 module _ (s : Bytes) (at scalars : ℕ) where

@@ -1,4 +1,4 @@
--- At most 129 are due at once, each at most 64 deep. Assumes nothing.
+-- No more are due at once than the table has room for, each within the limit of nesting. Assumes nothing.
 use Prim.Native.Nat.{ℕ, zero, suc, _+_, _*_, _≤_}
 use native.Mathlib.Omega.{arith}
 use mathlib.Core.Path.{_≡_}

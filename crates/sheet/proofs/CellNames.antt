@@ -24,7 +24,7 @@ use Rattle.sheet.specs.Answers.{mapped, heldIndex, indexRead}
 use Rattle.sheet.specs.Items.{heldName, heldNames, elementAfter, scalarIn, elementIn, Declares}
 use Rattle.sheet.proofs.NumberLines.{mapped-refused, mapped-found, exactly-yes, exactly-no, mark-yes, mark-no}
 use Rattle.specification.proofs.Laws.Elements.{first-next, first-limit, scalar-declared, element-declared}
-use Rattle.tables.specs.Layout.{firstSlot}
+use Rattle.tables.specs.Layout.{maxCells, firstAt}
 
 -- ---- names, of what an index is told to be
 
@@ -116,22 +116,20 @@ module _ (D : Declared) where
       go false d e = let z : _≡_ {A = ℕ} 0 1 = cc in absurd (omega arith)
 
 module _ {D : Declared} {scalars arrays : ℕ} {w : Words} (d : Declares D scalars arrays w) where
-  scalars-few : D .scalars ≤ 512
+  scalars-few : D .scalars ≤ maxCells
   unfolding cells
   scalars-few = omega (arith, d .small)
 
-  length-few : (a : ℕ) → lengthOf D a ≤ 512
+  length-few : (a : ℕ) → lengthOf D a ≤ maxCells
   length-few a = omega (arith, d .small, first-next D a, first-limit D (suc a))
 
   -- what the words have of an array
   module _ (a : ℕ) (l : a < arrays) where
-    first-held : getD w (firstSlot a) 0 ≡ firstOf D a
+    first-held : firstAt w a ≡ firstOf D a
     first-held = d .held a (omega (arith, d .few))
 
-    end-held : getD w (firstSlot a + 1) 0 ≡ firstOf D a + lengthOf D a
-    end-held =
-        let q : firstSlot a + 1 ≡ firstSlot (a + 1) = omega arith in
-        ap (λ (k : ℕ). getD w k 0) q ∙ d .held (a + 1) (omega (arith, d .few)) ∙ rw (add-one a) (first-next D a)
+    end-held : firstAt w (a + 1) ≡ firstOf D a + lengthOf D a
+    end-held = d .held (a + 1) (omega (arith, d .few)) ∙ rw (add-one a) (first-next D a)
 
   none-beyond : (b : ℕ) → arrays ≤ b → (j : ℕ) → ltb j (lengthOf D b) ≡ false
   unfolding lengthOf
@@ -169,20 +167,20 @@ module _ {D : Declared} {scalars arrays : ℕ} {w : Words} (d : Declares D scala
       b-is l = omega (arith, qa, d .few)
 
       by-index : a < arrays → (t : Bool) → ltb j (lengthOf D b) ≡ t
-          → pick (ltb (getD w (firstSlot a) 0 + i) (getD w (firstSlot a + 1) 0)) (cell.Is (getD w (firstSlot a) 0 + i)) cell.Undeclared
+          → pick (ltb (firstAt w a + i) (firstAt w (a + 1))) (cell.Is (firstAt w a + i)) cell.Undeclared
           ≡ pick t (cell.Is (firstOf D b + j)) cell.Undeclared
       by-index l true h =
           let k : j < lengthOf D b = ltb-true j (lengthOf D b) h in
           let m : j ≡ i = omega (arith, qi, length-few b) in
-          let same : getD w (firstSlot a) 0 + i ≡ firstOf D b + j = omega (arith, first-held a l, ap (firstOf D) (b-is l)) in
-          rw (lt-ltb (getD w (firstSlot a) 0 + i) (getD w (firstSlot a + 1) 0) (omega (arith, first-held a l, end-held a l, ap (lengthOf D) (b-is l))), same)
+          let same : firstAt w a + i ≡ firstOf D b + j = omega (arith, first-held a l, ap (firstOf D) (b-is l)) in
+          rw (lt-ltb (firstAt w a + i) (firstAt w (a + 1)) (omega (arith, first-held a l, end-held a l, ap (lengthOf D) (b-is l))), same)
       by-index l false h =
           let k : lengthOf D b ≤ j = ltb-false j (lengthOf D b) h in
-          rw (le-ltb (getD w (firstSlot a) 0 + i) (getD w (firstSlot a + 1) 0)
+          rw (le-ltb (firstAt w a + i) (firstAt w (a + 1))
           (omega (arith, qi, length-few b, first-held a l, end-held a l, ap (lengthOf D) (b-is l))))
 
       by-array : (t : Bool) → ltb a arrays ≡ t
-          → pick t (pick (ltb (getD w (firstSlot a) 0 + i) (getD w (firstSlot a + 1) 0)) (cell.Is (getD w (firstSlot a) 0 + i)) cell.Undeclared) cell.Undeclared
+          → pick t (pick (ltb (firstAt w a + i) (firstAt w (a + 1))) (cell.Is (firstAt w a + i)) cell.Undeclared) cell.Undeclared
           ≡ pick (ltb j (lengthOf D b)) (cell.Is (firstOf D b + j)) cell.Undeclared
       by-array true h = by-index (ltb-true a arrays h) (ltb j (lengthOf D b)) refl
       by-array false h = rw (none-beyond b (omega (arith, ltb-false a arrays h, qa, d .few)) j)
@@ -194,10 +192,10 @@ module _ (arrays : ℕ) (w : Words) (a i : ℕ) where
   unfolding elementIn
   element-undeclared h = rw (le-ltb a arrays h)
 
-  pub element-out : a < arrays → getD w (firstSlot a + 1) 0 ≤ getD w (firstSlot a) 0 + i → cell.Undeclared ≡ elementIn arrays w a i
+  pub element-out : a < arrays → firstAt w (a + 1) ≤ firstAt w a + i → cell.Undeclared ≡ elementIn arrays w a i
   unfolding elementIn
-  element-out h l = rw (lt-ltb a arrays h, le-ltb (getD w (firstSlot a) 0 + i) (getD w (firstSlot a + 1) 0) l)
+  element-out h l = rw (lt-ltb a arrays h, le-ltb (firstAt w a + i) (firstAt w (a + 1)) l)
 
-  pub element-in : a < arrays → (c : ℕ) → c ≡ getD w (firstSlot a) 0 + i → c < getD w (firstSlot a + 1) 0 → cell.Is c ≡ elementIn arrays w a i
+  pub element-in : a < arrays → (c : ℕ) → c ≡ firstAt w a + i → c < firstAt w (a + 1) → cell.Is c ≡ elementIn arrays w a i
   unfolding elementIn
-  element-in h c e l = rw (lt-ltb a arrays h, sym e, lt-ltb c (getD w (firstSlot a + 1) 0) l)
+  element-in h c e l = rw (lt-ltb a arrays h, sym e, lt-ltb c (firstAt w (a + 1)) l)

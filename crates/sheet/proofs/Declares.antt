@@ -1,5 +1,5 @@
 -- After the line of arrays the words have the arrays of every sheet that declares what was read, as the line of given values wants
--- them: at most 16 arrays and 512 cells, and each first cell in its place. Assumes nothing.
+-- them: no more arrays and cells than the limits, and each first cell in its place. Assumes nothing.
 use Prim.Native.Nat.{ℕ, zero, suc, _+_, _-_, _<_, _≤_}
 use mathlib.Core.Path.{_≡_, refl, sym, ap, _∙_}
 use mathlib.Core.Bool.{Bool, true, false}
@@ -12,7 +12,7 @@ use borrow.Author.Tests.{leb-true, leb-false}
 use Rattle.specification.specs.Bytes.{Bytes, bytes, pick, comma, feed}
 use Rattle.specification.specs.Parser.{Reader, Read, refused, found, andThen, _>>_, give, next, mark, key}
 use Rattle.specification.specs.Lines.{count, lengths, arraysLine, sum, Declared, cells, firstOf}
-use Rattle.tables.specs.Layout.{firstSlot, pathAt}
+use Rattle.tables.specs.Layout.{maxArrays, maxCells, firstSlot, pathAt}
 use Rattle.sheet.specs.Reader.{lineAt}
 use Rattle.sheet.specs.Tables.{Words, laidFirsts, laidArrays}
 use Rattle.sheet.specs.Held.{ArraysAt}
@@ -63,7 +63,7 @@ lengths-few (suc k) left r ns r′ e = by-count (λ n. lengths-few k (left - n))
         few-more ns r′ k left n (count-few 1 left n r q (sym c) .1)
         (pick (next comma (q .rest)) (mark comma >> lengths k (left - n)) (give []) q) (by-next n (ih n) q (next comma (q .rest))) e
 
-pub arrays-few : (scalars : ℕ) (r : Reader) (ns : List ℕ) (r′ : Reader) → arraysLine scalars r ≡ found ns r′ → Few 16 (512 - scalars) ns
+pub arrays-few : (scalars : ℕ) (r : Reader) (ns : List ℕ) (r′ : Reader) → arraysLine scalars r ≡ found ns r′ → Few maxArrays (maxCells - scalars) ns
 unfolding arraysLine sum
 arrays-few scalars r ns r′ e = by-key (key (bytes "arrays=") r) e
   where
@@ -71,15 +71,15 @@ arrays-few scalars r ns r′ e = by-key (key (bytes "arrays=") r) e
     by-feed ms (refused i p) e = let z : _≡_ {A = ℕ} 0 1 = cc in absurd (omega arith)
     by-feed ms (found u q) e = cc
 
-    by-lengths : (x : Read (List ℕ)) → ((ms : List ℕ) (q : Reader) → x ≡ found ms q → Few 16 (512 - scalars) ms) → closed x ≡ found ns r′ → Few 16 (512 - scalars) ns
+    by-lengths : (x : Read (List ℕ)) → ((ms : List ℕ) (q : Reader) → x ≡ found ms q → Few maxArrays (maxCells - scalars) ms) → closed x ≡ found ns r′ → Few maxArrays (maxCells - scalars) ns
     by-lengths (refused i p) h e = let z : _≡_ {A = ℕ} 0 1 = cc in absurd (omega arith)
     by-lengths (found ms q) h e = let same = by-feed ms (mark feed q) e in rw (sym same) (h ms q refl)
 
-    by-next : (q : Reader) (t : Bool) (ms : List ℕ) (q′ : Reader) → pick t (give []) (lengths 16 (512 - scalars)) q ≡ found ms q′ → Few 16 (512 - scalars) ms
+    by-next : (q : Reader) (t : Bool) (ms : List ℕ) (q′ : Reader) → pick t (give []) (lengths maxArrays (maxCells - scalars)) q ≡ found ms q′ → Few maxArrays (maxCells - scalars) ms
     by-next q true ms q′ e = let same : [] ≡ ms = cc in (omega (arith, ap length same), omega (arith, ap sum same))
-    by-next q false ms q′ e = lengths-few 16 (512 - scalars) q ms q′ e
+    by-next q false ms q′ e = lengths-few maxArrays (maxCells - scalars) q ms q′ e
 
-    by-key : (x : Read (Unit {0})) → andThen (λ u q. closed (arraysValue scalars q)) x ≡ found ns r′ → Few 16 (512 - scalars) ns
+    by-key : (x : Read (Unit {0})) → andThen (λ u q. closed (arraysValue scalars q)) x ≡ found ns r′ → Few maxArrays (maxCells - scalars) ns
     by-key (refused i p) e = let z : _≡_ {A = ℕ} 0 1 = cc in absurd (omega arith)
     by-key (found u q) e = by-lengths (arraysValue scalars q) (by-next q (next feed (q .rest))) e
 
@@ -109,11 +109,11 @@ module _ (D : Declared) where
 
   pub laid-arrays : (w : Words) → pathAt ≤ length w → ArraysAt (laidArrays D w) D
   unfolding laidArrays
-  laid-arrays w long a l = laid-at 17 0 a w (omega arith) (omega arith) (omega arith)
+  laid-arrays w long a l = laid-at (suc maxArrays) 0 a w (omega arith) (omega arith) (omega arith)
 
 -- what the line of given values wants of the words
 pub found-declares : {s : Bytes} {at scalars : ℕ} {w w′ : Words} {n end e : ℕ} → (f : ArraysFound s at scalars w w′ n end e)
-    → scalars ≤ 512 → pathAt ≤ length w → (D : Declared) → D .scalars ≡ scalars → D .arrays ≡ f .lengths → Declares D scalars n w′
+    → scalars ≤ maxCells → pathAt ≤ length w → (D : Declared) → D .scalars ≡ scalars → D .arrays ≡ f .lengths → Declares D scalars n w′
 unfolding cells
 found-declares {s} {at} {scalars} {w} {w′} {n} {end} {e} f few long D a b =
     let h = arrays-few scalars (lineAt s at) (f .lengths) (lineAt s e) (f .read) in

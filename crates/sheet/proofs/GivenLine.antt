@@ -1,6 +1,6 @@
 -- Laws of the line of given values: one turn of the reading of items, for every sheet whose arrays the words have, and the line's
 -- answer. Assumes nothing.
-use Prim.Native.Nat.{ℕ, zero, suc, _+_, _-_, _*_, _<_, _≤_}
+use Prim.Native.Nat.{ℕ, zero, suc, _+_, _-_, _<_, _≤_}
 use mathlib.Core.Path.{_≡_, refl, sym, ap, _∙_}
 use mathlib.Core.Bool.{true, false}
 use mathlib.Core.List.{List, [], _∷_}
@@ -16,7 +16,7 @@ use Rattle.text.specs.Class.{classAt}
 use Rattle.text.proofs.Laws.Class.{class-next, class-not-next}
 use Rattle.values.specs.Word.{signed}
 use Rattle.values.proofs.Laws.Word.{biased-signed}
-use Rattle.tables.specs.Layout.{cellSlot, firstSlot}
+use Rattle.tables.specs.Layout.{maxCells, cellSlot, firstSlot}
 use Rattle.sheet.specs.declared.given.Entry.{Entry}
 use Rattle.sheet.specs.declared.given.Entry.the-variants as entry
 use Rattle.sheet.specs.declared.given.Given.{Given}
@@ -36,7 +36,7 @@ pub stored-length : (c z : ℕ) (w : Words) → length (stored c z w) ≡ length
 stored-length c z w = length-set (set w (cellSlot c) 1) (cellSlot c + 1) z ∙ length-set w (cellSlot c) 1
 
 -- the arrays' first cells stay
-stored-declares : {D : Declared} {scalars arrays : ℕ} {w : Words} (c z : ℕ) → c < 512 → Declares D scalars arrays w → Declares D scalars arrays (stored c z w)
+stored-declares : {D : Declared} {scalars arrays : ℕ} {w : Words} (c z : ℕ) → c < maxCells → Declares D scalars arrays w → Declares D scalars arrays (stored c z w)
 stored-declares {w = w} c z h d = record {
   scalar = d .scalar;
   many = d .many;
@@ -58,22 +58,22 @@ laid-more c z w (found is r) = rw biased-signed
 
 pub record Turn (D : Declared) (s : Bytes) (from scalars arrays : ℕ) (w₀ w : Words) (at floor : ℕ) : Type 0 where
   pub left : ℕ
-  pub room : 512 ≤ left + floor
+  pub room : maxCells ≤ left + floor
   pub declares : Declares D scalars arrays w
-  pub rest : laidItems w₀ (items D 512 0 (lineAt s from)) ≡ laidItems w (items D left floor (lineAt s at))
+  pub rest : laidItems w₀ (items D maxCells 0 (lineAt s from)) ≡ laidItems w (items D left floor (lineAt s at))
 
 pub record Turning (s : Bytes) (from scalars arrays : ℕ) (w₀ w : Words) (at floor : ℕ) : Type 0 where
   pub long : length w ≡ length w₀
   pub each : (D : Declared) → Declares D scalars arrays w₀ → Turn D s from scalars arrays w₀ w at floor
 
 pub turn-first : (s : Bytes) (from scalars arrays : ℕ) (w : Words) → Turning s from scalars arrays w w from 0
-turn-first s from scalars arrays w = record { long = refl; each = λ D d. record { left = 512; room = omega arith; declares = d; rest = refl } }
+turn-first s from scalars arrays w = record { long = refl; each = λ D d. record { left = maxCells; room = omega arith; declares = d; rest = refl } }
 
 module _ {s : Bytes} {from scalars arrays : ℕ} {w₀ w : Words} {at floor : ℕ} (st : Turning s from scalars arrays w₀ w at floor)
     (x : Entry) (read : (D : Declared) → Declares D scalars arrays w → entryRead s x ≡ item D floor (lineAt s at)) where
   -- what the line's value lays for a sheet
   abbrev Whole : Read Words → Type 0
-  Whole y = (D : Declared) → Declares D scalars arrays w₀ → y ≡ laidItems w₀ (items D 512 0 (lineAt s from))
+  Whole y = (D : Declared) → Declares D scalars arrays w₀ → y ≡ laidItems w₀ (items D maxCells 0 (lineAt s from))
 
   pub turn-refused : (k p : ℕ) → x ≡ entry.Refused k p → Whole (refused k p)
   unfolding items
@@ -85,7 +85,7 @@ module _ {s : Bytes} {from scalars arrays : ℕ} {w₀ w : Words} {at floor : �
       e : item D floor (lineAt s at) ≡ refused k p
       e = sym (rw told at (read D (t .declares)))
 
-      go : (l : ℕ) → laidItems w₀ (items D 512 0 (lineAt s from)) ≡ laidItems w (items D l floor (lineAt s at)) → refused k p ≡ laidItems w₀ (items D 512 0 (lineAt s from))
+      go : (l : ℕ) → laidItems w₀ (items D maxCells 0 (lineAt s from)) ≡ laidItems w (items D l floor (lineAt s at)) → refused k p ≡ laidItems w₀ (items D maxCells 0 (lineAt s from))
       go zero r = sym (rw e at r)
       go (suc l) r = sym (rw e at r)
 
@@ -93,13 +93,13 @@ module _ {s : Bytes} {from scalars arrays : ℕ} {w₀ w : Words} {at floor : �
     is : (D : Declared) → Declares D scalars arrays w → found (itemOf c (signed z)) (lineAt s e) ≡ item D floor (lineAt s at)
     is D d = rw told at (read D d)
 
-    within : (D : Declared) → Declares D scalars arrays w → (floor ≤ c) × (c < 512)
+    within : (D : Declared) → Declares D scalars arrays w → (floor ≤ c) × (c < maxCells)
     within D d =
         let h = item-cell D floor (lineAt s at) (itemOf c (signed z)) (lineAt s e) (is D d) in
         (h .0, omega (arith, h .1, d .small))
 
-    -- the cell lies above those before, and below 512
-    pub turn-cell : Arranged scalars arrays w₀ → (floor ≤ c) × (c < 512)
+    -- the cell lies above those before, and below the limit
+    pub turn-cell : Arranged scalars arrays w₀ → (floor ≤ c) × (c < maxCells)
     turn-cell a = within (a .declared) (st .each (a .declared) (a .declares) .declares)
 
     -- what follows the item
@@ -107,9 +107,9 @@ module _ {s : Bytes} {from scalars arrays : ℕ} {w₀ w : Words} {at floor : �
     following D k =
         andThen (λ is. give (itemOf c (signed z) ∷ is)) (pick (next comma (drop e s)) (mark comma >> items D k (suc c)) (give []) (lineAt s e))
 
-    -- 512 items are enough, since their cells rise
+    -- so many items are enough, since their cells rise
     turned : (D : Declared) (d : Declares D scalars arrays w₀)
-        → laidItems w₀ (items D 512 0 (lineAt s from)) ≡ laidItems w (following D (st .each D d .left - 1))
+        → laidItems w₀ (items D maxCells 0 (lineAt s from)) ≡ laidItems w (following D (st .each D d .left - 1))
     unfolding items
     turned D d =
         let t = st .each D d in
@@ -145,7 +145,7 @@ module _ (D : Declared) (s : Bytes) (from : ℕ) (w : Words) where
   unfolding laidGiven
   value-none is-feed = rw (class-next s from feed is-feed)
 
-  pub value-some : (classAt s from ≡ classNumber feed → ⊥) → laidItems w (items D 512 0 (lineAt s from)) ≡ laidItems w (givenValue D (lineAt s from))
+  pub value-some : (classAt s from ≡ classNumber feed → ⊥) → laidItems w (items D maxCells 0 (lineAt s from)) ≡ laidItems w (givenValue D (lineAt s from))
   value-some other = rw (class-not-next s from feed other)
 
 module _ (D : Declared) (s : Bytes) (at : ℕ) where

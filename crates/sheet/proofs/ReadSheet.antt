@@ -13,7 +13,7 @@ use Rattle.specification.proofs.Laws.Parser.{Post, refusal, holds, of-found, bi
 use Rattle.specification.proofs.Laws.LineReaders.{Composed}
 use Rattle.specification.proofs.Laws.SheetLines.{sheet-by}
 use Rattle.specification.proofs.Laws.ReadSheet.{read-well-formed}
-use Rattle.tables.specs.Layout.{pathAt}
+use Rattle.tables.specs.Layout.{maxTokens, maxNesting, pathAt}
 use Rattle.sheet.specs.Tables.{tables}
 use Rattle.sheet.specs.Held.{FormulaAt, Holds, ArraysAt}
 use Rattle.sheet.specs.Numbered.{formulaSize, Numbered}
@@ -58,7 +58,7 @@ stays-composed = record {
 
 -- its formula's tokens count from 0, and are at most 1,024
 abbrev pub FromZero : Sheet → Type 0
-FromZero s = Numbered 0 (s .formula) × (formulaSize (s .formula) ≤ 1024)
+FromZero s = Numbered 0 (s .formula) × (formulaSize (s .formula) ≤ maxTokens)
 
 -- it is so if no token was read before the sheet
 abbrev Counts : Parser Sheet → Type 0
@@ -68,7 +68,7 @@ sheet-counts : Counts sheet
 sheet-counts =
     sheet-by stays-composed Counts (λ A m f h k r i. bind-post (h r i) λ a r₁ i₁. k a r₁ i₁)
     (λ D is r h.
-    bind-post (formula-counts D 64 [] r) λ F r₁ c.
+    bind-post (formula-counts D maxNesting [] r) λ F r₁ c.
     after (mark feed r₁) λ u r₂.
     after (finish r₂) λ u r₃.
     holds (renumbered F h (c .0), omega (arith, c .1 .tokens, c .1 .few)))

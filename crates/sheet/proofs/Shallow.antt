@@ -1,4 +1,4 @@
--- A formula that is read is shallow: its terms nest at most 64 deep, and its binders' locals are below 32. Assumes nothing.
+-- A formula that is read is shallow: its terms nest no deeper than the limit, and its binders' locals have slots. Assumes nothing.
 use Prim.Native.Nat.{ℕ, zero, suc, _≤_, _<_, max}
 use native.Mathlib.Omega.{arith}
 use mathlib.Core.List.{_∷_}

@@ -15,7 +15,7 @@ use Rattle.specification.specs.Formula.{formula}
 use Rattle.specification.specs.Sheet.{Sheet, sheet}
 use Rattle.specification.proofs.Laws.Parser.{of-found}
 use Rattle.specification.proofs.Laws.ReadLines.{line-post}
-use Rattle.tables.specs.Layout.{pathAt}
+use Rattle.tables.specs.Layout.{maxArrays, maxScalars, maxLocals, maxNesting, pathAt}
 use Rattle.sheet.specs.declared.lines.Count.{Count}
 use Rattle.sheet.specs.declared.lines.Count.the-variants as count
 use Rattle.sheet.specs.declared.arrays.Arrays.{Arrays}
@@ -49,10 +49,10 @@ module _ (k : ℕ) (r : Reader) where
   pub first-line : eqb k 0 ≡ true → line (bytes "edition=") 1 1 r ≡ numberOf k r
   first-line e = rw e
 
-  pub second-line : eqb k 0 ≡ false → eqb k 1 ≡ true → line (bytes "scalars=") 0 64 r ≡ numberOf k r
+  pub second-line : eqb k 0 ≡ false → eqb k 1 ≡ true → line (bytes "scalars=") 0 maxScalars r ≡ numberOf k r
   second-line e f = rw (e, f)
 
-  pub third-line : eqb k 0 ≡ false → eqb k 1 ≡ false → line (bytes "locals=") 0 32 r ≡ numberOf k r
+  pub third-line : eqb k 0 ≡ false → eqb k 1 ≡ false → line (bytes "locals=") 0 maxLocals r ≡ numberOf k r
   third-line e f = rw (e, f)
 
 -- its answer
@@ -87,7 +87,7 @@ module _ (s : Bytes) (n : ℕ) (d : Limits) (at : ℕ) (w : Words) where
   number-step (suc zero) small t h (progress.Read l u e) g =
       let x : Headed 2 s n (withNumber 1 d (g .number)) e w = record {
         rest = h .rest ∙ ap (andThen (λ m. fromLocals (withNumber 1 d m))) (g .read);
-        scalars = of-found (line-post 0 64 (bytes "scalars=") (lineAt s at)) (g .read) .1;
+        scalars = of-found (line-post 0 maxScalars (bytes "scalars=") (lineAt s at)) (g .read) .1;
         locals = h .locals;
         words = h .words;
         enough = h .enough;
@@ -98,7 +98,7 @@ module _ (s : Bytes) (n : ℕ) (d : Limits) (at : ℕ) (w : Words) where
       let x : Headed 3 s n (withNumber 2 d (g .number)) e w = record {
         rest = h .rest ∙ ap (andThen (λ m. fromArrays (withNumber 2 d m))) (g .read);
         scalars = h .scalars;
-        locals = of-found (line-post 0 32 (bytes "locals=") (lineAt s at)) (g .read) .1;
+        locals = of-found (line-post 0 maxLocals (bytes "locals=") (lineAt s at)) (g .read) .1;
         words = h .words;
         enough = h .enough;
       } in
@@ -122,7 +122,7 @@ module _ (s : Bytes) (n : ℕ) (d : Limits) (at : ℕ) (w : Words) (h : Headed 3
       let f : ArraysFound s at (d .scalars) w w₁ m end c = rw q at a in
       let long : length w ≡ n = headed-long s n d at w 3 h in
       let D : Declared = declaring d (f .lengths) in
-      let few : length (f .lengths) ≤ 16 = arrays-few (d .scalars) (lineAt s at) (f .lengths) (lineAt s c) (f .read) .0 in
+      let few : length (f .lengths) ≤ maxArrays = arrays-few (d .scalars) (lineAt s at) (f .lengths) (lineAt s c) (f .read) .0 in
       let laid : w₁ ≡ laidArrays D w = f .laid D refl refl in
       record {
         declared = D;
@@ -131,7 +131,7 @@ module _ (s : Bytes) (n : ℕ) (d : Limits) (at : ℕ) (w : Words) (h : Headed 3
         small = record { scalars = h .scalars; locals = h .locals; arrays = omega (arith, few, f .many) };
         declares = found-declares f (omega (arith, h .scalars)) (omega (arith, long, h .enough)) D refl refl;
         words = laid ∙ ap (laidArrays D) (h .words);
-        long = ap length laid ∙ firsts-length D 0 17 w ∙ long;
+        long = ap length laid ∙ firsts-length D 0 (suc maxArrays) w ∙ long;
         enough = h .enough;
       }
 
@@ -142,7 +142,7 @@ module _ (D : Declared) (is : List Item) where
   abbrev whole : Formula → Reader → Read Sheet
   whole F = give (sheetOf D is F)
 
-  rest-sheet : (r : Reader) → andThen (λ u. formula D 64 [] >>= λ F. mark feed >> (finish >> whole F)) (key (bytes "formula=") r) ≡ fromFormula D is r
+  rest-sheet : (r : Reader) → andThen (λ u. formula D maxNesting [] >>= λ F. mark feed >> (finish >> whole F)) (key (bytes "formula=") r) ≡ fromFormula D is r
   unfolding formulaRest
   rest-sheet r = by-key (key (bytes "formula=") r)
     where
@@ -159,9 +159,9 @@ module _ (D : Declared) (is : List Item) where
       by-formula (found F r) = by-feed F (mark feed r)
 
       by-key : (x : Read (Unit {0})) →
-          andThen (λ u. formula D 64 [] >>= λ F. mark feed >> (finish >> whole F)) x ≡ andThen whole (andThen (λ u. formula D 64 [] >>= λ F. mark feed >> (finish >> give F)) x)
+          andThen (λ u. formula D maxNesting [] >>= λ F. mark feed >> (finish >> whole F)) x ≡ andThen whole (andThen (λ u. formula D maxNesting [] >>= λ F. mark feed >> (finish >> give F)) x)
       by-key (refused k p) = refl
-      by-key (found u r) = by-formula (formula D 64 [] r)
+      by-key (found u r) = by-formula (formula D maxNesting [] r)
 
 module _ (s : Bytes) (n : ℕ) (d : Limits) (at : ℕ) (w : Words) (h : Arrayed s n d at w) (w₁ : Words) (r : Given) (g : GivenDone (h .declared) s at w w₁ r) where
   pub given-refused : (k p : ℕ) → r ≡ given.Refused k p → Went 5 s n (progress.Refused k p) w₁

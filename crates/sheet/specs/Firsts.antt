@@ -7,7 +7,7 @@ use lib.ListN.{length, getD, drop, set}
 use Rattle.specification.specs.Bytes.{Bytes, pick, feed}
 use Rattle.specification.specs.Parser.{Read, refused, found, Parser, give, next}
 use Rattle.specification.specs.Lines.{lengths, sum, Declared, arraysLine}
-use Rattle.tables.specs.Layout.{firstSlot}
+use Rattle.tables.specs.Layout.{maxArrays, maxCells, firstSlot}
 use Rattle.sheet.specs.declared.arrays.Arrays.{Arrays}
 use Rattle.sheet.specs.declared.arrays.Arrays.the-variants as arrays
 use Rattle.sheet.specs.Reader.{lineAt}
@@ -28,11 +28,11 @@ pub record Table : Type 0 where
 
 -- what these lengths make after the first a arrays
 abbrev pub tabled : ℕ → ℕ → Words → List ℕ → Table
-tabled a end w ns = record { arrays = a + length ns; end = end + sum ns; words = laidOn (17 - a) a end ns w }
+tabled a end w ns = record { arrays = a + length ns; end = end + sum ns; words = laidOn (suc maxArrays - a) a end ns w }
 
 -- the line's value: empty, or lengths
 abbrev pub arraysValue : ℕ → Parser (List ℕ)
-arraysValue scalars r = pick (next feed (r .rest)) (give []) (lengths 16 (512 - scalars)) r
+arraysValue scalars r = pick (next feed (r .rest)) (give []) (lengths maxArrays (maxCells - scalars)) r
 
 abbrev pub arraysRead : Bytes → Arrays → Words → Read Table
 arraysRead s (arrays.Refused k p) w = refused k p

@@ -4,14 +4,14 @@ use Prim.Native.Nat.{ℕ, _+_, _≤_}
 use mathlib.Core.Path.{_≡_}
 use mathlib.Core.List.{List, []}
 use lib.Dec.{leb, ltb}
-use lib.ListN.{length, getD}
+use lib.ListN.{length}
 use lib.IntN.{ℤ}
 use Rattle.specification.specs.Bytes.{Bytes, pick, feed, colon, point}
 use Rattle.specification.specs.Parser.{Read, refused, found, Parser, give, refuse, require, next, mark, _>>=_, _>>_}
 use Rattle.specification.specs.Lines.{index, value, Declared, cells, CellName, scalar, element}
 use Rattle.specification.specs.Given.{Item, items, givenLine}
 use Rattle.values.specs.Word.{signed}
-use Rattle.tables.specs.Layout.{firstSlot}
+use Rattle.tables.specs.Layout.{maxArrays, maxCells, firstAt}
 use Rattle.sheet.specs.declared.given.Name.{Name}
 use Rattle.sheet.specs.declared.given.Name.the-variants as names
 use Rattle.sheet.specs.declared.given.Cell.{Cell}
@@ -53,7 +53,7 @@ scalarIn scalars n = pick (ltb n scalars) (cell.Is n) cell.Undeclared
 unfoldable pub elementIn : ℕ → Words → ℕ → ℕ → Cell
 elementIn arrays w a i =
     pick (ltb a arrays)
-    (pick (ltb (getD w (firstSlot a) 0 + i) (getD w (firstSlot a + 1) 0)) (cell.Is (getD w (firstSlot a) 0 + i)) cell.Undeclared)
+    (pick (ltb (firstAt w a + i) (firstAt w (a + 1))) (cell.Is (firstAt w a + i)) cell.Undeclared)
     cell.Undeclared
 
 -- ---- items
@@ -79,8 +79,8 @@ entryRead s (entry.Is c z e) = found (itemOf c (signed z)) (lineAt s e)
 pub record Declares (D : Declared) (scalars arrays : ℕ) (w : Words) : Type 0 where
   pub scalar : D .scalars ≡ scalars
   pub many : length (D .arrays) ≡ arrays
-  pub few : arrays ≤ 16
-  pub small : cells D ≤ 512
+  pub few : arrays ≤ maxArrays
+  pub small : cells D ≤ maxCells
   pub held : ArraysAt w D
 
 pub record Arranged (scalars arrays : ℕ) (w : Words) : Type 0 where
@@ -99,7 +99,7 @@ givenRead s (given.Read e) w = found w (lineAt s e)
 
 -- the line's value: empty, or items
 abbrev pub givenValue : Declared → Parser (List Item)
-givenValue D r = pick (next feed (r .rest)) (give []) (items D 512 0) r
+givenValue D r = pick (next feed (r .rest)) (give []) (items D maxCells 0) r
 
 -- the items that were read, which lie in the words w′
 pub record GivenFound (D : Declared) (s : Bytes) (at : ℕ) (w w′ : Words) (e : ℕ) : Type 0 where

@@ -12,7 +12,7 @@ use Rattle.specification.specs.Given.{Item, givenLine}
 use Rattle.specification.specs.Ast.{Formula}
 use Rattle.specification.specs.Formula.{formula}
 use Rattle.specification.specs.Sheet.{Sheet, sheet}
-use Rattle.tables.specs.Layout.{pathAt}
+use Rattle.tables.specs.Layout.{maxScalars, maxLocals, maxNesting, pathAt}
 use Rattle.sheet.specs.declared.Reading.{Reading}
 use Rattle.sheet.specs.declared.Reading.the-variants as reading
 use Rattle.sheet.specs.declared.formula.Limits.{Limits}
@@ -58,7 +58,7 @@ fromFormula D is r = andThen (λ F. give (sheetOf D is F)) (formulaRest D r)
 unfoldable pub fromGiven : Declared → Parser Sheet
 fromGiven D =
     givenLine D >>= λ given.
-    key (bytes "formula=") >> (formula D 64 [] >>= λ F. mark feed >> (finish >> give (sheetOf D given F)))
+    key (bytes "formula=") >> (formula D maxNesting [] >>= λ F. mark feed >> (finish >> give (sheetOf D given F)))
 
 -- from the arrays on
 abbrev pub declaring : Limits → List ℕ → Declared
@@ -71,8 +71,8 @@ fromArrays d = arraysLine (d .scalars) >>= λ ns. fromGiven (declaring d ns)
 abbrev pub numberOf : ℕ → Parser ℕ
 numberOf k =
     pick (eqb k 0) (line (bytes "edition=") 1 1)
-    (pick (eqb k 1) (line (bytes "scalars=") 0 64)
-    (line (bytes "locals=") 0 32))
+    (pick (eqb k 1) (line (bytes "scalars=") 0 maxScalars)
+    (line (bytes "locals=") 0 maxLocals))
 
 abbrev pub withNumber : ℕ → Limits → ℕ → Limits
 withNumber k d n =
@@ -111,8 +111,8 @@ NumberRead k s at d (progress.Read l t e) = Numbered k s at d l e
 -- numbers of the first lines
 pub record Headed (k : ℕ) (s : Bytes) (n : ℕ) (d : Limits) (at : ℕ) (w : Words) : Type 0 where
   pub rest : sheet (lineAt s 0) ≡ afterNumbers k d (lineAt s at)
-  pub scalars : d .scalars ≤ 64
-  pub locals : d .locals ≤ 32
+  pub scalars : d .scalars ≤ maxScalars
+  pub locals : d .locals ≤ maxLocals
   pub words : w ≡ replicate n 0
   pub enough : pathAt ≤ n
 

@@ -13,6 +13,7 @@ ghost use Rattle.sheet.specs.FormulaLine.{Small, Counts, counted, Refuse
 use crate::Token;
 use crate::ends;
 use crate::lines;
+use crate::refusals;
 use crate::sorts;
 use crate::stack;
 use crate::stack::Entry;
@@ -83,13 +84,13 @@ fn fault(d: Limits, e: Entry, bound: u32, t: Token) -> u32
     ensures { λ r. ⌜ ((du : Due) (B : Locals) → Means e du → Bits bound B → r ≡ faultOf (counted d) du B t) ⌝ }
 {
     if t.code == codes::BAD_CONSTANT {
-        return 4;
+        return refusals::NUMBER;
     }
     if !suits(e.sort, t.code) {
-        return 6;
+        return refusals::WORD;
     }
     if !is_declared(d, t) {
-        return 7;
+        return refusals::UNDECLARED;
     }
     if t.code != codes::LOCAL {
         return 0;
@@ -97,7 +98,7 @@ fn fault(d: Limits, e: Entry, bound: u32, t: Token) -> u32
     if in_place(e, bound, t.operand) {
         return 0;
     }
-    8
+    refusals::BINDER
 }
 
 // The number of the refusal of a token after so many others, 0 where it may stand.
@@ -106,10 +107,10 @@ fn refusal(d: Limits, e: Entry, bound: u32, count: u32, t: Token) -> u32
     ensures { λ r. ⌜ Refuses d e bound count t r ⌝ }
 {
     if e.room == 0 {
-        return 9;
+        return refusals::TOO_MANY;
     }
     if tables::MAX_TOKENS <= count {
-        return 9;
+        return refusals::TOO_MANY;
     }
     fault(d, e, bound, t)
 }
@@ -162,7 +163,7 @@ fn scan(s: &[u8], from: usize, d: Limits, tokens: u32, binders: u32, w: &mut [u3
             return Scanned::Read(count, e, bound);
         }
         if text::class_at(s, e) != text::SPACE {
-            return Scanned::Refused(5, e);
+            return Scanned::Refused(refusals::BYTE, e);
         }
         at = e + 1;
     }
@@ -177,16 +178,16 @@ pub(crate) fn formula_line(s: &[u8], at: usize, d: Limits, w: &mut [u32]) -> Par
 {
     let key = b"formula=";
     if !lines::begins(s, at, key) {
-        return Parsed::Refused(3, at);
+        return Parsed::Refused(refusals::KEY, at);
     }
     match scan(s, at + key.len(), d, 0, 0, w) {
         Scanned::Refused(k, p) => Parsed::Refused(k, p),
         Scanned::Read(n, e, _) => {
             if text::class_at(s, e) != text::FEED {
-                return Parsed::Refused(5, e);
+                return Parsed::Refused(refusals::BYTE, e);
             }
             if e + 1 < s.len() {
-                return Parsed::Refused(5, e + 1);
+                return Parsed::Refused(refusals::BYTE, e + 1);
             }
             ends::ends(w, n);
             Parsed::Read(n)

@@ -1,15 +1,16 @@
 // The line of given values: items with commas between, in strictly rising cell order. Each goes into the work words as it is read.
 ghost use mathlib.Core.Path.{_≡_};
-ghost use Prim.Native.Nat.{_+_, _*_, _<_, _≤_};
+ghost use Prim.Native.Nat.{_+_, _<_, _≤_};
 ghost use lib.ListN.{length, set};
 ghost use Rattle.specification.specs.Lines.{Declared};
 ghost use Rattle.specification.specs.Given.{scalarName, elementName, name, item, items};
-ghost use Rattle.tables.specs.Layout.{cellSlot, pathAt};
+ghost use Rattle.tables.specs.Layout.{maxArrays, maxCells, cellSlot, pathAt};
 ghost use Rattle.sheet.specs.Reader.{lineAt};
 ghost use Rattle.sheet.specs.Items.{heldNames, elementAfter, nameRead, scalarIn, elementIn, afterName, entryRead, Declares, Arranged, laidItems, givenRead, givenValue, GivenDone};
 use crate::lines;
 use crate::lines::Index;
 use crate::lines::Integer;
+use crate::refusals;
 
 pub(crate) enum Given {
     // a refusal's number and place
@@ -37,18 +38,13 @@ enum Entry {
     Is(u32, u32, usize),
 }
 
-// Where the words have the cells, two for each, and the arrays' first cells.
-const CELLS: usize = tables::CELLS;
-
-const FIRSTS: usize = tables::FIRSTS;
-
 // ---- names
 
 fn scalar_name(s: &[u8], at: usize) -> Name
     ensures { λ r. ⌜ nameRead (now (s .entry)) r ≡ heldNames (scalarName (lineAt (now (s .entry)) at)) ⌝ }
 {
     if !lines::begins(s, at, b"v") {
-        return Name::Refused(5, at);
+        return Name::Refused(refusals::BYTE, at);
     }
     match lines::index_at(s, at + 1) {
         Index::Refused(k, p) => Name::Refused(k, p),
@@ -61,7 +57,7 @@ fn element_of(s: &[u8], a: u32, at: usize) -> Name
     ensures { λ r. ⌜ nameRead (now (s .entry)) r ≡ elementAfter a (lineAt (now (s .entry)) at) ⌝ }
 {
     if text::class_at(s, at) != text::POINT {
-        return Name::Refused(5, at);
+        return Name::Refused(refusals::BYTE, at);
     }
     match lines::index_at(s, at + 1) {
         Index::Refused(k, p) => Name::Refused(k, p),
@@ -73,7 +69,7 @@ fn element_name(s: &[u8], at: usize) -> Name
     ensures { λ r. ⌜ nameRead (now (s .entry)) r ≡ heldNames (elementName (lineAt (now (s .entry)) at)) ⌝ }
 {
     if !lines::begins(s, at, b"a") {
-        return Name::Refused(5, at);
+        return Name::Refused(refusals::BYTE, at);
     }
     match lines::index_at(s, at + 1) {
         Index::Refused(k, p) => Name::Refused(k, p),
@@ -109,15 +105,14 @@ fn wide(x: u32) -> u64
 
 // An element's cell lies before the next array's first.
 fn element_cell(a: u32, i: u32, arrays: u32, w: &[u32]) -> Cell
-    requires { ⌜ (arrays ≤ 16) × (pathAt ≤ length (now w)) ⌝ }
+    requires { ⌜ (arrays ≤ maxArrays) × (pathAt ≤ length (now w)) ⌝ }
     ensures { λ r. ⌜ r ≡ elementIn arrays (now (w .entry)) a i ⌝ }
 {
     if arrays <= a {
         return Cell::Undeclared;
     }
-    let k = FIRSTS + a as usize;
-    let cell = wide(w[k]) + wide(i);
-    if wide(w[k + 1]) <= cell {
+    let cell = wide(tables::first_cell(w, a)) + wide(i);
+    if wide(tables::first_cell(w, a + 1)) <= cell {
         return Cell::Undeclared;
     }
     Cell::Is(cell as u32)
@@ -125,21 +120,21 @@ fn element_cell(a: u32, i: u32, arrays: u32, w: &[u32]) -> Cell
 
 // ---- items
 
-// An item whose name begins at one place and ends at another: 4 and 5 as read, then 7, then 10.
+// An item whose name begins at one place and ends at another: its form is tested first, then its cell, then the order.
 fn valued(s: &[u8], at: usize, e: usize, floor: u32, c: Cell) -> Entry
     ensures { λ r. ⌜ entryRead (now (s .entry)) r ≡ afterName at floor c (lineAt (now (s .entry)) e) ⌝ }
 {
     if text::class_at(s, e) != text::COLON {
-        return Entry::Refused(5, e);
+        return Entry::Refused(refusals::BYTE, e);
     }
     match lines::integer_at(s, e + 1) {
         Integer::Refused(k, p) => Entry::Refused(k, p),
         Integer::Is(z, q) => {
             let Cell::Is(n) = c else {
-                return Entry::Refused(7, at);
+                return Entry::Refused(refusals::UNDECLARED, at);
             };
             if n < floor {
-                return Entry::Refused(10, at);
+                return Entry::Refused(refusals::NOT_RISING, at);
             }
             Entry::Is(n, z, q)
         }
@@ -147,7 +142,7 @@ fn valued(s: &[u8], at: usize, e: usize, floor: u32, c: Cell) -> Entry
 }
 
 fn item_at(s: &[u8], at: usize, scalars: u32, arrays: u32, floor: u32, w: &[u32]) -> Entry
-    requires { ⌜ (arrays ≤ 16) × (pathAt ≤ length (now w)) ⌝ }
+    requires { ⌜ (arrays ≤ maxArrays) × (pathAt ≤ length (now w)) ⌝ }
     ensures { λ r. ⌜ ((D : Declared) → Declares D scalars arrays (now (w .entry))
         → entryRead (now (s .entry)) r ≡ item D floor (lineAt (now (s .entry)) at)) ⌝ }
 {
@@ -160,12 +155,15 @@ fn item_at(s: &[u8], at: usize, scalars: u32, arrays: u32, floor: u32, w: &[u32]
 
 // Marks a cell, and puts its value's word beside the mark.
 fn put(w: &mut [u32], cell: u32, word: u32)
-    requires { ⌜ (cell < 512) × (pathAt ≤ length (now w)) ⌝ }
+    requires { ⌜ (cell < maxCells) × (pathAt ≤ length (now w)) ⌝ }
     ensures { λ _. ⌜ now (w .exit) ≡ set (set (now (w .entry)) (cellSlot cell) 1) (cellSlot cell + 1) word ⌝ }
 {
-    let k = CELLS + 2 * cell as usize;
-    w[k] = 1;
-    w[k + 1] = word;
+    tables::set_slot(
+        w,
+        tables::CELLS + tables::SLOT_WORDS * cell as usize,
+        1,
+        word,
+    );
 }
 
 // ---- the line
@@ -174,7 +172,7 @@ fn put(w: &mut [u32], cell: u32, word: u32)
 fn items_at(s: &[u8], from: usize, scalars: u32, arrays: u32, w: &mut [u32]) -> Given
     requires { ⌜ (Arranged scalars arrays (now w)) × (pathAt ≤ length (now w)) ⌝ }
     ensures { λ r. ⌜ ((D : Declared) → Declares D scalars arrays (now (w .entry))
-        → givenRead (now (s .entry)) r (now (w .exit)) ≡ laidItems (now (w .entry)) (items D 512 0 (lineAt (now (s .entry)) from))) ⌝ }
+        → givenRead (now (s .entry)) r (now (w .exit)) ≡ laidItems (now (w .entry)) (items D maxCells 0 (lineAt (now (s .entry)) from))) ⌝ }
 {
     let mut at = from;
     let mut floor: u32 = 0;
@@ -215,13 +213,13 @@ pub(crate) fn given_line(s: &[u8], at: usize, scalars: u32, arrays: u32, w: &mut
 {
     let key = b"given=";
     if !lines::begins(s, at, key) {
-        return Given::Refused(3, at);
+        return Given::Refused(refusals::KEY, at);
     }
     match contents(s, at + key.len(), scalars, arrays, w) {
         Given::Refused(k, p) => Given::Refused(k, p),
         Given::Read(e) => {
             if text::class_at(s, e) != text::FEED {
-                return Given::Refused(5, e);
+                return Given::Refused(refusals::BYTE, e);
             }
             Given::Read(e + 1)
         }

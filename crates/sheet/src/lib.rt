@@ -12,6 +12,7 @@ mod formula;
 mod given;
 mod lines;
 mod reader;
+mod refusals;
 mod sorts;
 mod stack;
 mod whole;

@@ -6,6 +6,7 @@ ghost use Rattle.specification.specs.Bytes.{run, inNumber, begins};
 ghost use Rattle.specification.specs.Lines.{index, count, value, line};
 ghost use Rattle.sheet.specs.Reader.{lineAt};
 ghost use Rattle.sheet.specs.Answers.{heldIndex, indexRead, integerRead, countRead};
+use crate::refusals;
 use text::Decimal;
 use text::Word;
 
@@ -75,7 +76,7 @@ pub(crate) fn index_at(s: &[u8], at: usize) -> Index
 {
     let d = numeral(s, at);
     match text::natural(d) {
-        Decimal::Malformed => Index::Refused(4, at),
+        Decimal::Malformed => Index::Refused(refusals::NUMBER, at),
         Decimal::Is(n) => {
             if MOST < n {
                 return Index::Is(MOST as u32, at + d.len());
@@ -90,7 +91,7 @@ pub(crate) fn integer_at(s: &[u8], at: usize) -> Integer
 {
     let d = numeral(s, at);
     match text::integer(d) {
-        Word::Bad => Integer::Refused(4, at),
+        Word::Bad => Integer::Refused(refusals::NUMBER, at),
         Word::Is(w) => Integer::Is(w, at + d.len()),
     }
 }
@@ -103,10 +104,10 @@ pub(crate) fn count_at(s: &[u8], at: usize, lo: u32, hi: u32) -> Count
         Index::Refused(k, p) => Count::Refused(k, p),
         Index::Is(n, e) => {
             if n < lo {
-                return Count::Refused(4, at);
+                return Count::Refused(refusals::NUMBER, at);
             }
             if hi < n {
-                return Count::Refused(4, at);
+                return Count::Refused(refusals::NUMBER, at);
             }
             Count::Is(n, e)
         }
@@ -120,13 +121,13 @@ pub(crate) fn count_line(s: &[u8], at: usize, key: &[u8], lo: u32, hi: u32) -> C
     ensures { λ r. ⌜ countRead (now (s .entry)) r ≡ line (now (key .entry)) lo hi (lineAt (now (s .entry)) at) ⌝ }
 {
     if !begins(s, at, key) {
-        return Count::Refused(3, at);
+        return Count::Refused(refusals::KEY, at);
     }
     match count_at(s, at + key.len(), lo, hi) {
         Count::Refused(k, p) => Count::Refused(k, p),
         Count::Is(n, e) => {
             if text::class_at(s, e) != text::FEED {
-                return Count::Refused(5, e);
+                return Count::Refused(refusals::BYTE, e);
             }
             Count::Is(n, e + 1)
         }

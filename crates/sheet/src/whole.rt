@@ -63,9 +63,9 @@ fn counted(s: &[u8], at: usize, k: u32) -> Count
         return lines::count_line(s, at, b"edition=", 1, 1);
     }
     if k == SCALARS {
-        return lines::count_line(s, at, b"scalars=", 0, 64);
+        return lines::count_line(s, at, b"scalars=", 0, tables::MAX_SCALARS);
     }
-    lines::count_line(s, at, b"locals=", 0, 32)
+    lines::count_line(s, at, b"locals=", 0, tables::MAX_LOCALS)
 }
 
 // One of these lines, and what is declared with its number.

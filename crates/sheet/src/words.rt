@@ -123,13 +123,13 @@ fn name(t: &[u8]) -> Token
     ensures { λ r. ⌜ r ≡ tokenOf (just (nameOf (now (t .entry)))) ⌝ }
 {
     let b = t[0];
-    if b == 118 {
+    if b == b'v' {
         return index(codes::SCALAR, t);
     }
-    if b == 108 {
+    if b == b'l' {
         return index(codes::LOCAL, t);
     }
-    if b == 97 {
+    if b == b'a' {
         return index(codes::ARRAY, t);
     }
     Token {

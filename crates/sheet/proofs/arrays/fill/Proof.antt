@@ -1,6 +1,7 @@
 -- The invariant: what is laid from the start on is laid from here on. Assumes nothing.
-use Prim.Native.Nat.{_-_}
+use Prim.Native.Nat.{suc, _-_}
 use mathlib.Core.Path.{refl}
+use Rattle.tables.specs.Layout.{maxArrays}
 use Rattle.sheet.proofs.ArrayLine.{Filling, fill-more, fill-done}
 use borrow.Author.Needs.{needs}
 use Rattle.sheet.proofs.arrays.fill.Statement.{statement}
@@ -10,19 +11,13 @@ abbrev Inv-loop : tie.InvT-loop
 Inv-loop w₀ from end a₀ w a = Filling w₀ from end w a
 
 abbrev μ-loop : tie.MeasureT-loop
-μ-loop w₀ from end a₀ w a = 17 - a
+μ-loop w₀ from end a₀ w a = suc maxArrays - a
 
 loop-holds : tie.Need-loop-holds Inv-loop μ-loop
 loop-holds c = record { long = refl; rest = refl }
 
-add-w : tie.Need-add-w Inv-loop μ-loop
-add-w c = search needs
-
-mul-w : tie.Need-mul-w Inv-loop μ-loop
-mul-w c = search needs
-
-slice-write-w : tie.Need-slice-write-w Inv-loop μ-loop
-slice-write-w c = search needs
+set-first-requires : tie.Need-set-first-requires Inv-loop μ-loop
+set-first-requires c κs = search needs
 
 add-a : tie.Need-add-a Inv-loop μ-loop
 add-a c = search needs
@@ -31,10 +26,10 @@ loop-less : tie.Need-loop-less Inv-loop μ-loop
 loop-less c = search needs
 
 loop-again : tie.Need-loop-again Inv-loop μ-loop
-loop-again c = fill-more (c .before .loop .inv) (c .loop-test .taken)
+loop-again c = fill-more (c .before .before .before .before .before .loop .inv) (c .before .before .before .before .loop-test .taken) _ (c .before .before .set-first .ensures)
 
 same-length : tie.Need-same-length Inv-loop μ-loop
-same-length c = search needs
+same-length c = (c .before .loop .inv .long)
 
 returns : tie.Need-returns Inv-loop μ-loop
 returns c = fill-done (c .before .loop .inv) (c .loop-test .left)
@@ -46,9 +41,7 @@ fill-spec =
     Inv-loop
     μ-loop
     loop-holds
-    add-w
-    mul-w
-    slice-write-w
+    set-first-requires
     add-a
     loop-less
     loop-again

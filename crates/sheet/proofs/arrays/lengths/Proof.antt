@@ -1,11 +1,11 @@
 -- The invariant: what is laid from the start on is laid from here on. Assumes nothing.
-use Prim.Native.Nat.{_+_, _-_}
+use Prim.Native.Nat.{_-_}
 use mathlib.Core.Path.{refl, _∙_, sym}
 use native.Mathlib.Omega.{arith}
 use Rattle.specification.specs.Bytes.{comma, classNumber}
 use Rattle.text.proofs.Laws.Class.{class-inside}
-use Rattle.tables.specs.Layout.{firstSlot}
-use Rattle.sheet.proofs.ArrayLine.{Reading, turn-long, turn-same, turn-none, turn-refused, turn-few, turn-last, turn-next}
+use Rattle.tables.specs.Layout.{maxArrays}
+use Rattle.sheet.proofs.ArrayLine.{Reading, turn-none, turn-refused, turn-few, turn-last, turn-next}
 use borrow.Author.Needs.{needs}
 use Rattle.sheet.proofs.arrays.lengths.Statement.{statement}
 use Rattle.sheet.proofs.arrays.lengths.Tie as tie
@@ -14,7 +14,7 @@ abbrev Inv-loop : tie.InvT-loop
 Inv-loop s from scalars w₀ at₀ n₀ end₀ w at n end = Reading s from scalars w₀ w at n end
 
 abbrev μ-loop : tie.MeasureT-loop
-μ-loop s from scalars w₀ at₀ n₀ end₀ w at n end = 16 - n
+μ-loop s from scalars w₀ at₀ n₀ end₀ w at n end = maxArrays - n
 
 loop-holds : tie.Need-loop-holds Inv-loop μ-loop
 loop-holds c = record { few = omega arith; small = (c .before .before .pre .0); long = refl; rest = refl }
@@ -29,7 +29,7 @@ enum-known-k : tie.Need-enum-known-k Inv-loop μ-loop
 enum-known-k c = search needs
 
 same-length : tie.Need-same-length Inv-loop μ-loop
-same-length c = search needs
+same-length c = (c .before .before .before .before .before .loop .inv .long)
 
 returns : tie.Need-returns Inv-loop μ-loop
 returns c = turn-refused (c .before .before .before .before .before .loop .inv) (c .before .before .before .before .loop-test .taken) _ (c .before .before .before .count-at .ensures) _ _ (c .before .k .given .1)
@@ -37,62 +37,41 @@ returns c = turn-refused (c .before .before .before .before .before .loop .inv) 
 enum-known-m : tie.Need-enum-known-m Inv-loop μ-loop
 enum-known-m c = search needs
 
-cast-w : tie.Need-cast-w Inv-loop μ-loop
-cast-w c = search needs
-
-add-w : tie.Need-add-w Inv-loop μ-loop
-add-w c = search needs
-
-mul-w : tie.Need-mul-w Inv-loop μ-loop
-mul-w c = search needs
-
-slice-write-w : tie.Need-slice-write-w Inv-loop μ-loop
-slice-write-w c = search needs
+set-first-requires : tie.Need-set-first-requires Inv-loop μ-loop
+set-first-requires c κs = omega (arith, (c .before .before .before .before .before .before .loop .inv .long), (c .before .before .before .before .before .before .before .before .before .pre .1))
 
 add-n : tie.Need-add-n Inv-loop μ-loop
 add-n c = search needs
 
 add-end : tie.Need-add-end Inv-loop μ-loop
-add-end c = omega (arith, turn-few (c .before .before .before .before .before .loop .inv) (c .before .before .before .before .loop-test .taken) _ (c .before .before .before .count-at .ensures) _ _ (c .before .m .given .1))
+add-end c = omega (arith, turn-few (c .before .before .before .before .before .before .before .before .before .loop .inv) (c .before .before .before .before .before .before .before .before .loop-test .taken) _ (c .before .before .before .before .before .before .before .count-at .ensures) _ _ (c .before .before .before .before .before .m .given .1))
 
 class-at-requires : tie.Need-class-at-requires Inv-loop μ-loop
 class-at-requires c κs = search needs
 
 fill-requires : tie.Need-fill-requires Inv-loop μ-loop
-fill-requires c κs =
-    let p = c .before .before .before .before .before in
-    omega (arith, turn-long (p .before .before .before .loop .inv) (firstSlot (p .before .before .before .loop .n)) (p .before .before .before .loop .end))
+fill-requires c κs = omega (arith, (c .before .before .before .before .before .set-first .kept .0), (c .before .before .before .before .before .before .before .before .before .before .before .before .loop .inv .long), (c .before .before .before .before .before .before .before .before .before .before .before .before .before .before .before .pre .1))
 
 same-length-2 : tie.Need-same-length-2 Inv-loop μ-loop
-same-length-2 c =
-    let p = c .before .before .before .before .before in
-    let q = p .before .before .before .before .before in
-    turn-same (q .before .loop .inv) _ _ _ _ _ _ (c .before .before .fill .ensures)
+same-length-2 c = (c .before .before .fill .kept .0) ∙ (c .before .before .before .before .before .before .before .before .set-first .kept .0) ∙ (c .before .before .before .before .before .before .before .before .before .before .before .before .before .before .before .loop .inv .long)
 
 returns-2 : tie.Need-returns-2 Inv-loop μ-loop
 unfolding classNumber
-returns-2 c =
-    let p = c .before .before .before .before .before in
-    let q = p .before .before .before .before .before in
-    turn-last (q .before .loop .inv) (p .before .before .before .before .before .loop-test .taken) _ (p .before .before .before .before .count-at .ensures) _ _ (p .before .before .m .given .1) (λ e. (c .before .before .before .before .if1 .taken) ((c .before .before .before .before .before .class-at .ensures) ∙ e)) _ (c .before .before .fill .ensures)
+returns-2 c = turn-last (c .before .before .before .before .before .before .before .before .before .before .before .before .before .before .before .loop .inv) (c .before .before .before .before .before .before .before .before .before .before .before .before .before .before .loop-test .taken) _ (c .before .before .before .before .before .before .before .before .before .before .before .before .before .count-at .ensures) _ _ (c .before .before .before .before .before .before .before .before .before .before .before .m .given .1) _ (c .before .before .before .before .before .before .before .before .set-first .ensures) (λ e. (c .before .before .before .before .if1 .taken) ((c .before .before .before .before .before .class-at .ensures) ∙ e)) _ (c .before .before .fill .ensures)
 
 add-at : tie.Need-add-at Inv-loop μ-loop
 unfolding classNumber
-add-at c =
-    let p = c .before .before .before .before .before in
-    omega (arith, class-inside (p .before .before .before .before .before .args .s .now) _ comma (sym (c .before .class-at .ensures) ∙ (c .if1 .left)))
+add-at c = omega (arith, class-inside (c .before .before .before .before .before .before .before .before .before .before .before .before .before .before .args .s .now) _ comma (sym (c .before .class-at .ensures) ∙ (c .if1 .left)))
 
 loop-less : tie.Need-loop-less Inv-loop μ-loop
 loop-less c = search needs
 
 loop-again : tie.Need-loop-again Inv-loop μ-loop
 unfolding classNumber
-loop-again c =
-    let p = c .before .before .before .before .before in
-    turn-next (p .before .before .loop .inv) (p .before .loop-test .taken) _ (c .before .before .before .before .before .count-at .ensures) _ _ (c .before .before .before .m .given .1) (sym (c .before .class-at .ensures) ∙ (c .if1 .left))
+loop-again c = turn-next (c .before .before .before .before .before .before .before .before .before .before .before .loop .inv) (c .before .before .before .before .before .before .before .before .before .before .loop-test .taken) _ (c .before .before .before .before .before .before .before .before .before .count-at .ensures) _ _ (c .before .before .before .before .before .before .before .m .given .1) _ (c .before .before .before .before .set-first .ensures) (sym (c .before .class-at .ensures) ∙ (c .if1 .left))
 
 same-length-3 : tie.Need-same-length-3 Inv-loop μ-loop
-same-length-3 c = search needs
+same-length-3 c = (c .before .loop .inv .long)
 
 returns-3 : tie.Need-returns-3 Inv-loop μ-loop
 returns-3 c = turn-none (c .before .loop .inv) (c .loop-test .left)
@@ -110,10 +89,7 @@ lengths-spec =
     same-length
     returns
     enum-known-m
-    cast-w
-    add-w
-    mul-w
-    slice-write-w
+    set-first-requires
     add-n
     add-end
     class-at-requires

@@ -1,10 +1,11 @@
 -- The invariant: for every sheet whose arrays the words have, what is laid from the start on is laid from here on. The measure is
--- what is left of 512 cells. Assumes nothing.
+-- what is left of the cells. Assumes nothing.
 use Prim.Native.Nat.{_-_}
 use mathlib.Core.Path.{_∙_, sym}
 use native.Mathlib.Omega.{arith}
 use Rattle.specification.specs.Bytes.{comma, classNumber}
 use Rattle.text.proofs.Laws.Class.{class-inside}
+use Rattle.tables.specs.Layout.{maxCells}
 use Rattle.sheet.proofs.GivenLine.{Turning, turn-first, turn-refused, turn-cell, turn-length, turn-last, turn-next}
 use borrow.Author.Needs.{needs}
 use Rattle.sheet.proofs.given.items_at.Statement.{statement}
@@ -14,7 +15,7 @@ abbrev Inv-loop : tie.InvT-loop
 Inv-loop s from scalars arrays w₀ at₀ floor₀ w at floor = Turning s from scalars arrays w₀ w at floor
 
 abbrev μ-loop : tie.MeasureT-loop
-μ-loop s from scalars arrays w₀ at₀ floor₀ w at floor = 512 - floor
+μ-loop s from scalars arrays w₀ at₀ floor₀ w at floor = maxCells - floor
 
 loop-holds : tie.Need-loop-holds Inv-loop μ-loop
 loop-holds c = turn-first _ _ _ _ _

@@ -1,0 +1,25 @@
+// The numbers of refusals, as document 01's table "Refused sheets" has them.
+
+// a line does not begin with its key and `=`
+pub(crate) const KEY: u32 = 3;
+
+// a number is not in good form or outside its limits; the seventeenth array; the length that passes 512 cells
+pub(crate) const NUMBER: u32 = 4;
+
+// another byte than the form wants; the sheet ends early, or goes on after its end
+pub(crate) const BYTE: u32 = 5;
+
+// a token is empty, no word of the set, or of another sort than is due
+pub(crate) const WORD: u32 = 6;
+
+// a name or an element is not declared
+pub(crate) const UNDECLARED: u32 = 7;
+
+// a local stands outside its binder's F, or is bound a second time
+pub(crate) const BINDER: u32 = 8;
+
+// the 1,025th token, or nesting 65
+pub(crate) const TOO_MANY: u32 = 9;
+
+// a given item is not above the one before it
+pub(crate) const NOT_RISING: u32 = 10;
