@@ -17,7 +17,6 @@ use crate::todos;
 use tables::nodes;
 use tables::nodes::Node;
 use terms::Sides;
-use terms::tags;
 
 const LOCALS: u32 = tables::LOCALS as u32;
 
@@ -94,11 +93,8 @@ pub(crate) fn enter_some(w: &mut [u32], r: Regs) -> Regs
     ensures { λ q. ⌜ Stepped (now (w .entry)) (now (w .exit)) r q ⌝ }
 {
     let s = bounds(w, r.due.head);
-    if s.ltag != tags::VALUE {
-        return sons::err(w, r, atoms::kind_of(s.ltag, s.left));
-    }
-    if s.rtag != tags::VALUE {
-        return sons::err(w, r, atoms::kind_of(s.rtag, s.right));
+    if !atoms::valued(s) {
+        return sons::err(w, r, atoms::fault(s));
     }
     if s.right < s.left {
         return sons::fail(w, r);
@@ -124,11 +120,8 @@ pub(crate) fn enter_all(w: &mut [u32], r: Regs) -> Regs
     ensures { λ q. ⌜ Stepped (now (w .entry)) (now (w .exit)) r q ⌝ }
 {
     let s = bounds(w, r.due.head);
-    if s.ltag != tags::VALUE {
-        return sons::err(w, r, atoms::kind_of(s.ltag, s.left));
-    }
-    if s.rtag != tags::VALUE {
-        return sons::err(w, r, atoms::kind_of(s.rtag, s.right));
+    if !atoms::valued(s) {
+        return sons::err(w, r, atoms::fault(s));
     }
     if s.right < s.left {
         return sons::go_on(w, r);
