@@ -3,6 +3,7 @@
 use Prim.Native.Nat.{ℕ}
 use native.Mathlib.Omega.{arith}
 use mathlib.Core.Path.{_≡_, refl, sym, _∙_, ap, subst}
+use mathlib.Core.Bool.{Bool, true, false}
 use lib.IntN.{ℤ}
 use Rattle.specification.specs.Bytes.{Bytes}
 use Rattle.specification.specs.Lines.{Declared}
@@ -22,7 +23,7 @@ use Rattle.walker.specs.declared.Regs.{Regs}
 use Rattle.walker.specs.Frame as frames
 use Rattle.walker.specs.Path.{World}
 use Rattle.walker.specs.Sim.{tree, In}
-use Rattle.walker.specs.Steps.{Visited, OneLeaf, KindOf}
+use Rattle.walker.specs.Steps.{Visited, OneLeaf, BothValues, FaultOf}
 use Rattle.walker.specs.Registers.{errorDue}
 use Rattle.walker.proofs.Here.{terms-here}
 use Rattle.walker.proofs.Under.{TermsIn}
@@ -50,19 +51,13 @@ module _ {c : World} {o : Bytes} {w : Words} {r : Regs} (i : In c o w r) where
 
 -- ---- by the tags
 
-left-bad : (x y : Side) (k : ℕ) → ¬ (tagOf x ≡ 0) → KindOf (tagOf x) (wordOf x) k → pairOf x y ≡ faulty k
+pair-faulty : (x y : Side) (k : ℕ) → BothValues (sidesOf x y) false → FaultOf (sidesOf x y) k → pairOf x y ≡ faulty k
 unfolding pairOf
-left-bad (val z) y k n h = absurd (n refl)
-left-bad (bare p) y k n h = ap faulty (sym (h .0 refl))
-left-bad (err κ) y k n h = ap faulty (sym (h .1 (λ e. omega arith)))
-
-right-bad : (x y : Side) (k : ℕ) → tagOf x ≡ 0 → ¬ (tagOf y ≡ 0) → KindOf (tagOf y) (wordOf y) k → pairOf x y ≡ faulty k
-unfolding pairOf
-right-bad (val z) (val u) k e n h = absurd (n refl)
-right-bad (val z) (bare p) k e n h = ap faulty (sym (h .0 refl))
-right-bad (val z) (err κ) k e n h = ap faulty (sym (h .1 (λ q. omega arith)))
-right-bad (bare p) y k e n h = absurd (omega arith)
-right-bad (err κ) y k e n h = absurd (omega arith)
+pair-faulty (val z) (val u) k n h = absurd (n (refl, refl))
+pair-faulty (val z) (bare p) k n h = ap faulty (sym (h .1 refl .0 refl))
+pair-faulty (val z) (err κ) k n h = ap faulty (sym (h .1 refl .1 (λ e. omega arith)))
+pair-faulty (bare p) y k n h = ap faulty (sym (h .0 (λ e. omega arith) .0 refl))
+pair-faulty (err κ) y k n h = ap faulty (sym (h .0 (λ e. omega arith) .1 (λ e. omega arith)))
 
 -- a side with a value, whose word is w
 pub record Has (x : Side) (w : ℕ) : Type 0 where
@@ -89,6 +84,9 @@ has-place (err κ) w e h = absurd (omega arith)
 -- the value of a side by its word
 value-is : (D : Declared) (S : scopes.Scope) (α : Valuation) → scopes.Valid D α → (t : Term) → scopes.OkTerm D S t → (w : ℕ) (z : ℤ) → side D α t ≡ val z → w ≡ biased z → signed w ≡ z
 value-is D S α v t ok w z e h = ap signed h ∙ signed-biased z (sane-val D S α v t ok z e)
+
+pub both-values : {w w' : Words} {from to : ℕ} {s : Sides} → Valued w w' from to s → (b : Bool) → b ≡ true → BothValues s b → BothValues s true
+both-values v b e h = rw e at h
 
 -- ---- the two terms of the node's formula
 
@@ -128,25 +126,16 @@ module _ {w w' : Words} {r : Regs} {from to : ℕ} {s : Sides} (p : Terms w r fr
       let q = p .both c o (back i) in
       v .sides (c .declared) (i .α) (q .0) (q .1) (given (back i) from to (q .0) (q .1) (q .2))
 
-  error-leaf : Errs w r from to p → (k : ℕ) → ((c : World) (o : Bytes) (i : In c o w' r) → pairOf (left-side c o i) (right-side c o i) ≡ faulty k) → OneLeaf w' r (errorDue k (r .due .head))
+  -- not both have values
+  pub sides-error : Errs w r from to p → {k : ℕ} (b : Bool) → b ≡ false → BothValues s b → FaultOf s k → OneLeaf w' r (errorDue k (r .due .head))
   unfolding back in-spare
-  error-leaf errs k f = record {
+  sides-error errs {k} b q n h = record {
     at = record { c = p .at .c; o = p .at .o; ins = forth (p .at .ins) };
-    son = λ c o i. (frames.error k (r .due .head), errs c o (back i) k (f c o i), (refl, refl, refl), omega arith);
+    son = λ c o i.
+        let e = sides-are c o i in
+        let f = pair-faulty (left-side c o i) (right-side c o i) k (subst (λ y. BothValues y false) e (rw q at n)) (subst (λ y. FaultOf y k) e h) in
+        (frames.error k (r .due .head), errs c o (back i) k f, (refl, refl, refl), omega arith);
   }
-
-  pub left-error : Errs w r from to p → (k : ℕ) → ¬ (s .ltag ≡ valueTag) → KindOf (s .ltag) (s .left) k → OneLeaf w' r (errorDue k (r .due .head))
-  left-error errs k n h =
-      error-leaf errs k (λ c o i.
-      let e = sides-are c o i in
-      left-bad (left-side c o i) (right-side c o i) k (λ z. n (ap (λ y. y .ltag) e ∙ z)) (subst (λ y. KindOf (y .ltag) (y .left) k) e h))
-
-  pub right-error : Errs w r from to p → (k : ℕ) → s .ltag ≡ valueTag → ¬ (s .rtag ≡ valueTag) → KindOf (s .rtag) (s .right) k → OneLeaf w' r (errorDue k (r .due .head))
-  right-error errs k z n h =
-      error-leaf errs k (λ c o i.
-      let e = sides-are c o i in
-      right-bad (left-side c o i) (right-side c o i) k (sym (ap (λ y. y .ltag) e) ∙ z) (λ x. n (ap (λ y. y .rtag) e ∙ x))
-      (subst (λ y. KindOf (y .rtag) (y .right) k) e h))
 
   -- the tags and words, side by side
   module _ (c : World) (o : Bytes) (i : In c o w' r) where

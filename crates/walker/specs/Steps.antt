@@ -22,7 +22,8 @@ use Rattle.tables.specs.Codes.{someCode, allCode, firstFormula, lastFormula}
 use Rattle.sheet.specs.Tables.{Words}
 use Rattle.sheet.specs.Held.{codeAt, slotOf}
 use Rattle.sheet.specs.Codes.{relCode}
-use Rattle.terms.specs.Results.{bareTag}
+use Rattle.terms.specs.declared.Sides.{Sides}
+use Rattle.terms.specs.Results.{valueTag, bareTag}
 use Rattle.walker.specs.declared.Due.{Due}
 use Rattle.walker.specs.declared.Regs.{Regs}
 use Rattle.walker.specs.Frame.{Item, form, again, What, the, treeItems, innerIn}
@@ -150,6 +151,15 @@ pub record Rounds (w : Words) (r : Regs) (h value last : ℕ) : Type 0 where
 -- the kind of the error of a side without a value
 abbrev pub KindOf : ℕ → ℕ → ℕ → Type 0
 KindOf tag value k = (tag ≡ bareTag → k ≡ noValue) × ((tag ≡ bareTag → ⊥) → k ≡ value)
+
+-- whether both sides have values
+abbrev pub BothValues : Sides → Bool → Type 0
+BothValues s true = (s .ltag ≡ valueTag) × (s .rtag ≡ valueTag)
+BothValues s false = (s .ltag ≡ valueTag) × (s .rtag ≡ valueTag) → ⊥
+
+-- the kind of the error of two sides that have not both values: the left side comes first
+abbrev pub FaultOf : Sides → ℕ → Type 0
+FaultOf s k = ((s .ltag ≡ valueTag → ⊥) → KindOf (s .ltag) (s .left) k) × (s .ltag ≡ valueTag → KindOf (s .rtag) (s .right) k)
 
 -- a comparison of two values by their words
 abbrev pub Compares : ℕ → ℕ → ℕ → Bool → Type 0

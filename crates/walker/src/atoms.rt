@@ -3,7 +3,7 @@ ghost use Prim.Native.Nat.{_≤_, _<_};
 ghost use lib.ListN.{length, getD};
 ghost use Rattle.tables.specs.Layout.{maxCells, firstsAt};
 ghost use Rattle.tables.specs.Codes.{eqCode, neCode, geCode};
-ghost use Rattle.walker.specs.Steps.{Entered, Stepped, Assignable, Assigns, Sets, Tested, KindOf, Compares};
+ghost use Rattle.walker.specs.Steps.{Entered, Stepped, Assignable, Assigns, Sets, Tested, BothValues, KindOf, FaultOf, Compares};
 use crate::Regs;
 use crate::changes;
 use crate::dues;
@@ -13,6 +13,7 @@ use crate::todos;
 use tables::codes;
 use tables::nodes::Node;
 use tables::slots;
+use terms::Sides;
 use terms::kinds;
 use terms::tags;
 
@@ -101,14 +102,37 @@ pub(crate) fn enter_eq(w: &mut [u32], r: Regs) -> Regs
     check(w, r, s.left == s.right)
 }
 
+// Whether both sides have values.
+pub(crate) fn valued(s: Sides) -> bool
+    ensures { λ b. ⌜ BothValues s b ⌝ }
+{
+    if s.ltag != tags::VALUE {
+        return false;
+    }
+    if s.rtag != tags::VALUE {
+        return false;
+    }
+    true
+}
+
 // The kind of the error of a side without a value.
-pub(crate) fn kind_of(tag: u32, value: u32) -> u32
+fn kind_of(tag: u32, value: u32) -> u32
     ensures { λ k. ⌜ KindOf tag value k ⌝ }
 {
     if tag == tags::BARE {
         return kinds::NO_VALUE;
     }
     value
+}
+
+// The kind of the error of two sides that have not both values: the left side comes first.
+pub(crate) fn fault(s: Sides) -> u32
+    ensures { λ k. ⌜ FaultOf s k ⌝ }
+{
+    if s.ltag != tags::VALUE {
+        return kind_of(s.ltag, s.left);
+    }
+    kind_of(s.rtag, s.right)
 }
 
 fn test(code: u32, x: u32, y: u32) -> bool
@@ -131,11 +155,8 @@ pub(crate) fn enter_compare(w: &mut [u32], r: Regs, code: u32) -> Regs
     let h = r.due.head;
     let e = tables::end(w, h);
     let s = terms::evaluation::sides(w, h + 1, e);
-    if s.ltag != tags::VALUE {
-        return sons::err(w, r, kind_of(s.ltag, s.left));
-    }
-    if s.rtag != tags::VALUE {
-        return sons::err(w, r, kind_of(s.rtag, s.right));
+    if !valued(s) {
+        return sons::err(w, r, fault(s));
     }
     check(w, r, test(code, s.left, s.right))
 }

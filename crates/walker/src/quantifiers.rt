@@ -18,7 +18,6 @@ use tables::nodes;
 use tables::nodes::Node;
 use tables::slots;
 use terms::Sides;
-use terms::tags;
 
 // After the token of a quantifier comes that of its local, and then its bounds or its formula.
 pub(crate) const AFTER_LOCAL: u32 = 2;
@@ -91,11 +90,8 @@ pub(crate) fn enter_some(w: &mut [u32], r: Regs) -> Regs
     ensures { λ q. ⌜ Stepped (now (w .entry)) (now (w .exit)) r q ⌝ }
 {
     let s = bounds(w, r.due.head);
-    if s.ltag != tags::VALUE {
-        return sons::err(w, r, atoms::kind_of(s.ltag, s.left));
-    }
-    if s.rtag != tags::VALUE {
-        return sons::err(w, r, atoms::kind_of(s.rtag, s.right));
+    if !atoms::valued(s) {
+        return sons::err(w, r, atoms::fault(s));
     }
     if s.right < s.left {
         return sons::fail(w, r);
@@ -121,11 +117,8 @@ pub(crate) fn enter_all(w: &mut [u32], r: Regs) -> Regs
     ensures { λ q. ⌜ Stepped (now (w .entry)) (now (w .exit)) r q ⌝ }
 {
     let s = bounds(w, r.due.head);
-    if s.ltag != tags::VALUE {
-        return sons::err(w, r, atoms::kind_of(s.ltag, s.left));
-    }
-    if s.rtag != tags::VALUE {
-        return sons::err(w, r, atoms::kind_of(s.rtag, s.right));
+    if !atoms::valued(s) {
+        return sons::err(w, r, atoms::fault(s));
     }
     if s.right < s.left {
         return sons::go_on(w, r);
