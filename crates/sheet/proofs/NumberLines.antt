@@ -15,6 +15,7 @@ use Rattle.specification.specs.Bytes.{Bytes, pick, between, Class, feed, classN
 use Rattle.specification.specs.Number.{natural, integer, in32}
 use Rattle.specification.specs.Parser.{Reader, Read, refused, found, Parser, present, require, andThen, _>>_, give, mark, exactly, taken}
 use Rattle.specification.specs.Lines.{index, count, value, line}
+use Rattle.specification.proofs.Laws.Contradiction.{contradiction}
 use Rattle.text.specs.Class.{headClass, classAt}
 use Rattle.text.specs.Decimal.{capped, worded}
 use Rattle.text.specs.declared.Decimal.the-variants as decimal
@@ -61,12 +62,12 @@ module _ (key v : Bytes) (i : ℕ) where
 pub begins-long : (k bs : Bytes) → begins k bs ≡ true → length k ≤ length bs
 unfolding begins
 begins-long [] bs p = omega arith
-begins-long (k ∷ ks) [] p = let z : _≡_ {A = ℕ} 0 1 = cc in omega arith
+begins-long (k ∷ ks) [] p = contradiction cc
 begins-long (k ∷ ks) (b ∷ bs) p = go (eqb k b) p (begins-long ks bs)
   where
     go : (t : Bool) → (t && begins ks bs) ≡ true → (begins ks bs ≡ true → length ks ≤ length bs) → suc (length ks) ≤ suc (length bs)
     go true p ih = omega (arith, ih p)
-    go false p ih = let z : _≡_ {A = ℕ} 0 1 = cc in omega arith
+    go false p ih = contradiction cc
 
 -- a key that stands ends within the sheet
 pub key-fits : (s key : Bytes) (at : ℕ) → begins key (drop at s) ≡ true → length key ≤ length s - at
@@ -83,10 +84,10 @@ pub record Origin {A B : Type 0} (f : A → B) (b : B) (r : Reader) (x : Read A)
 module _ {A B : Type 0} (f : A → B) where
   pub mapped-refused : (k p : ℕ) (x : Read A) → refused k p ≡ mapped f x → x ≡ refused k p
   mapped-refused k p (refused i q) e = cc
-  mapped-refused k p (found a r) e = let z : _≡_ {A = ℕ} 0 1 = cc in absurd (omega arith)
+  mapped-refused k p (found a r) e = contradiction cc
 
   pub mapped-found : (b : B) (r : Reader) (x : Read A) → found b r ≡ mapped f x → Origin f b r x
-  mapped-found b r (refused i q) e = let z : _≡_ {A = ℕ} 0 1 = cc in absurd (omega arith)
+  mapped-found b r (refused i q) e = contradiction cc
   mapped-found b r (found a q) e = record { origin = a; is = cc; made = cc }
 
 -- ---- a reader goes on
@@ -142,14 +143,14 @@ module _ (s : Bytes) (at : ℕ) (d : Bytes) (is : d ≡ run inNumber (drop at s)
     where
       go : (o : Option ℕ) → decimal.Malformed ≡ capped o → refused 4 at ≡ heldIndex (present 4 at o (lineAt s (at + length d)))
       go none e = refl
-      go (some k) e = let z : _≡_ {A = ℕ} 0 1 = cc in absurd (omega arith)
+      go (some k) e = contradiction cc
 
   pub index-is : (n m : ℕ) → m ≡ min n 4294967295 → decimal.Is n ≡ capped (natural d)
       → found m (lineAt s (at + length d)) ≡ heldIndex (index (lineAt s at))
   index-is n m held e = rw index-taken (go (natural d) e)
     where
       go : (o : Option ℕ) → decimal.Is n ≡ capped o → found m (lineAt s (at + length d)) ≡ heldIndex (present 4 at o (lineAt s (at + length d)))
-      go none e = let z : _≡_ {A = ℕ} 0 1 = cc in absurd (omega arith)
+      go none e = contradiction cc
       go (some k) e =
           let l : n ≡ min k 4294967296 = cc in
           let q : m ≡ min k 4294967295 = omega arith in
@@ -163,7 +164,7 @@ module _ (s : Bytes) (at : ℕ) (d : Bytes) (is : d ≡ run inNumber (drop at s)
   value-bad e = rw value-taken (go (integer d) e)
     where
       by-range : (z : ℤ) (t : Bool) → word.Bad ≡ pick t (word.Is (biased z)) word.Bad → refused 4 at ≡ require t 4 at (give z) (lineAt s (at + length d))
-      by-range z true e = let z : _≡_ {A = ℕ} 0 1 = cc in absurd (omega arith)
+      by-range z true e = contradiction cc
       by-range z false e = refl
 
       go : (o : Option ℤ) → word.Bad ≡ worded o → refused 4 at ≡ andThen (λ z. require (in32 z) 4 at (give z)) (present 4 at o (lineAt s (at + length d)))
@@ -178,11 +179,11 @@ module _ (s : Bytes) (at : ℕ) (d : Bytes) (is : d ≡ run inNumber (drop at s)
       by-range z true i e =
           let q : w ≡ biased z = cc in
           rw (q, signed-biased z (rw i tt))
-      by-range z false i e = let z : _≡_ {A = ℕ} 0 1 = cc in absurd (omega arith)
+      by-range z false i e = contradiction cc
 
       go : (o : Option ℤ) → word.Is w ≡ worded o
           → found (signed w) (lineAt s (at + length d)) ≡ andThen (λ z. require (in32 z) 4 at (give z)) (present 4 at o (lineAt s (at + length d)))
-      go none e = let z : _≡_ {A = ℕ} 0 1 = cc in absurd (omega arith)
+      go none e = contradiction cc
       go (some z) e = by-range z (in32 z) refl e
 
 -- ---- counts: limits below 2^32 - 1 are kept by the held index
