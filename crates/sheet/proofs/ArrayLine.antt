@@ -25,7 +25,8 @@ use Rattle.sheet.specs.Reader.{lineAt}
 use Rattle.sheet.specs.Tables.{Words, laidFirsts, laidArrays}
 use Rattle.sheet.specs.Answers.{mapped, countRead}
 use Rattle.sheet.specs.Firsts.{laidOn, Table, tabled, arraysValue, arraysRead, ArraysFound}
-use Rattle.sheet.proofs.NumberLines.{Origin, mapped-refused, mapped-found, exactly-yes, exactly-no, mark-yes, closed, closed-yes, closed-no}
+use Rattle.sheet.proofs.Answers.{Origin, mapped-refused, mapped-found}
+use Rattle.sheet.proofs.Keys.{exactly-yes, exactly-no, mark-yes, closed, closed-yes, closed-no}
 
 -- ---- first cells
 

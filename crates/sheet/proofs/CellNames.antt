@@ -23,7 +23,8 @@ use Rattle.sheet.specs.Reader.{lineAt}
 use Rattle.sheet.specs.Tables.{Words}
 use Rattle.sheet.specs.Answers.{mapped, heldIndex, indexRead}
 use Rattle.sheet.specs.Items.{heldName, heldNames, elementAfter, scalarIn, elementIn, Declares}
-use Rattle.sheet.proofs.NumberLines.{mapped-refused, mapped-found, exactly-yes, exactly-no, mark-yes, mark-no}
+use Rattle.sheet.proofs.Answers.{mapped-refused, mapped-found}
+use Rattle.sheet.proofs.Keys.{exactly-yes, exactly-no, mark-yes, mark-no}
 use Rattle.specification.proofs.Laws.Elements.{first-next, first-limit, scalar-declared, element-declared}
 use Rattle.tables.specs.Layout.{maxCells, firstAt}
 

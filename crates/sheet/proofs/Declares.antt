@@ -19,7 +19,7 @@ use Rattle.sheet.specs.Tables.{Words, laidFirsts, laidArrays}
 use Rattle.sheet.specs.Held.{ArraysAt}
 use Rattle.sheet.specs.Firsts.{ArraysFound, arraysValue}
 use Rattle.sheet.specs.Items.{Declares}
-use Rattle.sheet.proofs.NumberLines.{closed}
+use Rattle.sheet.proofs.Keys.{closed}
 use Rattle.sheet.proofs.ArrayLine.{count-few}
 
 -- ---- limits

@@ -24,7 +24,8 @@ use Rattle.sheet.specs.Reader.{lineAt}
 use Rattle.sheet.specs.Tables.{Words}
 use Rattle.sheet.specs.Answers.{integerRead}
 use Rattle.sheet.specs.Items.{heldName, heldNames, nameRead, scalarIn, elementIn, itemOf, judged, afterName, entryRead, Declares}
-use Rattle.sheet.proofs.NumberLines.{mapped-refused, mapped-found, mark-yes, mark-no}
+use Rattle.sheet.proofs.Answers.{mapped-refused, mapped-found}
+use Rattle.sheet.proofs.Keys.{mark-yes, mark-no}
 use Rattle.sheet.proofs.CellNames.{cellIn, cell-below, held-scalar, held-element}
 
 -- ---- the rest of an item after its name, which ends at e
