@@ -13,6 +13,7 @@ use borrow.Author.Tests.{leb-true}
 use Rattle.specification.specs.Bytes.{Bytes, bytes, pick, between, comma, feed, classNumber, begins}
 use Rattle.specification.specs.Parser.{Reader, Read, refused, found, require, andThen, _>>_, give, next, mark}
 use Rattle.specification.specs.Lines.{index, count, lengths, arraysLine, sum, Declared, firstOf}
+use Rattle.specification.proofs.Laws.Contradiction.{contradiction}
 use Rattle.text.specs.Class.{classAt}
 use Rattle.text.proofs.Laws.Class.{class-next, class-not-next}
 use Rattle.tables.specs.Layout.{maxArrays, maxCells, firstSlot}
@@ -24,7 +25,8 @@ use Rattle.sheet.specs.Reader.{lineAt}
 use Rattle.sheet.specs.Tables.{Words, laidFirsts, laidArrays}
 use Rattle.sheet.specs.Answers.{mapped, countRead}
 use Rattle.sheet.specs.Firsts.{laidOn, Table, tabled, arraysValue, arraysRead, ArraysFound}
-use Rattle.sheet.proofs.NumberLines.{Origin, mapped-refused, mapped-found, exactly-yes, exactly-no, mark-yes, closed, closed-yes, closed-no}
+use Rattle.sheet.proofs.Answers.{Origin, mapped-refused, mapped-found}
+use Rattle.sheet.proofs.Keys.{exactly-yes, exactly-no, mark-yes, closed, closed-yes, closed-no}
 
 -- ---- first cells
 
@@ -83,11 +85,11 @@ count-few lo hi m r r′ e = by-index (index r) e
   where
     by-limits : (n : ℕ) (q : Reader) (t u : Bool) → leb lo n ≡ t → leb n hi ≡ u → found m r′ ≡ require (t && u) 4 (r .place) (give n) q → (lo ≤ m) × (m ≤ hi)
     by-limits n q true true l h e = let z : m ≡ n = cc in (omega (arith, leb-true lo n l), omega (arith, leb-true n hi h))
-    by-limits n q true false l h e = let z : _≡_ {A = ℕ} 0 1 = cc in absurd (omega arith)
-    by-limits n q false u l h e = let z : _≡_ {A = ℕ} 0 1 = cc in absurd (omega arith)
+    by-limits n q true false l h e = contradiction cc
+    by-limits n q false u l h e = contradiction cc
 
     by-index : (x : Read ℕ) → found m r′ ≡ andThen (λ n. require (between lo hi n) 4 (r .place) (give n)) x → (lo ≤ m) × (m ≤ hi)
-    by-index (refused k p) e = let z : _≡_ {A = ℕ} 0 1 = cc in absurd (omega arith)
+    by-index (refused k p) e = contradiction cc
     by-index (found n q) e = by-limits n q (leb lo n) (leb n hi) refl refl e
 
 -- what is laid from the start on is laid from here on

@@ -12,6 +12,7 @@ use Rattle.specification.specs.Bytes.{Bytes, bytes, pick, point, classNumber, b
 use Rattle.specification.specs.Parser.{Read, refused, found, Parser, andThen, _>>=_, _>>_, give, mark}
 use Rattle.specification.specs.Lines.{index, Declared, cells, firstOf, lengthOf, CellName, scalar, element, isDeclared, cellOf}
 use Rattle.specification.specs.Given.{scalarName, elementName, name}
+use Rattle.specification.proofs.Laws.Contradiction.{contradiction}
 use Rattle.text.specs.Class.{classAt}
 use Rattle.sheet.specs.declared.lines.Index.{Index}
 use Rattle.sheet.specs.declared.lines.Index.the-variants as indexed
@@ -22,7 +23,8 @@ use Rattle.sheet.specs.Reader.{lineAt}
 use Rattle.sheet.specs.Tables.{Words}
 use Rattle.sheet.specs.Answers.{mapped, heldIndex, indexRead}
 use Rattle.sheet.specs.Items.{heldName, heldNames, elementAfter, scalarIn, elementIn, Declares}
-use Rattle.sheet.proofs.NumberLines.{mapped-refused, mapped-found, exactly-yes, exactly-no, mark-yes, mark-no}
+use Rattle.sheet.proofs.Answers.{mapped-refused, mapped-found}
+use Rattle.sheet.proofs.Keys.{exactly-yes, exactly-no, mark-yes, mark-no}
 use Rattle.specification.proofs.Laws.Elements.{first-next, first-limit, scalar-declared, element-declared}
 use Rattle.tables.specs.Layout.{maxCells, firstAt}
 
@@ -113,7 +115,7 @@ module _ (D : Declared) where
     where
       go : (t : Bool) → isDeclared D n ≡ t → pick t (cell.Is (cellOf D n)) cell.Undeclared ≡ cell.Is c → c < cells D
       go true d e = let q : cellOf D n ≡ c = cc in omega (arith, below n d)
-      go false d e = let z : _≡_ {A = ℕ} 0 1 = cc in absurd (omega arith)
+      go false d e = contradiction cc
 
 module _ {D : Declared} {scalars arrays : ℕ} {w : Words} (d : Declares D scalars arrays w) where
   scalars-few : D .scalars ≤ maxCells
@@ -150,11 +152,11 @@ module _ {D : Declared} {scalars arrays : ℕ} {w : Words} (d : Declares D scala
       go false h =
           let l : D .scalars ≤ m = ltb-false m (D .scalars) h in
           rw (le-ltb n scalars (omega (arith, q, scalars-few, d .scalar)))
-  held-scalar n (element a i) e = let z : _≡_ {A = ℕ} 0 1 = cc in absurd (omega arith)
+  held-scalar n (element a i) e = contradiction cc
 
   pub held-element : (a i : ℕ) (c : CellName) → heldName c ≡ element a i → elementIn arrays w a i ≡ cellIn D c
   unfolding isDeclared cellOf elementIn
-  held-element a i (scalar m) e = let z : _≡_ {A = ℕ} 0 1 = cc in absurd (omega arith)
+  held-element a i (scalar m) e = contradiction cc
   held-element a i (element b j) e = by-array (ltb a arrays) refl
     where
       qa : a ≡ min b 4294967295

@@ -12,13 +12,14 @@ use borrow.Author.Tests.{leb-true, leb-false}
 use Rattle.specification.specs.Bytes.{Bytes, bytes, pick, comma, feed}
 use Rattle.specification.specs.Parser.{Reader, Read, refused, found, andThen, _>>_, give, next, mark, key}
 use Rattle.specification.specs.Lines.{count, lengths, arraysLine, sum, Declared, cells, firstOf}
+use Rattle.specification.proofs.Laws.Contradiction.{contradiction}
 use Rattle.tables.specs.Layout.{maxArrays, maxCells, firstSlot, pathAt}
 use Rattle.sheet.specs.Reader.{lineAt}
 use Rattle.sheet.specs.Tables.{Words, laidFirsts, laidArrays}
 use Rattle.sheet.specs.Held.{ArraysAt}
 use Rattle.sheet.specs.Firsts.{ArraysFound, arraysValue}
 use Rattle.sheet.specs.Items.{Declares}
-use Rattle.sheet.proofs.NumberLines.{closed}
+use Rattle.sheet.proofs.Keys.{closed}
 use Rattle.sheet.proofs.ArrayLine.{count-few}
 
 -- ---- limits
@@ -32,7 +33,7 @@ module _ (ns : List ℕ) (r′ : Reader) where
   few-more : (k left n : ℕ) → n ≤ left → (x : Read (List ℕ)) → ((ms : List ℕ) (q : Reader) → x ≡ found ms q → Few k (left - n) ms)
       → andThen (λ ms. give (n ∷ ms)) x ≡ found ns r′ → Few (suc k) left ns
   unfolding sum
-  few-more k left n l (refused i p) h e = let z : _≡_ {A = ℕ} 0 1 = cc in absurd (omega arith)
+  few-more k left n l (refused i p) h e = contradiction cc
   few-more k left n l (found ms q) h e =
       let same : n ∷ ms ≡ ns = cc in
       let f = h ms q refl in
@@ -44,11 +45,11 @@ Each k left = (r : Reader) (ms : List ℕ) (q : Reader) → lengths k left r ≡
 
 lengths-few : (k left : ℕ) (r : Reader) (ns : List ℕ) (r′ : Reader) → lengths k left r ≡ found ns r′ → Few k left ns
 unfolding lengths sum
-lengths-few zero left r ns r′ e = let z : _≡_ {A = ℕ} 0 1 = cc in absurd (omega arith)
+lengths-few zero left r ns r′ e = contradiction cc
 lengths-few (suc k) left r ns r′ e = by-count (λ n. lengths-few k (left - n)) (count 1 left r) refl e
   where
     by-comma : (n : ℕ) → Each k (left - n) → (x : Read (Unit {0})) (ms : List ℕ) (q : Reader) → andThen (λ u. lengths k (left - n)) x ≡ found ms q → Few k (left - n) ms
-    by-comma n ih (refused i p) ms q e = let z : _≡_ {A = ℕ} 0 1 = cc in absurd (omega arith)
+    by-comma n ih (refused i p) ms q e = contradiction cc
     by-comma n ih (found u r) ms q e = ih r ms q e
 
     by-next : (n : ℕ) → Each k (left - n) → (r : Reader) (t : Bool) (ms : List ℕ) (q : Reader) → pick t (mark comma >> lengths k (left - n)) (give []) r ≡ found ms q → Few k (left - n) ms
@@ -58,7 +59,7 @@ lengths-few (suc k) left r ns r′ e = by-count (λ n. lengths-few k (left - n))
     by-count : ((n : ℕ) → Each k (left - n)) → (x : Read ℕ) → count 1 left r ≡ x
         → andThen (λ n q. andThen (λ ms. give (n ∷ ms)) (pick (next comma (q .rest)) (mark comma >> lengths k (left - n)) (give []) q)) x ≡ found ns r′
         → Few (suc k) left ns
-    by-count ih (refused i p) c e = let z : _≡_ {A = ℕ} 0 1 = cc in absurd (omega arith)
+    by-count ih (refused i p) c e = contradiction cc
     by-count ih (found n q) c e =
         few-more ns r′ k left n (count-few 1 left n r q (sym c) .1)
         (pick (next comma (q .rest)) (mark comma >> lengths k (left - n)) (give []) q) (by-next n (ih n) q (next comma (q .rest))) e
@@ -68,11 +69,11 @@ unfolding arraysLine sum
 arrays-few scalars r ns r′ e = by-key (key (bytes "arrays=") r) e
   where
     by-feed : (ms : List ℕ) (x : Read (Unit {0})) → andThen (λ u. give ms) x ≡ found ns r′ → ms ≡ ns
-    by-feed ms (refused i p) e = let z : _≡_ {A = ℕ} 0 1 = cc in absurd (omega arith)
+    by-feed ms (refused i p) e = contradiction cc
     by-feed ms (found u q) e = cc
 
     by-lengths : (x : Read (List ℕ)) → ((ms : List ℕ) (q : Reader) → x ≡ found ms q → Few maxArrays (maxCells - scalars) ms) → closed x ≡ found ns r′ → Few maxArrays (maxCells - scalars) ns
-    by-lengths (refused i p) h e = let z : _≡_ {A = ℕ} 0 1 = cc in absurd (omega arith)
+    by-lengths (refused i p) h e = contradiction cc
     by-lengths (found ms q) h e = let same = by-feed ms (mark feed q) e in rw (sym same) (h ms q refl)
 
     by-next : (q : Reader) (t : Bool) (ms : List ℕ) (q′ : Reader) → pick t (give []) (lengths maxArrays (maxCells - scalars)) q ≡ found ms q′ → Few maxArrays (maxCells - scalars) ms
@@ -80,7 +81,7 @@ arrays-few scalars r ns r′ e = by-key (key (bytes "arrays=") r) e
     by-next q false ms q′ e = lengths-few maxArrays (maxCells - scalars) q ms q′ e
 
     by-key : (x : Read (Unit {0})) → andThen (λ u q. closed (arraysValue scalars q)) x ≡ found ns r′ → Few maxArrays (maxCells - scalars) ns
-    by-key (refused i p) e = let z : _≡_ {A = ℕ} 0 1 = cc in absurd (omega arith)
+    by-key (refused i p) e = contradiction cc
     by-key (found u q) e = by-lengths (arraysValue scalars q) (by-next q (next feed (q .rest))) e
 
 -- ---- first cells in their places

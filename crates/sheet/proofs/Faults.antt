@@ -10,6 +10,7 @@ use borrow.Author.Tests.{eqb-true, ltb-true}
 use Rattle.specification.specs.Bytes.{pick, between}
 use Rattle.specification.specs.Lines.{Declared}
 use Rattle.specification.specs.Formula.{Locals, has}
+use Rattle.specification.proofs.Laws.Contradiction.{contradiction}
 use Rattle.tables.specs.Layout.{maxTokens}
 use Rattle.tables.specs.Codes.{firstFormula, lastFormula, firstTerm, lastTerm, localCode, badConstantCode}
 use Rattle.sheet.specs.declared.Token.{Token}
@@ -79,7 +80,7 @@ suits-local (dueEx k S) c h e = eqb-true c localCode e
 suits-local (dueRange k S) c h e = eqb-true c localCode e
 
 some-room : (k : ℕ) → eqb k 0 ≡ false → 0 < k
-some-room zero e = let z : _≡_ {A = ℕ} 0 1 = cc in absurd (omega arith)
+some-room zero e = contradiction cc
 some-room (suc k) e = omega arith
 
 pub record Stands (l : Limits) (d : Due) (n : ℕ) (t : Token) : Type 0 where

@@ -11,6 +11,7 @@ use Rattle.specification.specs.Parser.{Reader, Read, refused, found, give, andT
 use Rattle.specification.specs.Lines.{Declared}
 use Rattle.specification.specs.Ast.{Formula}
 use Rattle.specification.specs.Formula.{Locals, formula}
+use Rattle.specification.proofs.Laws.Contradiction.{contradiction}
 use Rattle.text.specs.Class.{classAt}
 use Rattle.text.proofs.Laws.Class.{class-next, class-not-next}
 use Rattle.tables.specs.Layout.{maxNesting, pathAt}
@@ -34,7 +35,7 @@ use Rattle.sheet.proofs.Subtrees.{beside-tokens-in}
 
 refused-back : (x : Read Formula) (n p : ℕ) → andThen (λ F. give (formulaTokens F)) x ≡ refused n p → x ≡ refused n p
 refused-back (refused m q) n p e = cc
-refused-back (found F r) n p e = let z : _≡_ {A = ℕ} 0 1 = cc in absurd (omega arith)
+refused-back (found F r) n p e = contradiction cc
 
 record Whole (x : Read Formula) (ts : List Token) (r : Reader) : Type 0 where
   formula : Formula
@@ -42,7 +43,7 @@ record Whole (x : Read Formula) (ts : List Token) (r : Reader) : Type 0 where
   tokens : formulaTokens formula ≡ ts
 
 found-back : (x : Read Formula) (ts : List Token) (r : Reader) → andThen (λ F. give (formulaTokens F)) x ≡ found ts r → Whole x ts r
-found-back (refused m q) ts r e = let z : _≡_ {A = ℕ} 0 1 = cc in absurd (omega arith)
+found-back (refused m q) ts r e = contradiction cc
 found-back (found F r′) ts r e = record { formula = F; is = cc; tokens = cc }
 
 -- what follows the formula

@@ -10,6 +10,7 @@ use Rattle.specification.specs.Bytes.{Bytes, pick, colon, classNumber}
 use Rattle.specification.specs.Parser.{Reader, Read, refused, found, require, andThen, _>>=_, _>>_, give, mark}
 use Rattle.specification.specs.Lines.{value, Declared, cells, CellName, scalar, element, isDeclared, cellOf}
 use Rattle.specification.specs.Given.{Item, name, item}
+use Rattle.specification.proofs.Laws.Contradiction.{contradiction}
 use Rattle.text.specs.Class.{classAt}
 use Rattle.values.specs.Word.{signed}
 use Rattle.sheet.specs.declared.lines.Integer.{Integer}
@@ -23,7 +24,8 @@ use Rattle.sheet.specs.Reader.{lineAt}
 use Rattle.sheet.specs.Tables.{Words}
 use Rattle.sheet.specs.Answers.{integerRead}
 use Rattle.sheet.specs.Items.{heldName, heldNames, nameRead, scalarIn, elementIn, itemOf, judged, afterName, entryRead, Declares}
-use Rattle.sheet.proofs.NumberLines.{mapped-refused, mapped-found, mark-yes, mark-no}
+use Rattle.sheet.proofs.Answers.{mapped-refused, mapped-found}
+use Rattle.sheet.proofs.Keys.{mark-yes, mark-no}
 use Rattle.sheet.proofs.CellNames.{cellIn, cell-below, held-scalar, held-element}
 
 -- ---- the rest of an item after its name, which ends at e
@@ -67,18 +69,18 @@ after-found p floor c r r′ i e = by-colon (mark colon r) e
     by-floor n z q true l e =
         let same : i ≡ itemOf n z = cc in
         (ap (λ (j : Item). cell.Is (j .cell)) (sym same), omega (arith, leb-true floor n l, ap (λ (j : Item). j .cell) same))
-    by-floor n z q false l e = let z : _≡_ {A = ℕ} 0 1 = cc in absurd (omega arith)
+    by-floor n z q false l e = contradiction cc
 
     by-cell : (c : Cell) (z : ℤ) (q : Reader) → found i r′ ≡ judged p floor c z q → (c ≡ cell.Is (i .cell)) × (floor ≤ i .cell)
-    by-cell cell.Undeclared z q e = let z : _≡_ {A = ℕ} 0 1 = cc in absurd (omega arith)
+    by-cell cell.Undeclared z q e = contradiction cc
     by-cell (cell.Is n) z q e = by-floor n z q (leb floor n) refl e
 
     by-value : (x : Read ℤ) → found i r′ ≡ andThen (judged p floor c) x → (c ≡ cell.Is (i .cell)) × (floor ≤ i .cell)
-    by-value (refused k q) e = let z : _≡_ {A = ℕ} 0 1 = cc in absurd (omega arith)
+    by-value (refused k q) e = contradiction cc
     by-value (found z q) e = by-cell c z q e
 
     by-colon : (x : Read (Unit {0})) → found i r′ ≡ andThen (λ u. value >>= judged p floor c) x → (c ≡ cell.Is (i .cell)) × (floor ≤ i .cell)
-    by-colon (refused k q) e = let z : _≡_ {A = ℕ} 0 1 = cc in absurd (omega arith)
+    by-colon (refused k q) e = contradiction cc
     by-colon (found u q) e = by-value (value q) e
 
 -- ---- an item by its name
@@ -104,7 +106,7 @@ module _ (D : Declared) (floor : ℕ) (r : Reader) where
   item-cell i r′ e = go (name r) (e ∙ item-named)
     where
       go : (x : Read CellName) → found i r′ ≡ andThen (λ n. afterName (r .place) floor (cellIn D n)) x → (floor ≤ i .cell) × (i .cell < cells D)
-      go (refused k q) e = let z : _≡_ {A = ℕ} 0 1 = cc in absurd (omega arith)
+      go (refused k q) e = contradiction cc
       go (found n q) e =
           let h = after-found (r .place) floor (cellIn D n) q r′ i e in
           (h .1, cell-below D n (i .cell) (h .0))

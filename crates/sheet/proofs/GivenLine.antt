@@ -24,7 +24,8 @@ use Rattle.sheet.specs.declared.given.Given.the-variants as given
 use Rattle.sheet.specs.Reader.{lineAt}
 use Rattle.sheet.specs.Tables.{Words, laidGiven}
 use Rattle.sheet.specs.Items.{itemOf, entryRead, Declares, Arranged, laidItems, givenRead, givenValue, GivenFound}
-use Rattle.sheet.proofs.NumberLines.{Origin, mapped-refused, mapped-found, exactly-yes, exactly-no, mark-yes, closed, closed-yes, closed-no}
+use Rattle.sheet.proofs.Answers.{Origin, mapped-refused, mapped-found}
+use Rattle.sheet.proofs.Keys.{exactly-yes, exactly-no, mark-yes, closed, closed-yes, closed-no}
 use Rattle.sheet.proofs.GivenItems.{item-cell}
 
 -- ---- a cell that is laid

@@ -7,6 +7,7 @@ use mathlib.Core.Logic.{_≢_}
 use mathlib.Core.List.{List, [], _∷_, _++_}
 use lib.ListN.{length, getD, set, length-set, length-append}
 use lib.Seq.{getD-set-same, getD-set-other}
+use Rattle.specification.proofs.Laws.Contradiction.{contradiction}
 use Rattle.tables.specs.Layout.{tokenSlot}
 use Rattle.tables.specs.Codes.{trueCode}
 use Rattle.sheet.specs.declared.Token.{Token}
@@ -135,7 +136,7 @@ module _ (w : Words) where
 
   first-end : (xs rest : List Token) (i : ℕ) → Subtrees 1 xs → Along (Entry w) i (xs ++ rest) → endAt w i ≡ i + length xs
   unfolding Along after
-  first-end [] rest i s a = let z : _≡_ {A = ℕ} 0 1 = ap length (s (token trueCode 0 ∷ []) 0) in absurd (omega arith)
+  first-end [] rest i s a = contradiction (ap length (s (token trueCode 0 ∷ []) 0))
   first-end (t ∷ xs) rest i s a =
       let f : after (xs ++ rest) (arity (t .code)) ≡ rest =
       ap (after (xs ++ rest)) (sym (add-zero (arity (t .code)))) ∙ after-subtree (t ∷ xs) rest s in

@@ -1,6 +1,5 @@
 -- What is left to read, after the tokens that were read: the first that is due, and then the others. Assumes nothing.
 use Prim.Native.Nat.{ℕ}
-use native.Mathlib.Omega.{arith}
 use mathlib.Core.Path.{_≡_, refl, sym, _∙_, ap}
 use mathlib.Core.Bool.{true, false}
 use mathlib.Core.List.{List, [], _∷_, _++_, append-nil, append-assoc}
@@ -9,6 +8,7 @@ use Rattle.specification.specs.Parser.{Reader, Read, refused, found, Parser, gi
 use Rattle.specification.specs.Lines.{Declared}
 use Rattle.specification.specs.Ast.{Formula}
 use Rattle.specification.specs.Formula.{operand, formula}
+use Rattle.specification.proofs.Laws.Contradiction.{contradiction}
 use Rattle.tables.specs.Layout.{maxNesting}
 use Rattle.sheet.specs.declared.Token.{Token}
 use Rattle.sheet.specs.Codes.{formulaTokens}
@@ -42,12 +42,12 @@ module _ {A : Type 0} where
 -- what was read, from its tokens
 pub spelled-found : (x : Read Formula) {ts : List Token} {r : Reader} → andThen (λ F. give (formulaTokens F)) x ≡ found ts r →
     (F : Formula) × (x ≡ found F r) × (formulaTokens F ≡ ts)
-spelled-found (refused n p) e = let z : _≡_ {A = ℕ} 0 1 = cc in absurd (omega arith)
+spelled-found (refused n p) e = contradiction cc
 spelled-found (found F r) e = (F, cc, cc)
 
 pub spelled-refused : (x : Read Formula) {n p : ℕ} → andThen (λ F. give (formulaTokens F)) x ≡ refused n p → x ≡ refused n p
 spelled-refused (refused n p) e = cc
-spelled-refused (found F r) e = let z : _≡_ {A = ℕ} 0 1 = cc in absurd (omega arith)
+spelled-refused (found F r) e = contradiction cc
 
 -- tokens that were read before go in front
 regroup : (ts us : List Token) (x : Read (List Token)) →

@@ -21,6 +21,8 @@ pub mod Tables
 pub mod ReadSheet
 pub mod Shallow
 -- the first five lines
+pub mod Keys
+pub mod Answers
 pub mod NumberLines
 pub mod ArrayLine
 pub mod CellNames
@@ -43,4 +45,5 @@ pub mod FormulaRest
 pub mod SixLines
 pub mod Cleared
 -- for the walks by hand
+pub mod Standing
 pub mod Again

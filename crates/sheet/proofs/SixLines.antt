@@ -8,8 +8,8 @@ use lib.ListN.{length, replicate, length-replicate}
 use lib.Dec.{eqb}
 use Rattle.specification.specs.Bytes.{Bytes, bytes, feed}
 use Rattle.specification.specs.Parser.{Reader, Read, refused, found, give, andThen, _>>=_, _>>_, mark, key, finish}
-use Rattle.specification.specs.Lines.{line, Declared, arraysLine}
-use Rattle.specification.specs.Given.{Item, givenLine}
+use Rattle.specification.specs.Lines.{line, Declared}
+use Rattle.specification.specs.Given.{Item}
 use Rattle.specification.specs.Ast.{Formula}
 use Rattle.specification.specs.Formula.{formula}
 use Rattle.specification.specs.Sheet.{Sheet, sheet}
@@ -31,9 +31,9 @@ use Rattle.sheet.specs.Reader.{lineAt}
 use Rattle.sheet.specs.Tables.{Words, laidArrays, laidGiven, tables}
 use Rattle.sheet.specs.Answers.{countRead}
 use Rattle.sheet.specs.Firsts.{ArraysFound, ArraysDone}
-use Rattle.sheet.specs.Items.{Declares, GivenFound, GivenDone}
-use Rattle.sheet.specs.FormulaLine.{formulaRest, Small, Counts, Laid, LineRead}
-use Rattle.sheet.specs.Whole.{sheetOf, fromFormula, fromGiven, declaring, fromArrays, fromLocals, fromScalars, numberOf, withNumber, afterNumbers, Numbered, NumberRead, Headed, Arrayed, Filled, Tabled, Went, unread}
+use Rattle.sheet.specs.Items.{GivenFound, GivenDone}
+use Rattle.sheet.specs.FormulaLine.{formulaRest, Laid, LineRead}
+use Rattle.sheet.specs.Whole.{sheetOf, fromFormula, fromGiven, declaring, fromArrays, fromLocals, fromScalars, numberOf, withNumber, NumberRead, Headed, Arrayed, Filled, Went, unread}
 use Rattle.sheet.proofs.Regions.{firsts-length, given-length}
 use Rattle.sheet.proofs.Declares.{arrays-few, found-declares}
 

@@ -38,37 +38,59 @@ enum-known-m : tie.Need-enum-known-m Inv-loop μ-loop
 enum-known-m c = search needs
 
 set-first-requires : tie.Need-set-first-requires Inv-loop μ-loop
-set-first-requires c κs = omega (arith, (c .before .before .before .before .before .before .loop .inv .long), (c .before .before .before .before .before .before .before .before .before .pre .1))
+set-first-requires c κs =
+    let p = c .before .before .before .before .before in
+    omega (arith, (p .before .loop .inv .long), (p .before .before .before .before .pre .1))
 
 add-n : tie.Need-add-n Inv-loop μ-loop
 add-n c = search needs
 
 add-end : tie.Need-add-end Inv-loop μ-loop
-add-end c = omega (arith, turn-few (c .before .before .before .before .before .before .before .before .before .loop .inv) (c .before .before .before .before .before .before .before .before .loop-test .taken) _ (c .before .before .before .before .before .before .before .count-at .ensures) _ _ (c .before .before .before .before .before .m .given .1))
+add-end c =
+    let p = c .before .before .before .before .before in
+    omega (arith, turn-few (p .before .before .before .before .loop .inv) (p .before .before .before .loop-test .taken) _ (p .before .before .count-at .ensures) _ _ (c .before .before .before .before .before .m .given .1))
 
 class-at-requires : tie.Need-class-at-requires Inv-loop μ-loop
 class-at-requires c κs = search needs
 
 fill-requires : tie.Need-fill-requires Inv-loop μ-loop
-fill-requires c κs = omega (arith, (c .before .before .before .before .before .set-first .kept .0), (c .before .before .before .before .before .before .before .before .before .before .before .before .loop .inv .long), (c .before .before .before .before .before .before .before .before .before .before .before .before .before .before .before .pre .1))
+fill-requires c κs =
+    let p = c .before .before .before .before .before in
+    let q = p .before .before .before .before .before in
+    let r = q .before .before .before .before .before in
+    omega (arith, (c .before .before .before .before .before .set-first .kept .0), (q .before .before .loop .inv .long), (r .pre .1))
 
 same-length-2 : tie.Need-same-length-2 Inv-loop μ-loop
-same-length-2 c = (c .before .before .fill .kept .0) ∙ (c .before .before .before .before .before .before .before .before .set-first .kept .0) ∙ (c .before .before .before .before .before .before .before .before .before .before .before .before .before .before .before .loop .inv .long)
+same-length-2 c =
+    let p = c .before .before .before .before .before in
+    let q = p .before .before .before .before .before in
+    let r = q .before .before .before .before .before in
+    (c .before .before .fill .kept .0) ∙ (p .before .before .before .set-first .kept .0) ∙ (r .loop .inv .long)
 
 returns-2 : tie.Need-returns-2 Inv-loop μ-loop
 unfolding classNumber
-returns-2 c = turn-last (c .before .before .before .before .before .before .before .before .before .before .before .before .before .before .before .loop .inv) (c .before .before .before .before .before .before .before .before .before .before .before .before .before .before .loop-test .taken) _ (c .before .before .before .before .before .before .before .before .before .before .before .before .before .count-at .ensures) _ _ (c .before .before .before .before .before .before .before .before .before .before .before .m .given .1) _ (c .before .before .before .before .before .before .before .before .set-first .ensures) (λ e. (c .before .before .before .before .if1 .taken) ((c .before .before .before .before .before .class-at .ensures) ∙ e)) _ (c .before .before .fill .ensures)
+returns-2 c =
+    let p = c .before .before .before .before .before in
+    let q = p .before .before .before .before .before in
+    let r = q .before .before .before .before .before in
+    turn-last (r .loop .inv) (q .before .before .before .before .loop-test .taken) _ (q .before .before .before .count-at .ensures) _ _ (q .before .m .given .1) _ (p .before .before .before .set-first .ensures) (λ e. (c .before .before .before .before .if1 .taken) ((c .before .before .before .before .before .class-at .ensures) ∙ e)) _ (c .before .before .fill .ensures)
 
 add-at : tie.Need-add-at Inv-loop μ-loop
 unfolding classNumber
-add-at c = omega (arith, class-inside (c .before .before .before .before .before .before .before .before .before .before .before .before .before .before .args .s .now) _ comma (sym (c .before .class-at .ensures) ∙ (c .if1 .left)))
+add-at c =
+    let p = c .before .before .before .before .before in
+    let q = p .before .before .before .before .before in
+    omega (arith, class-inside (q .before .before .before .before .args .s .now) _ comma (sym (c .before .class-at .ensures) ∙ (c .if1 .left)))
 
 loop-less : tie.Need-loop-less Inv-loop μ-loop
 loop-less c = search needs
 
 loop-again : tie.Need-loop-again Inv-loop μ-loop
 unfolding classNumber
-loop-again c = turn-next (c .before .before .before .before .before .before .before .before .before .before .before .loop .inv) (c .before .before .before .before .before .before .before .before .before .before .loop-test .taken) _ (c .before .before .before .before .before .before .before .before .before .count-at .ensures) _ _ (c .before .before .before .before .before .before .before .m .given .1) _ (c .before .before .before .before .set-first .ensures) (sym (c .before .class-at .ensures) ∙ (c .if1 .left))
+loop-again c =
+    let p = c .before .before .before .before .before in
+    let q = p .before .before .before .before .before in
+    turn-next (q .before .loop .inv) (q .loop-test .taken) _ (p .before .before .before .before .count-at .ensures) _ _ (p .before .before .m .given .1) _ (c .before .before .before .before .set-first .ensures) (sym (c .before .class-at .ensures) ∙ (c .if1 .left))
 
 same-length-3 : tie.Need-same-length-3 Inv-loop μ-loop
 same-length-3 c = (c .before .loop .inv .long)

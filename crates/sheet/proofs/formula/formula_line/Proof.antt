@@ -10,7 +10,7 @@ use Rattle.specification.specs.Bytes.{bytes, begins}
 use Rattle.specification.specs.Parser.{refused}
 use Rattle.specification.specs.Lines.{Declared}
 use Rattle.sheet.specs.FormulaLine.{Counts, whole, Through}
-use Rattle.sheet.proofs.NumberLines.{begins-long}
+use Rattle.sheet.proofs.Keys.{begins-long}
 use Rattle.sheet.proofs.Bits.{bits-none}
 use Rattle.sheet.proofs.FormulaRest.{atStart, line-no-key, line-refused, scans-refused, scans-read, through-no-feed, through-more, through-long, through-end}
 use borrow.Author.Needs.{needs}

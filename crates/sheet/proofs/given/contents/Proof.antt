@@ -1,7 +1,7 @@
 -- By the first byte of the value. Assumes nothing.
 use mathlib.Core.Path.{_∙_, sym}
 use Rattle.specification.specs.Bytes.{classNumber}
-use Rattle.sheet.proofs.NumberLines.{part-class}
+use Rattle.sheet.proofs.Keys.{part-class}
 use Rattle.sheet.proofs.GivenLine.{value-none, value-some}
 use borrow.Author.Needs.{needs}
 use Rattle.sheet.proofs.given.contents.Statement.{statement}

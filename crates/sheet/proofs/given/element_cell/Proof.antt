@@ -30,13 +30,19 @@ wide-requires-3 : tie.Need-wide-requires-3
 wide-requires-3 c κs = search needs
 
 returns-2 : tie.Need-returns-2
-returns-2 c = let a = (c .before .before .before .before .before .before .before .before .args) in element-out _ (a .w .now) _ (a .i) (c .before .before .before .before .before .before .if1 .left) (omega (arith, (c .if2 .taken), (c .before .wide3 .ensures .0), (c .before .before .first-cell2 .ensures), (c .before .before .before .wide2 .ensures .0), (c .before .before .before .before .wide .ensures .0), (c .before .before .before .before .before .first-cell .ensures)))
+returns-2 c =
+    let p = c .before .before .before .before .before in
+    let a = (p .before .before .before .args) in
+    element-out _ (a .w .now) _ (a .i) (p .before .if1 .left) (omega (arith, (c .if2 .taken), (c .before .wide3 .ensures .0), (c .before .before .first-cell2 .ensures), (c .before .before .before .wide2 .ensures .0), (c .before .before .before .before .wide .ensures .0), (c .before .before .before .before .before .first-cell .ensures)))
 
 cast-t8 : tie.Need-cast-t8
 cast-t8 c = search needs
 
 returns-3 : tie.Need-returns-3
-returns-3 c = let a = (c .before .before .before .before .before .before .before .before .args) in element-in _ (a .w .now) _ (a .i) (c .before .before .before .before .before .before .if1 .left) _ (omega (arith, (c .before .before .before .wide2 .ensures .0), (c .before .before .before .before .wide .ensures .0), (c .before .before .before .before .before .first-cell .ensures))) (omega (arith, (c .if2 .left), (c .before .wide3 .ensures .0), (c .before .before .first-cell2 .ensures)))
+returns-3 c =
+    let p = c .before .before .before .before .before in
+    let a = (p .before .before .before .args) in
+    element-in _ (a .w .now) _ (a .i) (p .before .if1 .left) _ (omega (arith, (c .before .before .before .wide2 .ensures .0), (c .before .before .before .before .wide .ensures .0), (c .before .before .before .before .before .first-cell .ensures))) (omega (arith, (c .if2 .left), (c .before .wide3 .ensures .0), (c .before .before .first-cell2 .ensures)))
 
 pub element-cell-spec : {M : Type 1} → statement M
 element-cell-spec =

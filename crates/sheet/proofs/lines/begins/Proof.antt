@@ -3,7 +3,7 @@ use Prim.Native.Nat.{_≤_, _-_}
 use mathlib.Core.Path.{_≡_, _∙_, sym, ap}
 use lib.ListN.{length, drop}
 use Rattle.specification.specs.Bytes.{begins}
-use Rattle.sheet.proofs.NumberLines.{key-short, key-other, key-more, key-done}
+use Rattle.sheet.proofs.Keys.{key-short, key-other, key-more, key-done}
 use borrow.Author.Needs.{needs}
 use Rattle.sheet.proofs.lines.begins.Statement.{statement}
 use Rattle.sheet.proofs.lines.begins.Tie as tie

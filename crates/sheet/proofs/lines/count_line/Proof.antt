@@ -4,7 +4,8 @@ use native.Mathlib.Omega.{arith}
 use borrow.Author.Tests.{not-true, not-false}
 use Rattle.specification.specs.Bytes.{feed, classNumber}
 use Rattle.text.proofs.Laws.Class.{class-inside}
-use Rattle.sheet.proofs.NumberLines.{key-fits, line-no, line-yes, closed-yes, closed-no}
+use Rattle.sheet.proofs.Keys.{key-fits, closed-yes, closed-no}
+use Rattle.sheet.proofs.NumberLines.{line-no, line-yes}
 use borrow.Author.Needs.{needs}
 use Rattle.sheet.proofs.lines.count_line.Statement.{statement}
 use Rattle.sheet.proofs.lines.count_line.Tie as tie

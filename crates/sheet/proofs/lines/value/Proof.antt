@@ -1,6 +1,6 @@
 -- The part up to the end is the rest; beyond the end there is none. Assumes nothing.
 use native.Mathlib.Omega.{arith}
-use Rattle.sheet.proofs.NumberLines.{take-rest, take-end}
+use Rattle.sheet.proofs.Keys.{take-rest, take-end}
 use borrow.Author.Needs.{needs}
 use Rattle.sheet.proofs.lines.value.Statement.{statement}
 use Rattle.sheet.proofs.lines.value.Tie as tie

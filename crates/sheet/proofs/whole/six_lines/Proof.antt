@@ -49,6 +49,7 @@ use Rattle.sheet.specs.declared.reader.Reader.{Reader}
 use Rattle.sheet.specs.declared.whole.Progress.{Progress}
 use Rattle.sheet.proofs.Again.{LentAgain, lends-at, back-at}
 use Rattle.sheet.proofs.SixLines.{at-start}
+use Rattle.sheet.proofs.Standing.{Needs, Found, Stands, asks, onward}
 use Rattle.sheet.proofs.reader.Reader as T
 use Rattle.sheet.proofs.reader.Reader.Laws as T′
 use Rattle.sheet.proofs.whole.Progress as E
@@ -76,27 +77,6 @@ B κ = T.the-row (namedLft 1 0 tt (κ, tt))
 
 abbrev stayed : Stays (above.ended .signature .params) (above.ended .kept)
 stayed = (stay-none-slice (0 ∷ []) tt (plain (λ _. u8)) yes, (stay-slice (1 ∷ []) tt (plain (λ _. u32)), tt))
-
--- what `line` needs of a reader and the words, and what it says of the reader and the words after it
-abbrev Needs : ℕ → Reader → List ℕ → Type 0
-Needs k r zs = (k ≤ 5) × Went k (now (r .sheet)) (length zs) (r .read) zs
-
-abbrev Found : ℕ → Reader → List ℕ → Reader → List ℕ → Type 0
-Found k r zs r′ zs′ = (r′ .sheet ≡ r .sheet) × Went (k + 1) (now (r .sheet)) (length zs) (r′ .read) zs′
-
--- the reader is one of the sheet s, and stands after k lines over n words
-module _ (s : RefT (List ℕ)) (n : ℕ) where
-  abbrev Stands : ℕ → Reader → List ℕ → Type 0
-  Stands k r zs = Went k (now s) n (r .read) zs × (r .sheet ≡ s) × (length zs ≡ n)
-
-  moved : (k : ℕ) (p : Progress) (zs : List ℕ) (z y : RefT (List ℕ)) (m l : ℕ) → z ≡ y → m ≡ l → Went k (now z) m p zs → Went k (now y) l p zs
-  moved k p zs z y m l e f h = subst (λ (i : ℕ). Went k (now y) i p zs) f (subst (λ (x : RefT (List ℕ)). Went k (now x) m p zs) e h)
-
-  asks : (k : ℕ) (r : Reader) (zs : List ℕ) → k ≤ 5 → Stands k r zs → Needs k r zs
-  asks k r zs few h = (few, moved k (r .read) zs s (r .sheet) n (length zs) (sym (h .1)) (sym (h .2)) (h .0))
-
-  onward : (k : ℕ) (r : Reader) (zs : List ℕ) (r′ : Reader) (zs′ : List ℕ) → Stands k r zs → Found k r zs r′ zs′ → length zs′ ≡ length zs → Stands (k + 1) r′ zs′
-  onward k r zs r′ zs′ h f l = (moved (k + 1) (r′ .read) zs′ (r .sheet) s (length zs) n (h .1) (h .2) (f .1), f .0 ∙ h .1, l ∙ h .2)
 
 module _ {M : Type 1} (𝓤 : URA M) (H : Heap 𝓤) (A : Atoms 𝓤) (mem : Memory → SProp 𝓤) (run : Routine → Fun 𝓤) where
   -- the contracts that the proof cites
