@@ -131,77 +131,52 @@ module _ {w : Words} {r : Regs} (x : Entered w r eqCode) where
         go D m tok (bare y) (bare z) rest α a b c d = refl
 
     -- one side bare, the other with a value
-    record Crossed (c : World) (o : Bytes) (i : In c o w' r) (slot value : ℕ) : Type 0 where
-      scope : scopes.Scope
-      locals : (l : ℕ) → T (scope l) → l < maxLocals
-      one : Term
-      other : Term
-      one-ok : scopes.OkTerm (c .declared) scope one
-      other-ok : scopes.OkTerm (c .declared) scope other
-      at : Bare (side (c .declared) (i .α) one) slot
-      has : Has (side (c .declared) (i .α) other) value
-      assigned : (rest : Rest) →
-          equate (c .declared) (innerIn (i .fr)) (r .due .head) (lefts c o i) (rights c o i) rest (i .α) ≡
-          assign (c .declared) (innerIn (i .fr)) (r .due .head) (at .place) (has .z) rest (i .α)
+    abbrev Crossed : (c : World) (o : Bytes) (i : In c o w' r) → ℕ → ℕ → Type 0
+    Crossed c o i slot value =
+        (S : scopes.Scope) × ((l : ℕ) → T (S l) → l < maxLocals)
+        × (one : Term) × scopes.OkTerm (c .declared) S one
+        × (other : Term) × scopes.OkTerm (c .declared) S other
+        × (p : Bare (side (c .declared) (i .α) one) slot) × (q : Has (side (c .declared) (i .α) other) value)
+        × ((rest : Rest) →
+        equate (c .declared) (innerIn (i .fr)) (r .due .head) (lefts c o i) (rights c o i) rest (i .α) ≡
+        assign (c .declared) (innerIn (i .fr)) (r .due .head) (p .place) (q .z) rest (i .α))
 
-    assigns : {slot value : ℕ} → ((c : World) (o : Bytes) (i : In c o w' r) → Crossed c o i slot value) → Assigns w' r slot value
-    assigns f = record {
+    assigns : (slot value : ℕ) → ((c : World) (o : Bytes) (i : In c o w' r) → Crossed c o i slot value) → Assigns w' r slot value
+    assigns slot value f = record {
       at = visited;
       son = λ c o i.
-          let k = f c o i in
-          let p = k .at in
-          let q = k .has in
-          let b = sane-bare (c .declared) (k .scope) (i .α) (i .path .valid) (k .one) (k .one-ok) (p .place) (p .is) in (
+          let (S, small, one, one-ok, other, other-ok, p, q, assigned) = f c o i in
+          let b = sane-bare (c .declared) S (i .α) (i .path .valid) one one-ok (p .place) (p .is) in (
             items c o i,
             p .place,
             q .z,
-            equated c o i ∙ ap step (k .assigned (λ β. treeItems (c .declared) (innerIn (i .fr)) (items c o i) β)),
+            equated c o i ∙ ap step (assigned (λ β. treeItems (c .declared) (innerIn (i .fr)) (items c o i) β)),
             rests c o i,
             p .word,
             q .word,
-            in-table (c .declared) (k .scope) (i .path .cells) (k .locals) (p .place) (b .0),
+            in-table (c .declared) S (i .path .cells) small (p .place) (b .0),
             b .1,
-            sane-val (c .declared) (k .scope) (i .α) (i .path .valid) (k .other) (k .other-ok) (q .z) (q .is),
+            sane-val (c .declared) S (i .α) (i .path .valid) other other-ok (q .z) (q .is),
           );
     }
 
     pub eq-assign-left : s .ltag ≡ bareTag → s .rtag ≡ valueTag → Assigns w' r (s .left) (s .right)
     unfolding equate
     eq-assign-left e f =
-        assigns (λ c o i.
+        assigns (s .left) (s .right) (λ c o i.
         let (one, other, t) = eq-terms .both c o (back eq-terms v i) in
         let p = left-place eq-terms v e c o i in
         let q = right-value eq-terms v f c o i in
-        record {
-          scope = t .scope;
-          locals = t .locals;
-          one = one;
-          other = other;
-          one-ok = t .left;
-          other-ok = t .right;
-          at = p;
-          has = q;
-          assigned = λ rest. rw (p .is, q .is);
-        })
+        (t .scope, t .locals, one, t .left, other, t .right, p, q, λ rest. rw (p .is, q .is)))
 
     pub eq-assign-right : s .ltag ≡ valueTag → s .rtag ≡ bareTag → Assigns w' r (s .right) (s .left)
     unfolding equate
     eq-assign-right e f =
-        assigns (λ c o i.
+        assigns (s .right) (s .left) (λ c o i.
         let (other, one, t) = eq-terms .both c o (back eq-terms v i) in
         let p = right-place eq-terms v f c o i in
         let q = left-value eq-terms v e c o i in
-        record {
-          scope = t .scope;
-          locals = t .locals;
-          one = one;
-          other = other;
-          one-ok = t .right;
-          other-ok = t .left;
-          at = p;
-          has = q;
-          assigned = λ rest. rw (p .is, q .is);
-        })
+        (t .scope, t .locals, one, t .right, other, t .left, p, q, λ rest. rw (p .is, q .is)))
 
     -- two values
     pub eq-tested : s .ltag ≡ valueTag → s .rtag ≡ valueTag → Tested w' r (eqb (s .left) (s .right))
