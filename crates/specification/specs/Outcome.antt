@@ -19,7 +19,7 @@ use Rattle.specification.specs.Place.{cell, put}
 use Rattle.specification.specs.Value.{Valuation, empty, full}
 use Rattle.specification.specs.Tree.{Tree, treeOf}
 use Rattle.specification.specs.Visits.{Visit, visits}
-use Rattle.specification.specs.Run.{tallies, Stop, spent, path, output, Run, going, stopped, scan}
+use Rattle.specification.specs.Run.{conditions, tallies, Stop, spent, path, output, Run, going, stopped, scan}
 
 -- ---- the run of a sheet
 
@@ -52,7 +52,7 @@ unfoldable pub visitsOf : Sheet → List Visit
 visitsOf s = visits 1 (rootOf s)
 
 unfoldable pub runOf : Sheet → Setting → ℕ → Run
-runOf s S size = scan (s .declared) S size (going (tallies 0 0 0 0) []) (visitsOf s)
+runOf s S size = scan (conditions (s .declared) S size) (going (tallies 0 0 0 0) []) (visitsOf s)
 
 abbrev pub afterReading : Setting → ℕ → Read Sheet → Result
 afterReading S size (refused n p) = refusal n p

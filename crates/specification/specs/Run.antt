@@ -39,25 +39,34 @@ pub data Run : Type 0 where
   going : Tallies → Bytes → Run
   stopped : Stop → Tallies → Bytes → Run
 
-module _ (D : Declared) (S : Setting) (size : ℕ) where
+-- what a run is held to: the sheet's declarations, the setting, and the size of the output
+pub record Conditions : Type 0 where
+  pub declared : Declared
+  pub setting : Setting
+  pub size : ℕ
+
+abbrev pub conditions : Declared → Setting → ℕ → Conditions
+conditions D S size = record { declared = D; setting = S; size = size }
+
+module _ (C : Conditions) where
   -- a leaf with a block, with the tallies before and after it: skipped, written, or stopped for want of room
   unfoldable pub block : Tallies → Tallies → Bytes → Bytes → Run
   block t t′ w b =
-      pick (ltb (t .answers + t .errors) (S .skip)) (going t′ w)
-      (pick (leb (length w + length b) size) (going t′ (w ++ b)) (stopped output t w))
+      pick (ltb (t .answers + t .errors) (C .setting .skip)) (going t′ w)
+      (pick (leb (length w + length b) (C .size)) (going t′ (w ++ b)) (stopped output t w))
 
   -- what a visited node or leaf adds; N counts its kind from 1, skipped blocks included
   unfoldable pub arrive : Event → Tallies → Bytes → Run
   arrive node t w = going t w
   arrive (leaf fail) t w = going (addFail t) w
-  arrive (leaf (answer β)) t w = block t (addAnswer t) w (blockText (blockOf D (answerHead (suc (t .answers))) β))
-  arrive (leaf (error kind token β)) t w = block t (addError t) w (blockText (blockOf D (errorHead (suc (t .errors)) kind token) β))
+  arrive (leaf (answer β)) t w = block t (addAnswer t) w (blockText (blockOf (C .declared) (answerHead (suc (t .answers))) β))
+  arrive (leaf (error kind token β)) t w = block t (addError t) w (blockText (blockOf (C .declared) (errorHead (suc (t .errors)) kind token) β))
 
   -- a visit, and the two limits before it
   unfoldable pub visit : Visit → Tallies → Bytes → Run
   visit v t w =
       let r = arrive (v .event) (addNode t) w in
-      pick (eqb (t .nodes) (S .budget)) (stopped spent t w) (pick (ltb (S .path) (v .depth)) (stopped path t w) r)
+      pick (eqb (t .nodes) (C .setting .budget)) (stopped spent t w) (pick (ltb (C .setting .path) (v .depth)) (stopped path t w) r)
 
   abbrev pub onward : (Run → Run) → Visit → Run → Run
   onward k v (going t w) = k (visit v t w)

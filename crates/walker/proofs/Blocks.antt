@@ -25,7 +25,7 @@ use Rattle.listing.specs.Block as blocks
 use Rattle.walker.specs.declared.Regs.{Regs}
 use Rattle.walker.specs.declared.Task.{Task}
 use Rattle.walker.specs.Walk as walks
-use Rattle.walker.specs.Path.{World, Output, Count as Counted}
+use Rattle.walker.specs.Path.{World, conditionsOf, Output, Count as Counted}
 use Rattle.walker.specs.Sim.{no, Up, BlockOf, Leaf, Over, over, up}
 use Rattle.walker.specs.Registers.{leafRegs, stopRegs, counted}
 use Rattle.walker.specs.Loop.{Fixed, BlockDue, Blocked}
@@ -90,14 +90,14 @@ module _ {c : World} {o : Bytes} {w : Words} {r : Regs} (l : Leaf c o w r) where
       go false = record { fits = l .count .fits; budget = l .count .budget; leaves = omega (arith, l .leaves) }
 
   block-result : walks.onto (no c (l .fr) (l .e))
-      (block (c .declared) (c .setting) (length (c .output)) (r .tallies) (passedTallies r) (l .b) (blockText (blockOf (c .declared) (headOf (headDue r)) (l .α)))) ≡ c .result
+      (block (conditionsOf c) (r .tallies) (passedTallies r) (l .b) (blockText (blockOf (c .declared) (headOf (headDue r)) (l .α)))) ≡ c .result
   unfolding headDue passedTallies arrive walks.leaf
   block-result = go (l .v) (l .block) (l .result)
     where
       go : (v : TreeLeaf) → BlockOf (r .due) (l .α) v →
-          walks.leaf (c .declared) (c .setting) (length (c .output)) v (no c (l .fr) (l .e)) (r .tallies) (l .b) ≡ c .result →
+          walks.leaf (conditionsOf c) v (no c (l .fr) (l .e)) (r .tallies) (l .b) ≡ c .result →
           walks.onto (no c (l .fr) (l .e))
-          (block (c .declared) (c .setting) (length (c .output)) (r .tallies) (passedTallies r) (l .b) (blockText (blockOf (c .declared) (headOf (headDue r)) (l .α)))) ≡ c .result
+          (block (conditionsOf c) (r .tallies) (passedTallies r) (l .b) (blockText (blockOf (c .declared) (headOf (headDue r)) (l .α)))) ≡ c .result
       go (answer β) q h = rw (eq-eqb (r .due .job) successJob (q .0)) (rw (q .1) at h)
       go (error κ tok β) q h = rw (ne-eqb (r .due .job) successJob (λ z. omega (arith, q .0)), q .1, q .2) (rw (q .3) at h)
       go fail q h = absurd q

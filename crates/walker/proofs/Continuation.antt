@@ -4,15 +4,13 @@ use mathlib.Core.Path.{_≡_, refl, _∙_, ap, fun-ext}
 use mathlib.Core.Bool.{Bool, true, false}
 use mathlib.Core.List.{List, [], _∷_}
 use lib.Dec.{ltb, eqb}
-use Rattle.specification.specs.declared.Setting.{Setting}
 use Rattle.specification.specs.declared.Tallies.{Tallies}
 use Rattle.specification.specs.Bytes.{Bytes, pick}
-use Rattle.specification.specs.Lines.{Declared}
 use Rattle.specification.specs.Tree.{Verdict, succeeds, fails, undecided, join}
 use Rattle.specification.specs.Leaves.{Leaf}
 use Rattle.specification.specs.Visits as visited
 use Rattle.specification.specs.Visits.{Event, node, Visit, at, _then_, inside}
-use Rattle.specification.specs.Run.{addNode, spent, path, Run, going, stopped, arrive, visit, scan}
+use Rattle.specification.specs.Run.{Conditions, addNode, spent, path, Run, going, stopped, arrive, visit, scan}
 use Rattle.specification.proofs.Laws.Run.{scan-stopped, scan-append}
 use Rattle.walker.specs.Walk.{Next, onto, flagged, gated, leaf}
 use Rattle.walker.proofs.Answers.{answered, isSuccess, inside-then, inside-inside}
@@ -60,23 +58,23 @@ by-flags K undecided = refl
 
 -- ---- a scan, and then k
 
-module _ (D : Declared) (S : Setting) (size : ℕ) where
+module _ (C : Conditions) where
   unfoldable pub through : Next → List Visit → Next
-  through k vs t w = onto k (scan D S size (going t w) vs)
+  through k vs t w = onto k (scan C (going t w) vs)
 
   pub through-nil : (k : Next) → through k [] ≡ k
   unfolding through scan
   through-nil k = refl
 
-  scan-onto : (k : Next) (vs : List Visit) (s : Run) → onto k (scan D S size s vs) ≡ onto (through k vs) s
+  scan-onto : (k : Next) (vs : List Visit) (s : Run) → onto k (scan C s vs) ≡ onto (through k vs) s
   unfolding through
   scan-onto k vs (going t w) = refl
-  scan-onto k vs (stopped e t w) = ap (onto k) (scan-stopped D S size e t w vs)
+  scan-onto k vs (stopped e t w) = ap (onto k) (scan-stopped C e t w vs)
 
   pub through-then : (k : Next) (xs ys : List Visit) → through k (xs then ys) ≡ through (through k ys) xs
   unfolding through
   through-then k xs ys =
-      fun-ext (λ t. fun-ext (λ w. ap (onto k) (scan-append D S size (going t w) xs ys) ∙ scan-onto k ys (scan D S size (going t w) xs)))
+      fun-ext (λ t. fun-ext (λ w. ap (onto k) (scan-append C (going t w) xs ys) ∙ scan-onto k ys (scan C (going t w) xs)))
 
   -- a run that a limit stops does not go on
   onto-pick : (k : Next) (a b : Bool) (t : Tallies) (w : Bytes) (r : Run) →
@@ -87,18 +85,18 @@ module _ (D : Declared) (S : Setting) (size : ℕ) where
 
   -- a visit, and then the others
   through-visit : (k : Next) (d : ℕ) (v : Event) (vs : List Visit) →
-      through k (at d v ∷ vs) ≡ gated D S size d (λ t w. onto (through k vs) (arrive D S size v t w))
+      through k (at d v ∷ vs) ≡ gated C d (λ t w. onto (through k vs) (arrive C v t w))
   unfolding through scan visit gated
   through-visit k d v vs = fun-ext (λ t. fun-ext (λ w.
-      scan-onto k vs (visit D S size (at d v) t w) ∙
-      onto-pick (through k vs) (eqb (t .nodes) (S .budget)) (ltb (S .path) d) t w (arrive D S size v (addNode t) w)))
+      scan-onto k vs (visit C (at d v) t w) ∙
+      onto-pick (through k vs) (eqb (t .nodes) (C .setting .budget)) (ltb (C .setting .path) d) t w (arrive C v (addNode t) w)))
 
   pub through-leaf : (k : Next) (d : ℕ) (l : Leaf) (vs : List Visit) →
-      through k (at d (visited.leaf l) ∷ vs) ≡ gated D S size d (leaf D S size l (through k vs))
+      through k (at d (visited.leaf l) ∷ vs) ≡ gated C d (leaf C l (through k vs))
   unfolding leaf
   through-leaf k d l vs = through-visit k d (visited.leaf l) vs
 
-  pub through-node : (k : Next) (d : ℕ) (vs : List Visit) → through k (at d node ∷ vs) ≡ gated D S size d (through k vs)
+  pub through-node : (k : Next) (d : ℕ) (vs : List Visit) → through k (at d node ∷ vs) ≡ gated C d (through k vs)
   unfolding arrive
   through-node k d vs = through-visit k d node vs
 

@@ -25,7 +25,7 @@ use Rattle.walker.specs.declared.Due.{Due}
 use Rattle.walker.specs.declared.Regs.{Regs}
 use Rattle.walker.specs.Walk.{sonsFrom, within, walk}
 use Rattle.walker.specs.Frame.{Item, form, What, the, treeItems, Question, sonOf, Frame, pass, other, undo, range, asks, here, below, innerIn}
-use Rattle.walker.specs.Path.{World, Pend, Job, bit, Changed, Asks, FrameAt, Path}
+use Rattle.walker.specs.Path.{World, conditionsOf, Pend, Job, bit, Changed, Asks, FrameAt, Path}
 use Rattle.walker.specs.Stands.{Stands, Binds, LeftAfter}
 use Rattle.walker.specs.Sim.{tree, yes, no, Down, In, down}
 use Rattle.walker.specs.Steps.{Stepped}
@@ -49,7 +49,7 @@ module _ {c : World} {o : Bytes} {w : Words} {r : Regs} (i : In c o w r) where
   -- what the walk of the son T has to give
   abbrev Gives : Frame → Bool → Tree → Type 0
   Gives f e T =
-      walk (c .declared) (c .setting) (length (c .output)) (innerIn (f ∷ i .fr)) (suc (r .depth + 1)) T (yes c (f ∷ i .fr)) (no c (f ∷ i .fr)) e (r .tallies) (i .b)
+      walk (conditionsOf c) (innerIn (f ∷ i .fr)) (suc (r .depth + 1)) T (yes c (f ∷ i .fr)) (no c (f ∷ i .fr)) e (r .tallies) (i .b)
       ≡ c .result
 
   onto : {w' : Words} (f : Frame) (x : What) (e : Bool) {d : Due} {inner bad : ℕ} → Path c w' (r .depth + 1) (below f) (f ∷ i .fr) →
@@ -157,7 +157,7 @@ module _ {c : World} {o : Bytes} {w : Words} {r : Regs} (i : In c o w r) where
         g .bad ∙ i .bad,
         rw (at .rest) (rest-onto i is (r .depth) (marked-kept (at .marked)) (omega arith) p),
       ) in
-      let h = within-ask (c .declared) (c .setting) (length (c .output)) (treeItems (c .declared) true (form F ∷ []) (i .α)) son m (suc (r .depth))
+      let h = within-ask (conditionsOf c) (treeItems (c .declared) true (form F ∷ []) (i .α)) son m (suc (r .depth))
       (yes c (i .fr)) (no c (i .fr)) (i .e) (r .tallies) (i .b) in
       onto (asks (r .due .head) q is (i .α) (i .e)) (the (form F ∷ [])) false P refl refl j
       (rw (add-one, ← i .path .deep) (sym h ∙ (rw e at (i .result))))

@@ -21,7 +21,7 @@ use Rattle.walker.specs.declared.Regs.{Regs}
 use Rattle.walker.specs.declared.Due.{Due}
 use Rattle.walker.specs.Walk.{walk}
 use Rattle.walker.specs.Frame.{Item, form, What, the, Frame, pass, here, below, len, innerIn}
-use Rattle.walker.specs.Path.{World, Pend, Job, bit, Path, Output, Count}
+use Rattle.walker.specs.Path.{World, conditionsOf, Pend, Job, bit, Path, Output, Count}
 use Rattle.walker.specs.Sim.{yes, no, tree, Down, Up, Yes, down}
 use Rattle.walker.specs.Registers.{formulaDue, dueRegs}
 use Rattle.walker.specs.Loop.{Topped, Rose}
@@ -37,7 +37,7 @@ use Rattle.walker.proofs.Tops.{top-index, top-other}
 -- what its walk has to give
 abbrev pub Gives : World → Regs → Frame → List Frame → Bool → Bytes → Tree → Type 0
 Gives c r g fr e b T =
-    walk (c .declared) (c .setting) (length (c .output)) (innerIn (g ∷ fr)) (suc (suc (len fr))) T (yes c (g ∷ fr)) (no c (g ∷ fr)) e (r .tallies) b
+    walk (conditionsOf c) (innerIn (g ∷ fr)) (suc (suc (len fr))) T (yes c (g ∷ fr)) (no c (g ∷ fr)) e (r .tallies) b
     ≡ c .result
 
 pub son-due : {c : World} {o : Bytes} {w : Words} (r : Regs) {g : Frame} {fr : List Frame} (e : Bool) (b : Bytes) (x : What) {d : Due} {inner bad : ℕ} →
@@ -57,7 +57,7 @@ son-due {c} r {g} {fr} e b x P i a j o n q = record {
   count = n;
   result = subst
       (λ k.
-      walk (c .declared) (c .setting) (length (c .output)) (innerIn (g ∷ fr)) (suc k) (tree c (g ∷ fr) x (below g)) (yes c (g ∷ fr)) (no c (g ∷ fr)) e
+      walk (conditionsOf c) (innerIn (g ∷ fr)) (suc k) (tree c (g ∷ fr) x (below g)) (yes c (g ∷ fr)) (no c (g ∷ fr)) e
       (r .tallies) b
       ≡ c .result) (sym (P .deep)) q;
 }

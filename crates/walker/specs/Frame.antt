@@ -3,13 +3,12 @@ use Prim.Native.Nat.{ℕ, suc}
 use mathlib.Core.Bool.{Bool, true, false}
 use mathlib.Core.List.{List, [], _∷_}
 use lib.IntN.{ℤ, pos, _+ℤ_}
-use Rattle.specification.specs.declared.Setting.{Setting}
 use Rattle.specification.specs.Lines.{Declared}
 use Rattle.specification.specs.Ast.{Formula}
 use Rattle.specification.specs.Place.{Place, local, put}
 use Rattle.specification.specs.Value.{Slot, full, Valuation}
 use Rattle.specification.specs.Tree.{Tree, successLeaf, failureLeaf, errorLeaf, Verdict, succeeds, denied, implied, rounds, done, grow}
-use Rattle.specification.specs.Run.{going}
+use Rattle.specification.specs.Run.{Conditions, going}
 use Rattle.walker.specs.Walk.{Next, flagged, sonsFrom, walk}
 
 -- ---- items: a formula, or an `all` over the n values from v on
@@ -90,23 +89,23 @@ sonOf D m tok (implying G) is v α = implied tok v (λ β. treeItems D m (form G
 
 -- ---- what is left once the present son of the topmost node is finished: after a success leaf of an inner tree, and otherwise
 
-module _ (D : Declared) (S : Setting) (size : ℕ) where
+module _ (C : Conditions) where
   -- of one frame, whose sons have paths of d, in an inner tree or not
   abbrev pub yesOf : Frame → ℕ → Bool → Next → (Bool → Next) → Next
   yesOf (pass α) d m y k = y
   yesOf (other G is α) d m y k = y
   yesOf (undo p s α) d m y k = y
   yesOf (range l x i n F is α) d m y k = y
-  yesOf (asks tok q is α e) d m y k = walk D S size m d (sonOf D m tok q is succeeds α) y k e
+  yesOf (asks tok q is α e) d m y k = walk C m d (sonOf (C .declared) m tok q is succeeds α) y k e
 
   abbrev pub restOf : Frame → ℕ → Bool → Next → (Bool → Next) → Bool → Next
   restOf (pass α) d m y k = k
-  restOf (other G is α) d m y k = λ e. walk D S size m d (treeItems D m (form G ∷ is) α) y k e
+  restOf (other G is α) d m y k = λ e. walk C m d (treeItems (C .declared) m (form G ∷ is) α) y k e
   restOf (undo p s α) d m y k = k
   restOf (range l x i n F is α) d m y k =
-      λ e. sonsFrom D S size n (suc i)
-      (λ j k′ e′. walk D S size m d (treeItems D m (form F ∷ is) (put α (local l) (full (x +ℤ pos j)))) y k′ e′) k e
-  restOf (asks tok q is α e) d m y k = λ e′. walk D S size m d (sonOf D m tok q is (flagged e′) α) y k e
+      λ e. sonsFrom C n (suc i)
+      (λ j k′ e′. walk C m d (treeItems (C .declared) m (form F ∷ is) (put α (local l) (full (x +ℤ pos j)))) y k′ e′) k e
+  restOf (asks tok q is α e) d m y k = λ e′. walk C m d (sonOf (C .declared) m tok q is (flagged e′) α) y k e
 
   abbrev mutual
     pub resumeYes : List Frame → Next

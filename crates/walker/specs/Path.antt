@@ -14,7 +14,7 @@ use Rattle.specification.specs.Ast.{and, or, all}
 use Rattle.specification.specs.Place.{Place, cell, local}
 use Rattle.specification.specs.Value.{Slot, empty, full, Valuation}
 use Rattle.specification.specs.WellFormed.{Valid}
-use Rattle.specification.specs.Run.{Run}
+use Rattle.specification.specs.Run.{Conditions, conditions, Run}
 use Rattle.values.specs.Word.{biased, signed}
 use Rattle.tables.specs.Layout.{nodeSlot, maxTokens, maxLocals, maxCells, maxArrays, maxPath}
 use Rattle.tables.specs.Kept.{SameTokens}
@@ -35,6 +35,9 @@ pub record World : Type 0 where
   pub setting : Setting
   pub output : Bytes
   pub result : Run
+
+abbrev pub conditionsOf : World → Conditions
+conditionsOf c = conditions (c .declared) (c .setting) (length (c .output))
 
 -- ---- lists and what is due
 

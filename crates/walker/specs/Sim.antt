@@ -16,17 +16,17 @@ use Rattle.walker.specs.declared.Due.{Due}
 use Rattle.walker.specs.declared.Regs.{Regs}
 use Rattle.walker.specs.Walk as walks
 use Rattle.walker.specs.Frame.{What, the, treeWhat, Frame, innerIn, resumeYes, resume}
-use Rattle.walker.specs.Path.{World, Job, bit, Path, Output, Count}
+use Rattle.walker.specs.Path.{World, conditionsOf, Job, bit, Path, Output, Count}
 use Rattle.walker.specs.States.{overMode, downMode, upMode, wonMode, blockMode, successJob, errorJob}
 
 -- ---- the states of a walk
 
 module _ (c : World) where
   abbrev pub yes : List Frame → walks.Next
-  yes fr = resumeYes (c .declared) (c .setting) (length (c .output)) fr
+  yes fr = resumeYes (conditionsOf c) fr
 
   abbrev pub no : List Frame → Bool → walks.Next
-  no fr = resume (c .declared) (c .setting) (length (c .output)) fr
+  no fr = resume (conditionsOf c) fr
 
   abbrev pub tree : List Frame → What → Valuation → Tree
   tree fr x α = treeWhat (c .declared) (innerIn fr) x α
@@ -45,7 +45,7 @@ pub record Down (c : World) (o : Bytes) (w : Words) (r : Regs) : Type 0 where
   pub out : Output c o (r .written) b
   pub count : Count c (r .tallies)
   pub result :
-      walks.walk (c .declared) (c .setting) (length (c .output)) (innerIn fr) (suc (r .depth)) (tree c fr x α) (yes c fr) (no c fr) e (r .tallies) b
+      walks.walk (conditionsOf c) (innerIn fr) (suc (r .depth)) (tree c fr x α) (yes c fr) (no c fr) e (r .tallies) b
       ≡ c .result
 
 -- its visit counted
@@ -64,7 +64,7 @@ pub record In (c : World) (o : Bytes) (w : Words) (r : Regs) : Type 0 where
   pub room : r .depth < c .setting .path
   pub leaves : r .tallies .answers + r .tallies .errors + r .tallies .fails < r .tallies .nodes
   pub result :
-      walks.within (c .declared) (c .setting) (length (c .output)) (innerIn fr) (suc (r .depth)) (tree c fr x α) (yes c fr) (no c fr) e (r .tallies) b
+      walks.within (conditionsOf c) (innerIn fr) (suc (r .depth)) (tree c fr x α) (yes c fr) (no c fr) e (r .tallies) b
       ≡ c .result
 
 -- the present son of the topmost node is finished
@@ -111,7 +111,7 @@ pub record Leaf (c : World) (o : Bytes) (w : Words) (r : Regs) : Type 0 where
   pub out : Output c o (r .written) b
   pub count : Count c (r .tallies)
   pub leaves : r .tallies .answers + r .tallies .errors + r .tallies .fails < r .tallies .nodes
-  pub result : walks.leaf (c .declared) (c .setting) (length (c .output)) v (no c fr e) (r .tallies) b ≡ c .result
+  pub result : walks.leaf (conditionsOf c) v (no c fr e) (r .tallies) b ≡ c .result
 
 -- the walk is over; the number of its end stands in a word
 pub record Over (c : World) (o : Bytes) (r : Regs) : Type 0 where

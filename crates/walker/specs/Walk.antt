@@ -3,14 +3,12 @@
 use Prim.Native.Nat.{ℕ, zero, suc}
 use mathlib.Core.Bool.{Bool, true, false}
 use lib.Dec.{ltb, eqb}
-use Rattle.specification.specs.declared.Setting.{Setting}
 use Rattle.specification.specs.declared.Tallies.{Tallies}
 use Rattle.specification.specs.Bytes.{Bytes, pick}
-use Rattle.specification.specs.Lines.{Declared}
 use Rattle.specification.specs.Tree.{Tree, successLeaf, failureLeaf, errorLeaf, step, fork, fan, ask, Verdict, fails, undecided}
 use Rattle.specification.specs.Leaves.{Leaf, answer, error, fail}
 use Rattle.specification.specs.Visits as visited
-use Rattle.specification.specs.Run.{addNode, spent, path, Run, going, stopped, arrive}
+use Rattle.specification.specs.Run.{Conditions, addNode, spent, path, Run, going, stopped, arrive}
 
 -- what comes next, from the tallies and the bytes written
 abbrev pub Next : Type 0
@@ -25,16 +23,16 @@ abbrev pub flagged : Bool → Verdict
 flagged true = undecided
 flagged false = fails
 
-module _ (D : Declared) (S : Setting) (size : ℕ) where
+module _ (C : Conditions) where
   -- a visit at the end of a path of d: the two limits, then the node is counted
   unfoldable pub gated : ℕ → Next → Next
   gated d k t w =
       let r = k (addNode t) w in
-      pick (eqb (t .nodes) (S .budget)) (stopped spent t w) (pick (ltb (S .path) d) (stopped path t w) r)
+      pick (eqb (t .nodes) (C .setting .budget)) (stopped spent t w) (pick (ltb (C .setting .path) d) (stopped path t w) r)
 
   -- a leaf of the main tree, its visit counted, and then k
   unfoldable pub leaf : Leaf → Next → Next
-  leaf l k t w = onto k (arrive D S size (visited.leaf l) t w)
+  leaf l k t w = onto k (arrive C (visited.leaf l) t w)
 
   -- n sons from the i-th on
   unfoldable pub sonsFrom : ℕ → ℕ → (ℕ → (Bool → Next) → Bool → Next) → (Bool → Next) → Bool → Next

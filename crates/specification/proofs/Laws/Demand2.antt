@@ -16,7 +16,7 @@ use Rattle.specification.specs.Sheet.{Sheet}
 use Rattle.specification.specs.Listing.{Block, blockText, listingText}
 use Rattle.specification.specs.Leaves.{Leaf, leaves, blocks}
 use Rattle.specification.specs.Visits.{Visit}
-use Rattle.specification.specs.Run.{tallies, Stop, spent, path, output, Run, going, stopped, scan}
+use Rattle.specification.specs.Run.{Conditions, conditions, tallies, Stop, spent, path, output, Run, going, stopped, scan}
 use Rattle.specification.specs.Outcome.{Result, refusal, ran, endOf, resultOf, rootOf, visitsOf, runOf}
 use Rattle.specification.specs.Demand2.{leafCount, leavesBefore, listedBefore, Next, Ends, visited, ReadLeftToRight}
 use Rattle.specification.proofs.Laws.Contradiction.{contradiction}
@@ -59,12 +59,15 @@ module _ (s : Sheet) (S : Setting) (size : ℕ) where
   abbrev D : Declared
   D = s .declared
 
+  abbrev C : Conditions
+  C = conditions D S size
+
   abbrev none : Tallies
   none = tallies 0 0 0 0
 
   -- the run over the first visits is still going
   abbrev GoesTo : List Visit → Tallies → Bytes → Type 0
-  GoesTo xs t w = scan D S size (going none []) xs ≡ going t w
+  GoesTo xs t w = scan C (going none []) xs ≡ going t w
 
   -- ---- where the run passed the first visits
 
@@ -73,7 +76,7 @@ module _ (s : Sheet) (S : Setting) (size : ℕ) where
     written-then : (ls : List Leaf) → listingText (drop (S .skip) (blocks D 0 0 (leavesIn xs ++ ls))) ≡ w ++ textAfter D (S .skip) t ls
     written-then ls =
         let k : S .skip ≡ S .skip - (0 + 0) = omega arith in
-        ap (λ n. listingText (drop n (blocks D 0 0 (leavesIn xs ++ ls)))) k ∙ scan-text D S size xs none t [] w ls goes
+        ap (λ n. listingText (drop n (blocks D 0 0 (leavesIn xs ++ ls)))) k ∙ scan-text C xs none t [] w ls goes
 
     pub written-before : w ≡ listingText (listedBefore s (S .skip) (length xs))
     unfolding listedBefore
@@ -82,10 +85,10 @@ module _ (s : Sheet) (S : Setting) (size : ℕ) where
         ap (λ ls. listingText (drop (S .skip) (blocks D 0 0 ls))) (append-nil (leavesIn xs) ∙ sym (leavesBefore-is s xs ys parts))
 
     nodes-before : t .nodes ≡ length xs
-    nodes-before = let k = scan-nodes D S size xs none t [] w goes in omega arith
+    nodes-before = let k = scan-nodes C xs none t [] w goes in omega arith
 
     counts-before : Counts none t (leavesBefore s (length xs))
-    counts-before = rw (leavesBefore-is s xs ys parts) (scan-counts D S size xs none t [] w goes)
+    counts-before = rw (leavesBefore-is s xs ys parts) (scan-counts C xs none t [] w goes)
 
   module _ (xs : List Visit) (v : Visit) (ys : List Visit) (parts : visitsOf s ≡ xs ++ v ∷ ys) (t : Tallies) (w : Bytes) (goes : GoesTo xs t w) where
     next : Next s (length xs) v
@@ -106,7 +109,7 @@ module _ (s : Sheet) (S : Setting) (size : ℕ) where
         ap (λ ls. listingText (drop (S .skip) (blocks D 0 0 ls))) those
 
     -- a visit that meets the condition of a stop
-    meets-ends : (e : Stop) → Meets D S size e v t w → Ends s S size (endOf e) (length xs)
+    meets-ends : (e : Stop) → Meets C e v t w → Ends s S size (endOf e) (length xs)
     meets-ends spent m = (v, next, sym (nodes-before xs (v ∷ ys) parts t w goes) ∙ m)
     meets-ends path m = (v, next, (λ q. m .0 (nodes-before xs (v ∷ ys) parts t w goes ∙ q)), m .1)
     meets-ends output m =
@@ -118,12 +121,12 @@ module _ (s : Sheet) (S : Setting) (size : ℕ) where
     same-visit : (u : Visit) → Next s (length xs) u → u ≡ v
     same-visit u (later, e) = let q : u ∷ later ≡ v ∷ ys = sym e ∙ after s xs (v ∷ ys) parts in cc
 
-    fits-with : Passes D S size v t w → length (listingText (listedBefore s (S .skip) (suc (length xs)))) ≤ size
+    fits-with : Passes C v t w → length (listingText (listedBefore s (S .skip) (suc (length xs)))) ≤ size
     fits-with m =
-        let fits : length w ≤ size = subst (λ r. length (writtenBy r) ≤ size) goes (scan-fits D S size xs none [] (omega arith)) in
+        let fits : length w ≤ size = subst (λ r. length (writtenBy r) ≤ size) goes (scan-fits C xs none [] (omega arith)) in
         subst (λ x. length x ≤ size) written-with (room w (due D (S .skip) t (v .event)) size fits (m .2))
 
-    passes-no-end : Passes D S size v t w → (e : End) → ¬ Ends s S size e (length xs)
+    passes-no-end : Passes C v t w → (e : End) → ¬ Ends s S size e (length xs)
     passes-no-end m Done h =
         let long : length (visitsOf s) ≡ length xs + suc (length ys) = ap length parts ∙ length-append xs (v ∷ ys) in
         omega arith
@@ -135,16 +138,16 @@ module _ (s : Sheet) (S : Setting) (size : ℕ) where
 
   -- a run that is still going has passed each of its visits
   passed : (ps : List Visit) (x : Visit) (bs : List Visit) (t : Tallies) (w : Bytes) → GoesTo (ps ++ x ∷ bs) t w →
-      (u : Tallies) × (b : Bytes) × GoesTo ps u b × Passes D S size x u b
+      (u : Tallies) × (b : Bytes) × GoesTo ps u b × Passes C x u b
   passed ps x bs t w h =
-      go (scan D S size (going none []) ps) refl
-      (sym (scan-append D S size (going none []) ps (x ∷ bs)) ∙ ap (scan D S size (going none [])) (then-is-++ ps (x ∷ bs)) ∙ h)
+      go (scan C (going none []) ps) refl
+      (sym (scan-append C (going none []) ps (x ∷ bs)) ∙ ap (scan C (going none [])) (then-is-++ ps (x ∷ bs)) ∙ h)
     where
-      go : (r : Run) → scan D S size (going none []) ps ≡ r → scan D S size (scan D S size (going none []) ps) (x ∷ bs) ≡ going t w →
-          (u : Tallies) × (b : Bytes) × GoesTo ps u b × Passes D S size x u b
-      go (going u b) e k = (u, b, e, scan-going D S size x bs u b t w (ap (λ r. scan D S size r (x ∷ bs)) (sym e) ∙ k) .0)
+      go : (r : Run) → scan C (going none []) ps ≡ r → scan C (scan C (going none []) ps) (x ∷ bs) ≡ going t w →
+          (u : Tallies) × (b : Bytes) × GoesTo ps u b × Passes C x u b
+      go (going u b) e k = (u, b, e, scan-going C x bs u b t w (ap (λ r. scan C r (x ∷ bs)) (sym e) ∙ k) .0)
       go (stopped f u b) e k =
-          let q : stopped f u b ≡ going t w = sym (scan-stopped D S size f u b (x ∷ bs)) ∙ ap (λ r. scan D S size r (x ∷ bs)) (sym e) ∙ k in
+          let q : stopped f u b ≡ going t w = sym (scan-stopped C f u b (x ∷ bs)) ∙ ap (λ r. scan C r (x ∷ bs)) (sym e) ∙ k in
           contradiction cc
 
   no-end-before : (xs ys : List Visit) → visitsOf s ≡ xs ++ ys → (t : Tallies) (w : Bytes) → GoesTo xs t w →
@@ -197,12 +200,12 @@ module _ (s : Sheet) (S : Setting) (size : ℕ) where
   unfolding runOf
   read-left-to-right = go (runOf s S size) refl
     where
-      go : (r : Run) → scan D S size (going none []) (visitsOf s) ≡ r → Holds (resultOf r)
+      go : (r : Run) → scan C (going none []) (visitsOf s) ≡ r → Holds (resultOf r)
       go (going t w) h =
           let whole : visitsOf s ≡ visitsOf s ++ [] = sym (append-nil (visitsOf s)) in
           at-place (visitsOf s) [] whole t w h Done refl t (nodes-before (visitsOf s) [] whole t w h) (refl, refl, refl)
       go (stopped e t w) h =
-          let c = stopped-at D S size (visitsOf s) none t [] w e h in
+          let c = stopped-at C (visitsOf s) none t [] w e h in
           let before = nodes-before (c .passed) (c .there ∷ c .unread) (c .parts) (c .before) w (c .goes) in
           rw (c .after)
           (at-place (c .passed) (c .there ∷ c .unread) (c .parts) (c .before) w (c .goes) (endOf e)

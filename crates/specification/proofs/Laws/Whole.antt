@@ -9,12 +9,11 @@ use Rattle.specification.specs.declared.Setting.{Setting}
 use Rattle.specification.specs.declared.Tallies.{Tallies}
 use Rattle.specification.specs.declared.End.{End}
 use Rattle.specification.specs.Bytes.{Bytes}
-use Rattle.specification.specs.Lines.{Declared}
 use Rattle.specification.specs.Visits.{Visit}
 use Rattle.specification.specs.Listing.{Block, blockText, listingText}
-use Rattle.specification.specs.Run.{going, scan}
+use Rattle.specification.specs.Run.{Conditions, conditions, going, scan}
 use Rattle.specification.specs.Outcome.{ran, written, visitsOf, runOf, call}
-use Rattle.specification.proofs.Laws.Stops.{due, dueText}
+use Rattle.specification.proofs.Laws.Stops.{dueText, dueUnder}
 use Rattle.specification.proofs.Laws.Run.{writtenBy, scan-induction}
 use Rattle.specification.proofs.Laws.CallRan.{call-ran}
 
@@ -35,16 +34,16 @@ pub room : (w : Bytes) (o : Option Block) (size : ℕ) → length w ≤ size →
 room w none size h k = rw (append-nil w) h
 room w (some x) size h k = rw length-append (k x refl)
 
-module _ (D : Declared) (S : Setting) (size : ℕ) where
-  pub scan-whole : (vs : List Visit) (t : Tallies) (w : Bytes) → Blocks w (writtenBy (scan D S size (going t w) vs))
+module _ (C : Conditions) where
+  pub scan-whole : (vs : List Visit) (t : Tallies) (w : Bytes) → Blocks w (writtenBy (scan C (going t w) vs))
   scan-whole =
-      scan-induction D S size (λ t w vs r. Blocks w (writtenBy r))
-      (λ t w. none-more w) (λ v vs t w e m. none-more w) (λ v vs t w r m h. more w (writtenBy r) (due D (S .skip) t (v .event)) h)
+      scan-induction C (λ t w vs r. Blocks w (writtenBy r))
+      (λ t w. none-more w) (λ v vs t w e m. none-more w) (λ v vs t w r m h. more w (writtenBy r) (dueUnder C t (v .event)) h)
 
-  pub scan-fits : (vs : List Visit) (t : Tallies) (w : Bytes) → length w ≤ size → length (writtenBy (scan D S size (going t w) vs)) ≤ size
+  pub scan-fits : (vs : List Visit) (t : Tallies) (w : Bytes) → length w ≤ C .size → length (writtenBy (scan C (going t w) vs)) ≤ C .size
   scan-fits =
-      scan-induction D S size (λ t w vs r. length w ≤ size → length (writtenBy r) ≤ size)
-      (λ t w h. h) (λ v vs t w e m h. h) (λ v vs t w r m ih h. ih (room w (due D (S .skip) t (v .event)) size h (m .2)))
+      scan-induction C (λ t w vs r. length w ≤ C .size → length (writtenBy r) ≤ C .size)
+      (λ t w h. h) (λ v vs t w e m h. h) (λ v vs t w r m ih h. ih (room w (dueUnder C t (v .event)) (C .size) h (m .2)))
 
 -- ---- of a call
 
@@ -54,5 +53,5 @@ unfolding runOf
 whole-blocks sheet S words size e t w h =
     let (s, r, reads, result) = call-ran sheet S words size e t w h in
     let q : writtenBy (runOf s S size) ≡ w = ap written result in
-    let (bs, b) = scan-whole (s .declared) S size (visitsOf s) _ [] in
-    (bs, sym q ∙ b, subst (λ x. length x ≤ size) q (scan-fits (s .declared) S size (visitsOf s) _ [] (omega arith)))
+    let (bs, b) = scan-whole (conditions (s .declared) S size) (visitsOf s) _ [] in
+    (bs, sym q ∙ b, subst (λ x. length x ≤ size) q (scan-fits (conditions (s .declared) S size) (visitsOf s) _ [] (omega arith)))

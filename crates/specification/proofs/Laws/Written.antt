@@ -8,15 +8,14 @@ use mathlib.Core.List.{List, [], _∷_, _++_, append-assoc}
 use lib.ListN.{drop, drop-of-length-le}
 use lib.Dec.{ltb}
 use borrow.Author.Tests.{ltb-true, ltb-false}
-use Rattle.specification.specs.declared.Setting.{Setting}
 use Rattle.specification.specs.declared.Tallies.{Tallies}
 use Rattle.specification.specs.Bytes.{Bytes}
 use Rattle.specification.specs.Lines.{Declared}
 use Rattle.specification.specs.Listing.{answerHead, errorHead, Block, blockOf, listingText}
 use Rattle.specification.specs.Leaves.{Leaf, answer, error, fail, isAnswer, isError, isFail, howMany, blocks}
 use Rattle.specification.specs.Visits.{Event, node, leaf, Visit}
-use Rattle.specification.specs.Run.{going, scan}
-use Rattle.specification.proofs.Laws.Stops.{unless, dueText, added, counted}
+use Rattle.specification.specs.Run.{Conditions, going, scan}
+use Rattle.specification.proofs.Laws.Stops.{unless, dueText, added, addedUnder, counted}
 use Rattle.specification.proofs.Laws.Run.{scan-going}
 use Rattle.specification.proofs.Laws.Leaves.{leafOf, leavesIn}
 
@@ -57,22 +56,22 @@ added-text D skip t (leaf (error κ i β)) ls =
     skip-one skip (t .answers + t .errors) (t .answers + suc (t .errors)) (omega arith) (blockOf D (errorHead (suc (t .errors)) κ i) β) (blocks D (t .answers) (suc (t .errors)) ls)
     (ltb (t .answers + t .errors) skip) refl
 
-module _ (D : Declared) (S : Setting) (size : ℕ) where
+module _ (C : Conditions) where
   -- whatever leaves come after the visits that were passed
-  pub scan-text : (vs : List Visit) (t t′ : Tallies) (w w′ : Bytes) (ls : List Leaf) → scan D S size (going t w) vs ≡ going t′ w′ →
-      w ++ textAfter D (S .skip) t (leavesIn vs ++ ls) ≡ w′ ++ textAfter D (S .skip) t′ ls
+  pub scan-text : (vs : List Visit) (t t′ : Tallies) (w w′ : Bytes) (ls : List Leaf) → scan C (going t w) vs ≡ going t′ w′ →
+      w ++ textAfter (C .declared) (C .setting .skip) t (leavesIn vs ++ ls) ≡ w′ ++ textAfter (C .declared) (C .setting .skip) t′ ls
   unfolding scan leavesIn
   scan-text [] t t′ w w′ ls h =
       let p : w ≡ w′ = cc in
       let q : t ≡ t′ = cc in
       rw (p, q)
   scan-text (v ∷ vs) t t′ w w′ ls h =
-      let b = added D (S .skip) t (v .event) in
+      let b = addedUnder C t (v .event) in
       let u = counted (v .event) t in
-      ap (λ x. w ++ textAfter D (S .skip) t x) (append-assoc (leafOf (v .event)) (leavesIn vs) ls) ∙
-      ap (w ++_) (sym (added-text D (S .skip) t (v .event) (leavesIn vs ++ ls))) ∙
-      sym (append-assoc w b (textAfter D (S .skip) u (leavesIn vs ++ ls))) ∙
-      scan-text vs u t′ (w ++ b) w′ ls (scan-going D S size v vs t w t′ w′ h .1)
+      ap (λ x. w ++ textAfter (C .declared) (C .setting .skip) t x) (append-assoc (leafOf (v .event)) (leavesIn vs) ls) ∙
+      ap (w ++_) (sym (added-text (C .declared) (C .setting .skip) t (v .event) (leavesIn vs ++ ls))) ∙
+      sym (append-assoc w b (textAfter (C .declared) (C .setting .skip) u (leavesIn vs ++ ls))) ∙
+      scan-text vs u t′ (w ++ b) w′ ls (scan-going C v vs t w t′ w′ h .1)
 
 -- ---- tallies
 
@@ -88,12 +87,12 @@ counts-more t t′ (leaf fail) ls c = record { answers = c .answers; errors = c 
 counts-more t t′ (leaf (answer β)) ls c = record { answers = omega (arith, c .answers); errors = c .errors; fails = c .fails }
 counts-more t t′ (leaf (error κ i β)) ls c = record { answers = c .answers; errors = omega (arith, c .errors); fails = c .fails }
 
-module _ (D : Declared) (S : Setting) (size : ℕ) where
-  pub scan-counts : (vs : List Visit) (t t′ : Tallies) (w w′ : Bytes) → scan D S size (going t w) vs ≡ going t′ w′ → Counts t t′ (leavesIn vs)
+module _ (C : Conditions) where
+  pub scan-counts : (vs : List Visit) (t t′ : Tallies) (w w′ : Bytes) → scan C (going t w) vs ≡ going t′ w′ → Counts t t′ (leavesIn vs)
   unfolding scan leavesIn howMany
   scan-counts [] t t′ w w′ h =
       let q : t ≡ t′ = cc in
       rw (sym q) (record { answers = omega arith; errors = omega arith; fails = omega arith })
   scan-counts (v ∷ vs) t t′ w w′ h =
       counts-more t t′ (v .event) (leavesIn vs)
-      (scan-counts vs (counted (v .event) t) t′ (w ++ added D (S .skip) t (v .event)) w′ (scan-going D S size v vs t w t′ w′ h .1))
+      (scan-counts vs (counted (v .event) t) t′ (w ++ addedUnder C t (v .event)) w′ (scan-going C v vs t w t′ w′ h .1))
