@@ -11,6 +11,7 @@ use Rattle.specification.specs.Bytes.{Bytes}
 use Rattle.specification.specs.Outcome.{Result, refusal, ran, call, written, outcome, outputAfter, wordsAfter}
 use Rattle.specification.specs.Printed.{closing, printed, boxSetting, boxWords, boxOutput, box}
 use Rattle.specification.proofs.Laws.Printed.{box-whole}
+use Rattle.vodlasim.specs.Lent.{Lent, lent}
 use Rattle.vodlasim.specs.Answered.{Answered}
 use Rattle.page.specs.declared.Page.{Page}
 use Rattle.page.specs.Page.{writtenOf, Closed, boxRun, Paged}
@@ -25,17 +26,17 @@ written-inside : (x : Result) (o : Bytes) {o' : Bytes} → o' ≡ outputAfter x 
 unfolding outputAfter
 written-inside x o e = omega (arith, ap length e, length-append (written x) (drop (length (written x)) o))
 
-pub answered-inside : {sheet : Bytes} {S : Setting} {w w' : List ℕ} {o o' : Bytes} {r : Outcome} → Answered sheet S w w' o o' r → writtenOf r ≤ length o'
+pub answered-inside : {sheet : Bytes} {S : Setting} {w o : Lent} {r : Outcome} → Answered sheet S w o r → writtenOf r ≤ length (o .after)
 answered-inside {sheet} {S} {w} {o = o} a =
-    let x = call sheet S (length w) (length o) in
-    omega (arith, ap writtenOf (a .result), written-of x, written-inside x o (a .output))
+    let x = call sheet S (length (w .before)) (length (o .before)) in
+    omega (arith, ap writtenOf (a .result), written-of x, written-inside x (o .before) (a .output))
 
 -- so do the lines after the listing in their memory
 pub closed-inside : {o : Outcome} {b b' : Bytes} {r : ℕ} → Closed o b b' r → r ≤ length b'
 closed-inside {o} {b} {r = r} c = omega (arith, c .count, ap length (c .lines), length-append (closing o) (drop r b))
 
 module _ {sheet : Bytes} {work work' : List ℕ} {output output' : Bytes} {o : Outcome}
-    (words : length work ≡ boxWords) (size : length output ≡ boxOutput) (a : Answered sheet boxSetting work work' output output' o) where
+    (words : length work ≡ boxWords) (size : length output ≡ boxOutput) (a : Answered sheet boxSetting (lent work work') (lent output output') o) where
   result : o ≡ outcome (boxRun sheet)
   result = a .result ∙ rw (words, size)
 
@@ -53,7 +54,7 @@ module _ {sheet : Bytes} {work work' : List ℕ} {output output' : Bytes} {o : O
     then : take m lines' ≡ closing (outcome (boxRun sheet))
     then = ap (take m) (c .lines) ∙ take-at (closing o) (drop m lines) m (sym (c .count)) ∙ ap closing result
 
-    pub paged : Paged sheet work' output output' lines lines' (record { listing = n; closing = m })
+    pub paged : Paged sheet work' (lent output output') (lent lines lines') (record { listing = n; closing = m })
     unfolding printed wordsAfter
     paged = record {
       page = rw (first, then) (sym (box-whole sheet));
@@ -63,6 +64,6 @@ module _ {sheet : Bytes} {work work' : List ℕ} {output output' : Bytes} {o : O
       closed = subst (λ x. Closed x lines lines' m) result c;
     }
 
-pub paged-inside : {sheet : Bytes} {w' : List ℕ} {o o' l l' : Bytes} {r : Page} → Paged sheet w' o o' l l' r →
-    (r .listing ≤ length o') × (r .closing ≤ length l')
-paged-inside {sheet} {o = o} p = (omega (arith, p .listing, written-inside (boxRun sheet) o (p .output)), closed-inside (p .closed))
+pub paged-inside : {sheet : Bytes} {w' : List ℕ} {o l : Lent} {r : Page} → Paged sheet w' o l r →
+    (r .listing ≤ length (o .after)) × (r .closing ≤ length (l .after))
+paged-inside {sheet} {o = o} p = (omega (arith, p .listing, written-inside (boxRun sheet) (o .before) (p .output)), closed-inside (p .closed))

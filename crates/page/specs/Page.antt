@@ -9,6 +9,7 @@ use Rattle.specification.specs.Bytes.{Bytes}
 use Rattle.specification.specs.Outcome.{Result, call, written, outcome, outputAfter}
 use Rattle.specification.specs.Printed.{closing, boxSetting, boxWords, boxOutput, box}
 use Rattle.listing.specs.Put.{Put}
+use Rattle.vodlasim.specs.Lent.{Lent}
 use Rattle.page.specs.declared.Page.{Page}
 
 -- the bytes written that an outcome tells
@@ -37,14 +38,14 @@ pub record Closed (o : Outcome) (b b' : Bytes) (r : ℕ) : Type 0 where
 abbrev pub boxRun : Bytes → Result
 boxRun sheet = call sheet boxSetting boxWords boxOutput
 
--- its page: the output is o before and o' after, the memory of the lines after the listing l before and l' after, the work words w' after
-pub record Paged (sheet : Bytes) (w' : List ℕ) (o o' l l' : Bytes) (r : Page) : Type 0 where
+-- its page in the output o and in the memory l of the lines after the listing, where the call leaves the work words w'
+pub record Paged (sheet : Bytes) (w' : List ℕ) (o l : Lent) (r : Page) : Type 0 where
   -- what the box prints
-  pub page : take (r .listing) o' ++ take (r .closing) l' ≡ box sheet
+  pub page : take (r .listing) (o .after) ++ take (r .closing) (l .after) ≡ box sheet
   -- the listing, and beyond it what the output held
   pub listing : r .listing ≡ length (written (boxRun sheet))
-  pub output : o' ≡ outputAfter (boxRun sheet) o
+  pub output : o .after ≡ outputAfter (boxRun sheet) (o .before)
   -- the lines after it, and beyond them what their memory held
-  pub closed : Closed (outcome (boxRun sheet)) l l' (r .closing)
+  pub closed : Closed (outcome (boxRun sheet)) (l .before) (l .after) (r .closing)
   -- the work words are zero
   pub work : w' ≡ replicate boxWords 0

@@ -2,6 +2,7 @@
 ghost use mathlib.Core.Path.{_≡_};
 ghost use Prim.Native.Nat.{_≤_};
 ghost use Rattle.specification.specs.Printed.{endLine, tallyLines, refusalLines};
+ghost use Rattle.vodlasim.specs.Lent.{lent};
 ghost use Rattle.page.specs.Page.{writtenOf, endMost, closingMost, Lined, Closed, Paged};
 use listing::put;
 use specification::End;
@@ -105,7 +106,7 @@ pub fn run_box(
     output: &mut [u8; OUTPUT],
     lines: &mut [u8; CLOSING],
 ) -> Page
-    ensures { λ r. ⌜ Paged (now (sheet .entry)) (now (work .exit)) (now (output .entry)) (now (output .exit)) (now (lines .entry)) (now (lines .exit)) r ⌝ }
+    ensures { λ r. ⌜ Paged (now (sheet .entry)) (now (work .exit)) (lent (now (output .entry)) (now (output .exit))) (lent (now (lines .entry)) (now (lines .exit))) r ⌝ }
 {
     let setting = Setting {
         path: PATH,

@@ -30,6 +30,7 @@ use Rattle.sheet.proofs.ReadSheet.{read-counts, read-ready}
 use Rattle.sheet.proofs.Shallow.{formula-shallow}
 use Rattle.walker.specs.declared.Task.{Task}
 use Rattle.walker.specs.Walked.{Ready, Readied, Walked}
+use Rattle.vodlasim.specs.Lent.{lent}
 use Rattle.vodlasim.specs.Answered.{Answered}
 
 -- ---- a sheet that is read has a shallow formula
@@ -136,7 +137,7 @@ module _ (b : Bytes) (S : Setting) (n : ℕ) (limit : S .path ≤ longestPath) (
 -- ---- the four ways of the call
 
 module _ (b : Bytes) (S : Setting) (w w' : List ℕ) (o : Bytes) where
-  pub refused-answers : (k p : ℕ) → call b S (length w) (length o) ≡ refusal k p → w' ≡ replicate (length w) 0 → Answered b S w w' o o (outcomes.Refused k p)
+  pub refused-answers : (k p : ℕ) → call b S (length w) (length o) ≡ refusal k p → w' ≡ replicate (length w) 0 → Answered b S (lent w w') (lent o o) (outcomes.Refused k p)
   unfolding outputAfter wordsAfter
   refused-answers k p c z = record { result = sym (ap outcome c); output = sym (ap (λ x. outputAfter x o) c); work = z }
 
@@ -148,13 +149,13 @@ module _ (b : Bytes) (S : Setting) (w w' : List ℕ) (o : Bytes) where
         ap (λ x. refused x p′) a ∙ ap (refused k) b
     unread-of (found s r) k p h = contradiction cc
 
-    pub unread-answers : (k p : ℕ) → reading.Refused k p ≡ readingOf (read b) → w' ≡ wordsOf (length w) (read b) → Answered b S w w' o o (outcomes.Refused k p)
+    pub unread-answers : (k p : ℕ) → reading.Refused k p ≡ readingOf (read b) → w' ≡ wordsOf (length w) (read b) → Answered b S (lent w w') (lent o o) (outcomes.Refused k p)
     unread-answers k p t h =
         let is = unread-of (read b) k p t in
         refused-answers k p (reads b S (length w) (length o) e l ∙ ap (afterReading S (length o)) is) (h ∙ ap (wordsOf (length w)) is)
 
     pub walk-answers : (v v' : Words) (o' : Bytes) (scalars arrays tokens : ℕ) (r : Outcome) → reading.Read scalars arrays tokens ≡ readingOf (read b) →
-        v ≡ wordsOf (length w) (read b) → Walked v v' o o' (taskOf S scalars arrays) r → w' ≡ replicate (length v') 0 → Answered b S w w' o o' r
+        v ≡ wordsOf (length w) (read b) → Walked v v' o o' (taskOf S scalars arrays) r → w' ≡ replicate (length v') 0 → Answered b S (lent w w') (lent o o') r
     unfolding wordsAfter
     walk-answers v v' o' scalars arrays tokens r t h walked zero =
         let (limit, size) = memory-of (S .path) (length w) e in

@@ -24,30 +24,32 @@ use Rattle.specification.specs.Report.{reportOf}
 use Rattle.specification.specs.Listed.{Listed}
 use Rattle.specification.specs.Demand2.{ReadLeftToRight}
 use Rattle.specification.specs.Demand3.{NoPattern, Right, Demand3}
+use Rattle.vodlasim.specs.Lent.{Lent}
 
 -- demand 1: lent memory is accounted for
-pub record Memory (sheet : Bytes) (S : Setting) (work work' : List ℕ) (output output' : Bytes) (r : Outcome) : Type 0 where
+pub record Memory (sheet : Bytes) (S : Setting) (work output : Lent) (r : Outcome) : Type 0 where
   -- when the call returns, the work words are zero
-  pub zero : work' ≡ replicate (length work) 0
+  pub zero : work .after ≡ replicate (length (work .before)) 0
   -- the output begins with whole blocks, and beyond them holds what it held before
   pub blocks :
       (end : End) (t : Tallies) (n : ℕ) → r ≡ Ran end t n →
-      (n ≤ length output) × ((bs : List Block) × (take n output' ≡ listingText bs)) × (drop n output' ≡ drop n output)
+      (n ≤ length (output .before)) × ((bs : List Block) × (take n (output .after) ≡ listingText bs)) ×
+      (drop n (output .after) ≡ drop n (output .before))
   -- a sheet is refused with a number and a byte place exactly where document 01 refuses it with these
   pub refused :
       (number place : ℕ) →
-      (call sheet S (length work) (length output) ≡ refusal number place → r ≡ Refused number place) ×
-      (r ≡ Refused number place → call sheet S (length work) (length output) ≡ refusal number place)
+      (call sheet S (length (work .before)) (length (output .before)) ≡ refusal number place → r ≡ Refused number place) ×
+      (r ≡ Refused number place → call sheet S (length (work .before)) (length (output .before)) ≡ refusal number place)
   -- and the output is then untouched, all tallies and the bytes written are zero
   pub untouched :
       (number place : ℕ) → r ≡ Refused number place →
-      (output' ≡ output) × (reportOf r ≡ number ∷ place ∷ 0 ∷ 0 ∷ 0 ∷ 0 ∷ 0 ∷ 0 ∷ [])
+      (output .after ≡ output .before) × (reportOf r ≡ number ∷ place ∷ 0 ∷ 0 ∷ 0 ∷ 0 ∷ 0 ∷ 0 ∷ [])
 
 -- demand 2: the listing is the tree, read left to right; of every run, whatever was skipped and however it ended
-pub record Lists (sheet : Bytes) (S : Setting) (output output' : Bytes) (r : Outcome) : Type 0 where
+pub record Lists (sheet : Bytes) (S : Setting) (output : Lent) (r : Outcome) : Type 0 where
   pub ran :
       (end : End) (t : Tallies) (n : ℕ) → r ≡ Ran end t n →
-      (l : Listed sheet (take n output')) × ReadLeftToRight (l .what) S (length output) end t (l .blocks)
+      (l : Listed sheet (take n (output .after))) × ReadLeftToRight (l .what) S (length (output .before)) end t (l .blocks)
 
 -- demand 3: a run that ends done with skip 0 agrees with the plain reading
 pub record Agrees (sheet : Bytes) (S : Setting) (output' : Bytes) (r : Outcome) : Type 0 where

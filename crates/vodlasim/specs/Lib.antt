@@ -1,3 +1,4 @@
 -- The promises of the public call.
+pub mod Lent
 pub mod Answered
 pub mod Demands

@@ -5,6 +5,7 @@ ghost use Prim.Native.Nat.{_+_, _*_};
 ghost use lib.Dec.{leb};
 ghost use Rattle.specification.specs.Bytes.{between};
 ghost use Rattle.specification.specs.Outcome.{longestPath, wordsFor};
+ghost use Rattle.vodlasim.specs.Lent.{lent};
 ghost use Rattle.vodlasim.specs.Answered.{Answered};
 use sheet::Reading;
 use sheet::clear;
@@ -32,7 +33,7 @@ fn enough(path: u32, words: usize) -> bool
 
 // Reads the sheet, walks its tree, writes the listing and leaves the work words all zero; every length of the slices is allowed.
 pub fn run(sheet: &[u8], setting: Setting, work: &mut [u32], output: &mut [u8]) -> Outcome
-    ensures { λ r. ⌜ Answered (now (sheet .entry)) setting (now (work .entry)) (now (work .exit)) (now (output .entry)) (now (output .exit)) r ⌝ }
+    ensures { λ r. ⌜ Answered (now (sheet .entry)) setting (lent (now (work .entry)) (now (work .exit))) (lent (now (output .entry)) (now (output .exit))) r ⌝ }
 {
     if !enough(setting.path, work.len()) {
         clear(work);

@@ -8,9 +8,10 @@ use Rattle.specification.specs.declared.Setting.{Setting}
 use Rattle.specification.specs.Bytes.{Bytes}
 use Rattle.specification.specs.Outcome.{call, outcome, outputAfter, wordsAfter}
 use Rattle.specification.specs.Report.{reportOf}
+use Rattle.vodlasim.specs.Lent.{Lent}
 
--- a call with these work words, output bytes and report at entry (w, o) and at exit (w', o', numbers)
-pub record Reported (sheet : Bytes) (S : Setting) (w w' : List ℕ) (o o' : Bytes) (numbers : List ℕ) : Type 0 where
-  pub report : numbers ≡ reportOf (outcome (call sheet S (length w) (length o)))
-  pub output : o' ≡ outputAfter (call sheet S (length w) (length o)) o
-  pub work : w' ≡ wordsAfter w
+-- a call with these work words, output bytes and, when it returns, numbers in its report
+pub record Reported (sheet : Bytes) (S : Setting) (w o : Lent) (numbers : List ℕ) : Type 0 where
+  pub report : numbers ≡ reportOf (outcome (call sheet S (length (w .before)) (length (o .before))))
+  pub output : o .after ≡ outputAfter (call sheet S (length (w .before)) (length (o .before))) (o .before)
+  pub work : w .after ≡ wordsAfter (w .before)

@@ -4,6 +4,7 @@ use specification::Outcome;
 use specification::Setting;
 ghost use mathlib.Core.Path.{_≡_};
 ghost use Rattle.specification.specs.Report.{endNumber, reportOf};
+ghost use Rattle.vodlasim.specs.Lent.{lent};
 ghost use Rattle.vodlasim_c.specs.Report.{Reported};
 
 // `vodlasim::run`, with its outcome in `report`, as the specification's `reportOf` gives it: refused number or 0, place, the end's number,
@@ -18,7 +19,7 @@ pub extern "C" fn vodlasim_run(
     output: &mut [u8],
     report: &mut [u64; 8],
 )
-    ensures { λ _. ⌜ Reported (now (sheet .entry)) (record { path = «path_limit»; budget = budget; skip = skip }) (now (work .entry)) (now (work .exit)) (now (output .entry)) (now (output .exit)) (now (report .exit)) ⌝ }
+    ensures { λ _. ⌜ Reported (now (sheet .entry)) (record { path = «path_limit»; budget = budget; skip = skip }) (lent (now (work .entry)) (now (work .exit))) (lent (now (output .entry)) (now (output .exit))) (now (report .exit)) ⌝ }
 {
     let setting = Setting {
         path: path_limit,
