@@ -14,7 +14,7 @@ use Rattle.walker.specs.declared.Task.{Task}
 use Rattle.walker.specs.Frame.{the}
 use Rattle.walker.specs.Path.{World}
 use Rattle.walker.specs.Sim.{Down, Leaf, Over, Sim, over, down, up, won, block}
-use Rattle.walker.specs.Loop.{Ups, IsUp, Rising, Rose, Fixed, BlockDue, Blocked, measure, VisitDue, Arrived, Goes, Went, Climbs, Climbed, Runs, Settled, Live, Moved}
+use Rattle.walker.specs.Loop.{Ups, IsUp, Rising, Rose, Fixed, BlockDue, Blocked, measure, VisitDue, Arrived, Goes, Went, Climbs, Climbed, Runs, Settled, Live, snapshot, Moved}
 use Rattle.walker.specs.States.{overMode, downMode, blockMode, upMode, wonMode}
 
 -- ---- the invariant by the mode
@@ -198,7 +198,7 @@ module _ {t : Task} where
         pub settled-climbs : Climbs w1 s
         settled-climbs = let u = gone-runs in record { c = u .c; o = o'; sim = y .sim (u .c) (u .fixed) (u .sim) }
 
-        pub moved : {w' : Words} {q : Regs} → Climbed w1 w' s q → Moved w w' o o' r q t
+        pub moved : {w' : Words} {q : Regs} → Climbed w1 w' s q → Moved (snapshot w o r) (snapshot w' o' q) t
         moved {q = q} z = record {
           sim = λ c f m. z .sim c o' (y .sim c f (x .sim c o (setting-path c f) (setting-budget c f) m));
           falls = less (x .falls) (y .falls) (z .falls);

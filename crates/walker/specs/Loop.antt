@@ -178,7 +178,16 @@ pub record Live (w : Words) (o : Bytes) (r : Regs) (t : Task) : Type 0 where
   pub runs : Runs w o r t
   pub on : r .mode ≡ overMode → ⊥
 
-pub record Moved (w w' : Words) (o o' : Bytes) (r r' : Regs) (t : Task) : Type 0 where
-  pub sim : (c : World) → Fixed c t → Sim c o w r → Sim c o' w' r'
-  pub falls : measure (t .setting .budget) r' < measure (t .setting .budget) r
-  pub size : length o' ≡ length o
+-- the memory and the registers at one moment
+pub record Snapshot : Type 0 where
+  pub words : Words
+  pub output : Bytes
+  pub regs : Regs
+
+abbrev pub snapshot : Words → Bytes → Regs → Snapshot
+snapshot w o r = record { words = w; output = o; regs = r }
+
+pub record Moved (a b : Snapshot) (t : Task) : Type 0 where
+  pub sim : (c : World) → Fixed c t → Sim c (a .output) (a .words) (a .regs) → Sim c (b .output) (b .words) (b .regs)
+  pub falls : measure (t .setting .budget) (b .regs) < measure (t .setting .budget) (a .regs)
+  pub size : length (b .output) ≡ length (a .output)

@@ -4,7 +4,7 @@ ghost use Prim.Native.Nat.{_<_};
 ghost use lib.ListN.{length};
 ghost use Rattle.tables.specs.Layout.{tokenSlot};
 ghost use Rattle.walker.specs.Steps.{Visited, Stepped};
-ghost use Rattle.walker.specs.Loop.{AtLeaf, LeafDone, VisitDue, Arrived, BlockDue, Blocked, Goes, Went, IsUp, Climbs, Climbed, Runs, Settled, Live, Moved};
+ghost use Rattle.walker.specs.Loop.{AtLeaf, LeafDone, VisitDue, Arrived, BlockDue, Blocked, Goes, Went, IsUp, Climbs, Climbed, Runs, Settled, Live, snapshot, Moved};
 ghost use Rattle.walker.specs.Walked.{Readied, startRegs, Finished, Walked};
 ghost use Rattle.walker.specs.Blocks.{HeadDue, headDue, passedRegs};
 use crate::Regs;
@@ -184,7 +184,7 @@ fn settle(w: &[u32], out: &mut [u8], r: Regs, task: Task) -> Regs
 // Down to a leaf, its block, and up again.
 fn step(w: &mut [u32], out: &mut [u8], r: Regs, task: Task) -> Regs
     requires { ⌜ Live (now w) (now out) r task ⌝ }
-    ensures { λ q. ⌜ Moved (now (w .entry)) (now (w .exit)) (now (out .entry)) (now (out .exit)) r q task ⌝ }
+    ensures { λ q. ⌜ Moved (snapshot (now (w .entry)) (now (out .entry)) r) (snapshot (now (w .exit)) (now (out .exit)) q) task ⌝ }
 {
     let d = descend(w, r, task.setting.path, task.setting.budget);
     let s = settle(w, out, d, task);
