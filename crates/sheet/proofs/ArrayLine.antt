@@ -194,7 +194,7 @@ module _ (s : Bytes) (at scalars : ℕ) where
       pub lined-open : (classAt s e ≡ classNumber feed → ⊥) → arraysLine scalars (lineAt s at) ≡ refused 5 e
       lined-open other = lined ∙ ap closed (from .is) ∙ sym (closed-no s e (from .origin) other)
 
-      pub lined-found : classAt s e ≡ classNumber feed → ArraysFound s at scalars w w′ n end (e + 1)
+      pub lined-found : classAt s e ≡ classNumber feed → ArraysFound s at scalars w (record { arrays = n; end = end; words = w′ }) (e + 1)
       lined-found is-feed = record {
         lengths = from .origin;
         read = lined ∙ ap closed (from .is) ∙ sym (closed-yes s e (from .origin) is-feed);

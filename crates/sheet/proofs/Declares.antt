@@ -113,7 +113,7 @@ module _ (D : Declared) where
   laid-arrays w long a l = laid-at (suc maxArrays) 0 a w (omega arith) (omega arith) (omega arith)
 
 -- what the line of given values wants of the words
-pub found-declares : {s : Bytes} {at scalars : ℕ} {w w′ : Words} {n end e : ℕ} → (f : ArraysFound s at scalars w w′ n end e)
+pub found-declares : {s : Bytes} {at scalars : ℕ} {w w′ : Words} {n end e : ℕ} → (f : ArraysFound s at scalars w (record { arrays = n; end = end; words = w′ }) e)
     → scalars ≤ maxCells → pathAt ≤ length w → (D : Declared) → D .scalars ≡ scalars → D .arrays ≡ f .lengths → Declares D scalars n w′
 unfolding cells
 found-declares {s} {at} {scalars} {w} {w′} {n} {end} {e} f few long D a b =

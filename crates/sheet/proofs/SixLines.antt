@@ -119,7 +119,7 @@ module _ (s : Bytes) (n : ℕ) (d : Limits) (at : ℕ) (w : Words) (h : Headed 3
   pub arrays-found : (m end c t : ℕ) → r ≡ arrays.Read m end c → Went 4 s n (progress.Read (record { edition = d .edition; scalars = d .scalars; locals = d .locals; arrays = m }) t c) w₁
   unfolding laidArrays
   arrays-found m end c t q =
-      let f : ArraysFound s at (d .scalars) w w₁ m end c = rw q at a in
+      let f : ArraysFound s at (d .scalars) w (record { arrays = m; end = end; words = w₁ }) c = rw q at a in
       let long : length w ≡ n = headed-long s n d at w 3 h in
       let D : Declared = declaring d (f .lengths) in
       let few : length (f .lengths) ≤ maxArrays = arrays-few (d .scalars) (lineAt s at) (f .lengths) (lineAt s c) (f .read) .0 in

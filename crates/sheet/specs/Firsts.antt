@@ -38,16 +38,17 @@ abbrev pub arraysRead : Bytes → Arrays → Words → Read Table
 arraysRead s (arrays.Refused k p) w = refused k p
 arraysRead s (arrays.Read n end e) w = found (record { arrays = n; end = end; words = w }) (lineAt s e)
 
--- ---- the line's answer, over the words w, which it leaves as w′
+-- ---- the line's answer, over the words w
 
--- the lengths that were read, and the tables of a sheet that declares them
-pub record ArraysFound (s : Bytes) (at scalars : ℕ) (w w′ : Words) (n end e : ℕ) : Type 0 where
+-- the lengths that were read, the table that they make, and the tables of a sheet that declares them
+pub record ArraysFound (s : Bytes) (at scalars : ℕ) (w : Words) (t : Table) (e : ℕ) : Type 0 where
   pub lengths : List ℕ
   pub read : arraysLine scalars (lineAt s at) ≡ found lengths (lineAt s e)
-  pub many : length lengths ≡ n
-  pub ends : scalars + sum lengths ≡ end
-  pub laid : (D : Declared) → D .scalars ≡ scalars → D .arrays ≡ lengths → w′ ≡ laidArrays D w
+  pub many : length lengths ≡ t .arrays
+  pub ends : scalars + sum lengths ≡ t .end
+  pub laid : (D : Declared) → D .scalars ≡ scalars → D .arrays ≡ lengths → t .words ≡ laidArrays D w
 
+-- the line leaves the words as w′
 abbrev pub ArraysDone : Bytes → ℕ → ℕ → Words → Words → Arrays → Type 0
 ArraysDone s at scalars w w′ (arrays.Refused k p) = (arraysLine scalars (lineAt s at) ≡ refused k p) × (length w′ ≡ length w)
-ArraysDone s at scalars w w′ (arrays.Read n end e) = ArraysFound s at scalars w w′ n end e
+ArraysDone s at scalars w w′ (arrays.Read n end e) = ArraysFound s at scalars w (record { arrays = n; end = end; words = w′ }) e

@@ -148,19 +148,16 @@ pub record Tabled (s : Bytes) (n : ℕ) (d : Limits) (t : ℕ) (w : Words) : Typ
   pub tokens : length (formulaTokens (whole .formula)) ≡ t
   pub words : Beside (tables whole n) w
 
-abbrev pub Reached : ℕ → Bytes → ℕ → Limits → ℕ → ℕ → Words → Type 0
-Reached zero s n d t at w = Headed 0 s n d at w
-Reached (suc zero) s n d t at w = Headed 1 s n d at w
-Reached (suc (suc zero)) s n d t at w = Headed 2 s n d at w
-Reached (suc (suc (suc zero))) s n d t at w = Headed 3 s n d at w
-Reached (suc (suc (suc (suc zero)))) s n d t at w = Arrayed s n d at w
-Reached (suc (suc (suc (suc (suc zero))))) s n d t at w = Filled s n d at w
-Reached (suc (suc (suc (suc (suc (suc k)))))) s n d t at w = Tabled s n d t w
-
 -- k lines are read, of which p tells
 abbrev pub Went : ℕ → Bytes → ℕ → Progress → Words → Type 0
 Went k s n (progress.Refused e p) w = (sheet (lineAt s 0) ≡ refused e p) × (length w ≡ n)
-Went k s n (progress.Read d t at) w = Reached k s n d t at w
+Went zero s n (progress.Read d t at) w = Headed 0 s n d at w
+Went (suc zero) s n (progress.Read d t at) w = Headed 1 s n d at w
+Went (suc (suc zero)) s n (progress.Read d t at) w = Headed 2 s n d at w
+Went (suc (suc (suc zero))) s n (progress.Read d t at) w = Headed 3 s n d at w
+Went (suc (suc (suc (suc zero)))) s n (progress.Read d t at) w = Arrayed s n d at w
+Went (suc (suc (suc (suc (suc zero))))) s n (progress.Read d t at) w = Filled s n d at w
+Went (suc (suc (suc (suc (suc (suc k)))))) s n (progress.Read d t at) w = Tabled s n d t w
 
 -- before the first line
 abbrev pub unread : Progress
