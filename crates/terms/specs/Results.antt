@@ -48,9 +48,17 @@ sidesOf x y = record { ltag = tagOf x; rtag = tagOf y; left = wordOf x; right = 
 
 -- ---- the two sides of an atom, or the bounds of a quantifier
 
--- the terms s and t stand in the tokens from `from` up to `to`, in tables that hold α and the arrays of D
-pub record Given (w : Words) (from to : ℕ) (D : Declared) (α : Valuation) (s t : Term) : Type 0 where
-  pub terms : TermsAt w from to s t
+-- tokens from one up to another
+pub record Span : Type 0 where
+  pub from : ℕ
+  pub to : ℕ
+
+abbrev pub span : ℕ → ℕ → Span
+span from to = record { from = from; to = to }
+
+-- the terms s and t stand in these tokens, in tables that hold α and the arrays of D
+pub record Given (w : Words) (x : Span) (D : Declared) (α : Valuation) (s t : Term) : Type 0 where
+  pub terms : TermsAt w (x .from) (x .to) s t
   pub holds : Holds w α
   pub arrays : ArraysAt w D
   pub valid : Valid D α
@@ -69,14 +77,14 @@ pub record Asked (w : Words) (from to : ℕ) : Type 0 where
   pub valuation : Valuation
   pub left : Term
   pub right : Term
-  pub given : Given w from to declared valuation left right
+  pub given : Given w (span from to) declared valuation left right
 
 -- all words but those of the stack
 abbrev pub Kept : Words → Words → Type 0
 Kept w w' = (k : ℕ) → (k < duesAt) ⊎ (duesEnd ≤ k) → getD w' k 0 ≡ getD w k 0
 
 pub record Valued (w w' : Words) (from to : ℕ) (r : Sides) : Type 0 where
-  pub sides : (D : Declared) (α : Valuation) (s t : Term) → Given w from to D α s t → r ≡ sidesOf (side D α s) (side D α t)
+  pub sides : (D : Declared) (α : Valuation) (s t : Term) → Given w (span from to) D α s t → r ≡ sidesOf (side D α s) (side D α t)
   pub kept : Kept w w'
   pub size : length w' ≡ length w
 

@@ -18,7 +18,7 @@ use Rattle.values.proofs.Laws.Word.{signed-biased}
 use Rattle.sheet.specs.Tables.{Words}
 use Rattle.sheet.specs.Held.{slotOf}
 use Rattle.terms.specs.declared.Sides.{Sides}
-use Rattle.terms.specs.Results.{tagOf, wordOf, sidesOf, Given, Asked, Valued, valueTag, bareTag}
+use Rattle.terms.specs.Results.{tagOf, wordOf, sidesOf, span, Given, Asked, Valued, valueTag, bareTag}
 use Rattle.walker.specs.declared.Regs.{Regs}
 use Rattle.walker.specs.Frame as frames
 use Rattle.walker.specs.Path.{World}
@@ -32,7 +32,7 @@ use Rattle.walker.proofs.Heads.{in-spare}
 -- ---- what `sides` asks
 
 module _ {c : World} {o : Bytes} {w : Words} {r : Regs} (i : In c o w r) where
-  pub given : (from to : ℕ) (a b : Term) → TermsIn (c .declared) (c .tables) from to a b → Given w from to (c .declared) (i .α) a b
+  pub given : (from to : ℕ) (a b : Term) → TermsIn (c .declared) (c .tables) from to a b → Given w (span from to) (c .declared) (i .α) a b
   given from to a b t = record {
     terms = terms-here (c .tables) w (i .path .tokens) from to a b (t .terms);
     holds = i .path .holds;
