@@ -24,7 +24,7 @@ pub struct Node {
 // The words of a node after its first.
 const REST: usize = 1;
 
-const TODO: usize = 2;
+const LEFT: usize = 2;
 
 const SLOT: usize = 3;
 
@@ -67,7 +67,7 @@ pub fn todo_of(w: &[u32], d: u32) -> u32
     requires { ⌜ nodeEnd d ≤ length (now w) ⌝ }
     ensures { λ r. ⌜ r ≡ todoAt (now (w .entry)) d ⌝ }
 {
-    w[crate::PATH + crate::NODE_WORDS * (d as usize) + TODO]
+    w[crate::PATH + crate::NODE_WORDS * (d as usize) + LEFT]
 }
 
 pub fn slot_of(w: &[u32], d: u32) -> u32
@@ -125,7 +125,7 @@ pub fn set_todo(w: &mut [u32], d: u32, todo: u32)
     requires { ⌜ nodeEnd d ≤ length (now w) ⌝ }
     ensures { λ _. ⌜ now (w .exit) ≡ set (now (w .entry)) (todoWord d) todo ⌝ }
 {
-    w[crate::PATH + crate::NODE_WORDS * (d as usize) + TODO] = todo;
+    w[crate::PATH + crate::NODE_WORDS * (d as usize) + LEFT] = todo;
 }
 
 pub fn set_current(w: &mut [u32], d: u32, value: u32)
@@ -151,7 +151,7 @@ pub fn link(w: &mut [u32], d: u32, head: u32, rest: u32, todo: u32)
     let a = place(d);
     w[a] = head;
     w[a + REST] = rest;
-    w[a + TODO] = todo;
+    w[a + LEFT] = todo;
 }
 
 // One that changes a slot or begins an inner tree.
@@ -162,7 +162,7 @@ pub fn push(w: &mut [u32], d: u32, n: Node)
     let a = place(d);
     w[a] = n.head;
     w[a + REST] = n.rest;
-    w[a + TODO] = n.todo;
+    w[a + LEFT] = n.todo;
     w[a + SLOT] = n.slot;
     w[a + HAD] = n.had;
     w[a + OLD] = n.old;

@@ -15,9 +15,11 @@ listing-went c =
     part-went (start .args .listing) (start .args .output .now) (start .pre .0) (c .write .ensures)
 
 closing-went : (c : tie.After-write2) →
-    let start = c .before .before .before .before .before .before .before .before in Went (start .args .closing) (c .write2 .result)
+    let first = c .before .before .before .before in
+    let start = first .before .before .before .before in Went (start .args .closing) (c .write2 .result)
 closing-went c =
-    let start = c .before .before .before .before .before .before .before .before in
+    let first = c .before .before .before .before in
+    let start = first .before .before .before .before in
     part-went (start .args .closing) (start .args .lines .now) (start .pre .1) (c .write2 .ensures)
 
 slice-aggregate-write : tie.Need-slice-aggregate-write

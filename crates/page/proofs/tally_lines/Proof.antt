@@ -25,6 +25,16 @@ bound c =
 room : (c : tie.After-struct-known) → let a = c .before .before .before .before .args in Room (a .at) (tallyLines (a .t))
 room c = omega (arith, bound c, c .before .before .before .before .pre)
 
+-- the line before one
+abbrev first : tie.After-field2 → tie.After-field
+first c = let cast = c .before .before .before in cast .before .before .before
+
+abbrev second : tie.After-field3 → tie.After-field2
+second c = let cast = c .before .before .before in cast .before .before .before
+
+abbrev third : tie.After-field4 → tie.After-field3
+third c = let cast = c .before .before .before in cast .before .before .before
+
 slice-aggregate-field : tie.Need-slice-aggregate-field
 slice-aggregate-field c = search needs
 
@@ -55,7 +65,7 @@ cast-field-3 c = search needs
 field-requires-3 : tie.Need-field-requires-3
 field-requires-3 c κs =
     let at-field2 = c .before .before .before .before .before in
-    let at-field = at-field2 .before .before .before .before .before .before in
+    let at-field = first at-field2 in
     let known = at-field .before in
     room-left (less-left (less-left (parted (known .before .before .before .before)) (at-field .field .ensures)) (at-field2 .field2 .ensures)) (room known)
 
@@ -68,8 +78,8 @@ cast-field-4 c = search needs
 field-requires-4 : tie.Need-field-requires-4
 field-requires-4 c κs =
     let at-field3 = c .before .before .before .before .before in
-    let at-field2 = at-field3 .before .before .before .before .before .before in
-    let at-field = at-field2 .before .before .before .before .before .before in
+    let at-field2 = second at-field3 in
+    let at-field = first at-field2 in
     let known = at-field .before in
     room-left
     (less-left (less-left (less-left (parted (known .before .before .before .before)) (at-field .field .ensures)) (at-field2 .field2 .ensures)) (at-field3 .field3 .ensures))
@@ -81,9 +91,9 @@ same-length c = search needs
 returns : tie.Need-returns
 returns c =
     let at-field4 = c .before .before in
-    let at-field3 = at-field4 .before .before .before .before .before .before in
-    let at-field2 = at-field3 .before .before .before .before .before .before in
-    let at-field = at-field2 .before .before .before .before .before .before in
+    let at-field3 = third at-field4 in
+    let at-field2 = second at-field3 in
+    let at-field = first at-field2 in
     let known = at-field .before in
     let start = known .before .before .before .before in
     let p =

@@ -17,7 +17,10 @@ returns : tie.Need-returns
 returns c = (lined-no _ _ _ (sym (c .before .begins .ensures) ∙ not-true _ (c .if1 .taken)), refl)
 
 add-contents : tie.Need-add-contents
-add-contents c = omega (arith, key-fits (c .before .before .before .before .before .before .args .s .now) (bytes "arrays=") (c .before .before .before .before .before .before .args .at) (sym (c .before .begins .ensures) ∙ not-false _ (c .if1 .left)))
+add-contents c =
+    let told = c .before in
+    let start = told .before .before .before .before .before in
+    omega (arith, key-fits (start .args .s .now) (bytes "arrays=") (start .args .at) (sym (told .begins .ensures) ∙ not-false _ (c .if1 .left)))
 
 contents-requires : tie.Need-contents-requires
 contents-requires c κs = search needs

@@ -21,21 +21,35 @@ sub-i : tie.Need-sub-i Inv-loop μ-loop
 sub-i c = search needs
 
 subtree-requires : tie.Need-subtree-requires Inv-loop μ-loop
-subtree-requires c κs = (omega arith, (c .before .before .before .before .pre .0), omega (arith, (c .before .before .loop .inv .2), (c .before .before .before .before .pre .1)), from-ends (c .before .before .before .before .args .w .now) (c .before .before .before .before .args .n) (c .before .before .loop .i) _ (c .before .before .loop .inv .1) (c .before .loop-test .taken) (c .before .before .loop .inv .0) (c .before .before .before .before .pre .0) (c .before .before .before .before .pre .1))
+subtree-requires c κs =
+    let l = c .before .before in
+    let s = l .before .before in (
+      omega arith,
+      s .pre .0,
+      omega (arith, l .loop .inv .2, s .pre .1),
+      from-ends (s .args .w .now) (s .args .n) (l .loop .i) _ (l .loop .inv .1) (c .before .loop-test .taken) (l .loop .inv .0) (s .pre .0) (s .pre .1),
+    )
 
 set-end-requires : tie.Need-set-end-requires Inv-loop μ-loop
-set-end-requires c κs = omega (arith, (c .before .before .before .before .loop .inv .0), (c .before .before .before .before .loop .inv .2), (c .before .before .before .before .before .before .pre .0), (c .before .before .before .before .before .before .pre .1), (c .before .before .before .loop-test .taken))
+set-end-requires c κs =
+    let test = c .before .before .before in
+    let l = test .before in
+    let s = l .before .before in
+    omega (arith, l .loop .inv .0, l .loop .inv .2, s .pre .0, s .pre .1, test .loop-test .taken)
 
 loop-less : tie.Need-loop-less Inv-loop μ-loop
 loop-less c = search needs
 
 loop-again : tie.Need-loop-again Inv-loop μ-loop
 loop-again c =
-    let i = (c .before .before .before .before .before .before .before) in
-    let s = (c .before .before .before .before .before .before .before .before .before) in (
+    let put = c .before .before in
+    let read = put .before .before in
+    let test = read .before .before in
+    let l = test .before in
+    let s = l .before .before in (
       omega arith,
-      (c .before .before .set-end .ensures) ∙ from-more (s .args .w .now) (s .args .n) (i .loop .i) _ (i .loop .inv .1) (c .before .before .before .before .before .before .loop-test .taken) (i .loop .inv .0) _ (c .before .before .before .before .subtree .ensures),
-      (c .before .before .set-end .kept .0) ∙ i .loop .inv .2,
+      put .set-end .ensures ∙ from-more (s .args .w .now) (s .args .n) (l .loop .i) _ (l .loop .inv .1) (test .loop-test .taken) (l .loop .inv .0) _ (read .subtree .ensures),
+      put .set-end .kept .0 ∙ l .loop .inv .2,
     )
 
 same-length : tie.Need-same-length Inv-loop μ-loop

@@ -20,7 +20,7 @@ use Rattle.sheet.proofs.formula.formula_line.Tie as tie
 -- ---- places: the key was there, the tokens were read, and in each what is known
 
 abbrev start : tie.Else1 → tie.Start
-start c = c .before .before .before .before .before .before
+start c = let key = c .before .before .before in key .before .before .before
 
 abbrev read : tie.After-n → tie.After-scan
 read c = c .before .before .before .before
@@ -64,7 +64,8 @@ begins-requires c κs = search needs
 
 returns : tie.Need-returns
 returns c =
-    let a = c .before .before .before .before .before .before in
+    let key = c .before .before .before in
+    let a = key .before .before .before in
     λ D g. (line-no-key (a .args .s .now) (a .args .at) D (sym (c .before .begins .ensures) ∙ not-true _ (c .if1 .taken)), refl)
 
 add-scan : tie.Need-add-scan

@@ -33,7 +33,9 @@ returns-6 c = sym (operands-range (operands rangeSort 1) 2 someCode (c .before .
 
 returns-7 : tie.Need-returns-7
 unfolding operandsOf alike
-returns-7 c = sym (operands-range (operands termSort 2) 5 addCode (c .before .before .before .before .before .before .before .args .code) tt (omega arith) (omega arith))
+returns-7 c =
+    let range = c .before .before .before .before in
+    sym (operands-range (operands termSort 2) 5 addCode (range .before .before .before .args .code) tt (omega arith) (omega arith))
 
 returns-8 : tie.Need-returns-8
 unfolding operandsOf alike
@@ -41,7 +43,9 @@ returns-8 c = sym (operands-range (operands formulaSort 0) 2 0 (c .before .befor
 
 returns-9 : tie.Need-returns-9
 unfolding operandsOf alike
-returns-9 c = sym (operands-range (operands formulaSort 0) 17 15 (c .before .before .before .before .before .before .args .code) tt (omega arith) (omega arith))
+returns-9 c =
+    let range = c .before .before .before in
+    sym (operands-range (operands formulaSort 0) 17 15 (range .before .before .before .args .code) tt (omega arith) (omega arith))
 
 returns-10 : tie.Need-returns-10
 returns-10 c =

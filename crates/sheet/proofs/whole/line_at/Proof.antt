@@ -36,7 +36,8 @@ returns-2 : tie.Need-returns-2
 returns-2 c =
     let at-after-arrays = c .before .before in
     let at-if2 = at-after-arrays .before .before in
-    let start = at-if2 .before .before .before .before .before .before .before in
+    let at-p2 = at-if2 .before .before .before in
+    let start = at-p2 .before .before .before .before in
     as-line {k = 4} (start .args .s .now) (length (start .args .w .now)) (at-after-arrays .after-arrays .result) (at-after-arrays .after-arrays .last .1 .1 .1 .0) (ap (λ (m : ℕ). m + 1) (sym (at-if2 .if2 .taken))) (at-after-arrays .after-arrays .ensures)
 
 after-given-requires : tie.Need-after-given-requires
@@ -52,7 +53,8 @@ returns-3 : tie.Need-returns-3
 returns-3 c =
     let at-after-given = c .before .before in
     let at-if3 = at-after-given .before .before in
-    let start = at-if3 .before .before .before .before .before .before .before .before in
+    let at-p2 = at-if3 .before .before .before .before in
+    let start = at-p2 .before .before .before .before in
     as-line {k = 5} (start .args .s .now) (length (start .args .w .now)) (at-after-given .after-given .result) (at-after-given .after-given .last .1 .1 .1 .0) (ap (λ (m : ℕ). m + 1) (sym (at-if3 .if3 .taken))) (at-after-given .after-given .ensures)
 
 after-formula-requires : tie.Need-after-formula-requires
@@ -77,7 +79,8 @@ returns-5 c =
     let at-if3 = at-after-formula .before .before in
     let at-if2 = at-if3 .before in
     let at-if1 = at-if2 .before in
-    let start = at-if1 .before .before .before .before .before .before in
+    let at-p2 = at-if1 .before .before in
+    let start = at-p2 .before .before .before .before in
     as-line {k = 6} (start .args .s .now) (length (start .args .w .now)) (at-after-formula .after-formula .result) (at-after-formula .after-formula .last .1 .1 .1 .0) (omega (arith, (at-if1 .if1 .left), (at-if2 .if2 .left), (at-if3 .if3 .left), start .pre .0)) (at-after-formula .after-formula .ensures)
 
 pub line-at-spec : {M : Type 1} → statement M
