@@ -9,7 +9,7 @@ use lib.Dec.{ltb}
 use borrow.Author.Tests.{ltb-true, ltb-false}
 use Rattle.specification.specs.Bytes.{Bytes}
 use Rattle.specification.specs.Parser.{Read, refused, found}
-use Rattle.specification.specs.Sheet.{Sheet, sheet, read}
+use Rattle.specification.specs.Sheet.{sheet, read}
 use Rattle.specification.proofs.Laws.ReadSheet.{read-well-formed}
 use Rattle.tables.specs.Layout.{duesAt, duesEnd, pathAt}
 use Rattle.sheet.specs.declared.formula.Limits.{Limits}
@@ -17,7 +17,6 @@ use Rattle.sheet.specs.declared.Reading.{Reading}
 use Rattle.sheet.specs.declared.Reading.the-variants as reading
 use Rattle.sheet.specs.declared.whole.Progress.{Progress}
 use Rattle.sheet.specs.declared.whole.Progress.the-variants as progress
-use Rattle.sheet.specs.Reader.{lineAt}
 use Rattle.sheet.specs.Tables.{Words, tables}
 use Rattle.sheet.specs.Whole.{readingOf, wordsOf, Zeroed, Tabled, Went}
 use Rattle.sheet.proofs.Regions.{zeros}

@@ -10,8 +10,8 @@
 --   spare      up to the path
 --   path       12 words for each node (specs/Node.antt); the results of a call's parameters have room there
 --
--- Every other file says these by name; src/lib.rt has the same numbers for the code, and proofs/Layout.antt the law that each table ends where
--- the next begins. Assumes nothing.
+-- Every other file says these by name; src/lib.rt has the same numbers for the code, and proofs/Laws/Layout.antt the law that each table ends
+-- where the next begins. Assumes nothing.
 use Prim.Native.Nat.{ℕ, _+_, _*_}
 use mathlib.Core.List.{List}
 use lib.ListN.{getD}

@@ -8,7 +8,7 @@ use mathlib.Core.Bool.{Bool, true, false}
 use mathlib.Core.Logic.{_⊎_, inl, inr}
 use mathlib.Core.List.{List, [], _∷_}
 use Rattle.specification.specs.Bytes.{Bytes}
-use Rattle.specification.specs.Ast.{Formula, truth, and, or, imp, neg, eq, compare, ex, some, all}
+use Rattle.specification.specs.Ast.{Formula, and, imp, some, all}
 use Rattle.specification.specs.Closed.{closed}
 use Rattle.specification.specs.Tree.{enquire, grow}
 use Rattle.specification.specs.Arithmetic.{openVariable}
@@ -17,7 +17,7 @@ use Rattle.tables.specs.Codes.{impCode, notCode}
 use Rattle.tables.specs.Layout.{maxTokens}
 use Rattle.tables.proofs.Laws.Kept.{marked-kept}
 use Rattle.sheet.specs.Tables.{Words}
-use Rattle.sheet.specs.Held.{endAt, Shallow}
+use Rattle.sheet.specs.Held.{endAt}
 use Rattle.terms.specs.Openness.{Standing, AskedFormula, Judged}
 use Rattle.walker.specs.declared.Due.{Due}
 use Rattle.walker.specs.declared.Regs.{Regs}

@@ -1,6 +1,6 @@
 -- What is due at a node whose visit is counted: by the job and the code, the items and their tree. And the words that evaluating terms
 -- changes do not matter. Assumes nothing.
-use Prim.Native.Nat.{ℕ, _+_, _*_, _-_, _≤_, _<_}
+use Prim.Native.Nat.{ℕ, _-_, _≤_, _<_}
 use native.Mathlib.Omega.{arith}
 use mathlib.Core.Path.{_≡_, refl, sym, _∙_}
 use mathlib.Core.List.{List, [], _∷_}

@@ -1,5 +1,5 @@
 -- What stands in the tokens of the tables at entry stands in the present words too, since their tokens are the same. Assumes nothing.
-use Prim.Native.Nat.{ℕ, suc, _+_, _*_, _≤_, _<_}
+use Prim.Native.Nat.{ℕ, suc, _+_, _≤_, _<_}
 use native.Mathlib.Omega.{arith}
 use mathlib.Core.Path.{_≡_, refl, _∙_}
 use Rattle.specification.specs.Lines.{Declared}

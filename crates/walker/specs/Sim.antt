@@ -1,10 +1,9 @@
 -- The invariant of the walk: what is left to visit gives the run's result. And the contracts of the functions that keep it.
 -- Assumes nothing.
-use Prim.Native.Nat.{suc, _+_, _-_, _<_}
+use Prim.Native.Nat.{suc, _+_, _<_}
 use mathlib.Core.Path.{_≡_}
 use mathlib.Core.Bool.{Bool, false}
 use mathlib.Core.List.{List}
-use lib.ListN.{length}
 use Rattle.specification.specs.Bytes.{Bytes}
 use Rattle.specification.specs.Value.{Valuation}
 use Rattle.specification.specs.Tree.{Tree}

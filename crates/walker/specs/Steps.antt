@@ -1,6 +1,6 @@
 -- The contracts of the walk's functions. A requires holds some world for safety; an ensures goes from the invariant before to the invariant
 -- after, in every world. Assumes nothing.
-use Prim.Native.Nat.{ℕ, suc, _+_, _*_, _-_, _≤_, _<_}
+use Prim.Native.Nat.{ℕ, suc, _+_, _*_, _≤_, _<_}
 use mathlib.Core.Path.{_≡_}
 use mathlib.Core.Bool.{Bool, true, false}
 use mathlib.Core.Logic.{_⊎_}

@@ -1,6 +1,6 @@
 -- Laws of a run: a list of visits is read part by part, each visit that is passed adds one to the nodes, and bytes are only added. What
 -- comes of one visit is in Stops.antt. Assumes nothing.
-use Prim.Native.Nat.{ℕ, _+_}
+use Prim.Native.Nat.{_+_}
 use native.Mathlib.Omega.{arith}
 use mathlib.Core.Path.{_≡_, refl, sym, _∙_, ap}
 use mathlib.Core.List.{List, [], _∷_, _++_, append-assoc, append-nil}

@@ -4,7 +4,7 @@
 use Prim.Native.Nat.{ℕ}
 use mathlib.Core.Path.{_≡_, refl}
 use mathlib.Core.List.{List, []}
-use Rattle.specification.specs.Bytes.{Bytes, bytes, feed}
+use Rattle.specification.specs.Bytes.{bytes, feed}
 use Rattle.specification.specs.Parser.{Reader, Read, refused, found, Parser, give, andThen, _>>=_, _>>_, mark, key, finish}
 use Rattle.specification.specs.Lines.{line, Declared, arraysLine}
 use Rattle.specification.specs.Given.{Item, givenLine}

@@ -1,15 +1,12 @@
 -- One token of the pass against the set of the locals whose binder was met. Assumes nothing.
-use Prim.Native.Nat.{ℕ, zero, suc, _+_, _-_, _*_, _/_, _%_, _^_, _<_, _≤_, max}
+use Prim.Native.Nat.{ℕ, _+_, _^_, _<_, _≤_}
 use native.Mathlib.Omega.{arith}
-use native.Mathlib.Nat.{div-self, div-eq-of-lt, mul-div-cancel, pow-suc}
 use mathlib.Core.Path.{_≡_, refl, sym, _∙_, ap, fun-ext}
 use mathlib.Core.Bool.{Bool, true, false, not, _||_}
-use mathlib.Core.Logic.{_⊎_, inl, inr, ⊎-elim}
-use borrow.Author.Tests.{eq-eqb, ne-eqb}
+use mathlib.Core.Logic.{inl, inr}
 use lib.ListN.{getD}
 use lib.Dec.{eqb}
-use lib.Pow.{pow-pos, pow-lt, pow-add}
-use lib.Bits.{bitOr, or-shr, or-step}
+use lib.Bits.{bitOr}
 use Rattle.specification.specs.Bytes.{pick}
 use Rattle.specification.specs.Lines.{cells}
 use Rattle.specification.specs.Place.{Place, cell, local, put}

@@ -1,5 +1,5 @@
 -- `evaluation::step` meets its contract: each code goes to the function of its kind. Assumes nothing.
-use Prim.Native.Nat.{_+_, _*_, _<_}
+use Prim.Native.Nat.{_+_, _<_}
 use native.Mathlib.Omega.{arith}
 use Rattle.tables.specs.Layout.{cellsAt, localsAt, duesAt, cellSlot, localSlot}
 use Rattle.terms.specs.Machine.{Room}

@@ -1,5 +1,4 @@
 -- `machine::walk` meets its contract: the invariant is the simulation, in the world of the sheet.
-use borrow.Author.Needs.{needs}
 use mathlib.Core.Path.{_≡_, refl, _∙_}
 use native.Mathlib.Omega.{arith}
 use denote.Ref.{now}

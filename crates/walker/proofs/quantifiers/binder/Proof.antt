@@ -1,6 +1,5 @@
 -- `quantifiers::binder` meets its contract.
 use native.Mathlib.Omega.{arith}
-use mathlib.Core.Path.{refl}
 use Rattle.walker.proofs.Quantified.{binder-is}
 use Rattle.walker.proofs.quantifiers.binder.Statement.{statement}
 use Rattle.walker.proofs.quantifiers.binder.Tie as tie

@@ -1,8 +1,6 @@
 -- `rise::restore` meets its contract: the slot's two words are put back.
 use borrow.Author.Needs.{needs}
 use native.Mathlib.Omega.{arith}
-use mathlib.Core.Path.{ap}
-use lib.ListN.{length, length-set}
 use Rattle.walker.proofs.Rises.{slot-there, restored}
 use Rattle.walker.proofs.rise.restore.Statement.{statement}
 use Rattle.walker.proofs.rise.restore.Tie as tie
