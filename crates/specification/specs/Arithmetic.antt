@@ -23,9 +23,6 @@ zeroDivisor = 3
 abbrev pub outsideArray : ℕ
 outsideArray = 4
 
-abbrev pub openVariable : ℕ
-openVariable = 5
-
 abbrev pub undecidedInside : ℕ
 undecidedInside = 6
 

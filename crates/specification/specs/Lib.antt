@@ -13,7 +13,7 @@ pub mod Place
 pub mod Arithmetic
 pub mod Value
 pub mod WellFormed
-pub mod Closed
+pub mod Outside
 pub mod Tree
 pub mod Listing
 pub mod Leaves

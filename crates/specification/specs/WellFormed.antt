@@ -57,7 +57,7 @@ module _ (D : Declared) where
   OkTerm S (elementAt a t) = (a < length (D .arrays)) × OkTerm S t
   OkTerm S (apply o s t) = OkTerm S s × OkTerm S t
 
-  -- and each binder's local is not bound around it
+  -- and each binder's local is declared and not bound around it
   unfoldable pub Ok : Scope → Formula → Type 0
   Ok S truth = Unit {0}
   Ok S (and F G) = Ok S F × Ok S G
@@ -66,9 +66,9 @@ module _ (D : Declared) where
   Ok S (neg tok F) = Ok S F
   Ok S (eq tok s t) = OkTerm S s × OkTerm S t
   Ok S (compare tok r s t) = OkTerm S s × OkTerm S t
-  Ok S (ex l F) = T (not (S l)) × Ok (enter S l) F
-  Ok S (some tok l a b F) = OkTerm S a × OkTerm S b × T (not (S l)) × Ok (enter S l) F
-  Ok S (all tok l a b F) = OkTerm S a × OkTerm S b × T (not (S l)) × Ok (enter S l) F
+  Ok S (ex l F) = (l < D .locals) × T (not (S l)) × Ok (enter S l) F
+  Ok S (some tok l a b F) = OkTerm S a × OkTerm S b × (l < D .locals) × T (not (S l)) × Ok (enter S l) F
+  Ok S (all tok l a b F) = OkTerm S a × OkTerm S b × (l < D .locals) × T (not (S l)) × Ok (enter S l) F
 
 -- ---- the sheet
 
