@@ -31,7 +31,7 @@ pub mod Range
 pub mod Value
 pub mod Inner
 pub mod Every
-pub mod Quiet
+pub mod Outside
 pub mod Correct
 pub mod Atoms
 pub mod Quantifiers

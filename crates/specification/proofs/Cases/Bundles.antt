@@ -10,8 +10,8 @@ use Rattle.specification.specs.Sheet.{sheet, read}
 use Rattle.specification.specs.Place.{put}
 use Rattle.specification.specs.Arithmetic.{fit, compute, test}
 use Rattle.specification.specs.Value.{pairOf, elementSide, side}
-use Rattle.specification.specs.Closed.{closedTerm, closedFormula, closed}
-use Rattle.specification.specs.Tree.{joined, verdict, equate, compared, bounded, sons, rounds, enquire, grow, treeOf}
+use Rattle.specification.specs.Outside.{binds, someBelow, gave}
+use Rattle.specification.specs.Tree.{joined, verdict, equate, compared, bounded, sons, rounds, enquire, doneInside, grow, treeOf}
 use Rattle.specification.specs.Visits.{_then_, each, inside, visits}
 use Rattle.specification.specs.Listing.{scalarNames, elementNames, arrayNames, cellNames, valued, blockOf, headLines, cellLines, blockLines, labelText, linesText, blockText, listingText}
 use Rattle.specification.specs.Run.{block, arrive, visit, scan}
@@ -23,7 +23,7 @@ unfolding classOf classNumber isIn inNumber inToken run same begins allDigits de
 read-defs = Unit {0}
 
 unfoldable pub tree-defs : Type 0
-unfolding put fit compute test pairOf elementSide side joined verdict closedTerm closedFormula closed equate compared bounded sons rounds enquire grow treeOf
+unfolding put fit compute test pairOf elementSide side joined verdict binds someBelow gave equate compared bounded sons rounds enquire doneInside grow treeOf
 tree-defs = Unit {0}
 
 unfoldable pub run-defs : Type 0

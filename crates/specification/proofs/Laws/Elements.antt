@@ -1,14 +1,10 @@
--- Where arrays begin and end. The cells of declared scalars and of elements inside declared arrays are declared, and an element's cell is one.
--- Assumes nothing.
+-- Where arrays begin and end. The cells of declared scalars and of elements inside declared arrays are declared. Assumes nothing.
 use Prim.Native.Nat.{ℕ, zero, suc, _+_, _≤_, _<_}
 use native.Mathlib.Omega.{arith}
 use mathlib.Core.Path.{_≡_, refl}
 use mathlib.Core.List.{List, [], _∷_}
 use lib.ListN.{take, getD}
-use lib.Dec.{T, le→leb}
 use Rattle.specification.specs.Lines.{Declared, sum, cells, firstOf, lengthOf}
-use Rattle.specification.specs.Place.{cell}
-use Rattle.specification.specs.Tree.{isElement}
 
 -- an index inside the a-th of some lengths lies inside their sum
 pub sum-take : (a i : ℕ) (ns : List ℕ) → i < getD ns a 0 → sum (take a ns) + i < sum ns
@@ -48,7 +44,3 @@ module _ (D : Declared) where
   pub element-declared : (a i : ℕ) → i < lengthOf D a → firstOf D a + i < cells D
   unfolding cells firstOf lengthOf
   element-declared a i h = let r = sum-take a i (D .arrays) h in omega arith
-
-  pub element-is : (a i : ℕ) → T (isElement D (cell (firstOf D a + i)))
-  unfolding firstOf
-  element-is a i = le→leb (D .scalars) (D .scalars + sum (take a (D .arrays)) + i) (omega arith)

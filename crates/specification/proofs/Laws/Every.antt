@@ -2,26 +2,14 @@
 use Prim.Native.Nat.{ℕ, zero, suc, _<_}
 use native.Mathlib.Omega.{arith}
 use mathlib.Core.Path.{_≡_, refl}
-use mathlib.Core.Bool.{Bool, true, false, not, _&&_}
+use mathlib.Core.Bool.{Bool, true, false}
 use lib.Dec.{T}
 use lib.IntN.{ℤ}
-use Rattle.specification.specs.Lines.{Declared}
 use Rattle.specification.specs.Ast.{Rel}
 use Rattle.specification.specs.Arithmetic.{test}
-use Rattle.specification.specs.Place.{Place, put}
-use Rattle.specification.specs.Value.{full, Valuation, Side, val, bare, err, Pair, values, faulty, pairOf}
-use Rattle.specification.specs.Tree.{Tree, successLeaf, failureLeaf, errorLeaf, step, fork, fan, ask, Verdict, verdict, Rest, check, isElement, assignUnless, assign, compared, bounded, sons, enquire}
+use Rattle.specification.specs.Value.{Valuation, Side, val, bare, err, Pair, values, faulty, pairOf}
+use Rattle.specification.specs.Tree.{Tree, Verdict, verdict, Rest, check, compared, bounded, sons, enquire}
 use Rattle.specification.proofs.Laws.Scope.{Every, Any}
-
-pub every-and : (P Q : Valuation → Type 0) (T : Tree) → Every P T → Every Q T → Every (λ β. P β × Q β) T
-unfolding Every
-every-and P Q (successLeaf β) a b = (a, b)
-every-and P Q failureLeaf a b = tt
-every-and P Q (errorLeaf κ t β) a b = tt
-every-and P Q (step T) a b = every-and P Q T a b
-every-and P Q (fork T U) a b = (every-and P Q T (a .0) (b .0), every-and P Q U (a .1) (b .1))
-every-and P Q (fan x n f) a b = λ i h. every-and P Q (f i) (a i h) (b i h)
-every-and P Q (ask I T) a b = every-and P Q T a b
 
 -- two values come from sides with values
 pair-values : (s t : Side) (x y : ℤ) → pairOf s t ≡ values x y → (s ≡ val x) × (t ≡ val y)
@@ -39,17 +27,6 @@ module _ (P : Valuation → Type 0) where
   unfolding Every
   check-every true k α h = h tt
   check-every false k α h = tt
-
-  pub assign-every :
-      (D : Declared) (m : Bool) (tok : ℕ) (p : Place) (v : ℤ) (k : Rest) (α : Valuation) →
-      (T (not (m && isElement D p)) → Every P (k (put α p (full v)))) →
-      Every P (assign D m tok p v k α)
-  unfolding Every
-  assign-every D m tok p v k α = go (m && isElement D p)
-    where
-      go : (b : Bool) → (T (not b) → Every P (k (put α p (full v)))) → Every P (assignUnless D b tok p v k α)
-      go true h = tt
-      go false h = h tt
 
   pub compared-every :
       (tok : ℕ) (r : Rel) (s t : Side) (k : Rest) (α : Valuation) → ((x y : ℤ) → s ≡ val x → t ≡ val y → T (test r x y) → Every P (k α)) →
@@ -77,12 +54,10 @@ module _ (P : Valuation → Type 0) where
   sons-every x (suc n) f h = h
 
   pub enquire-every :
-      (tok : ℕ) (b : Bool) (inner : Rest) (next : Verdict → Rest) (α : Valuation) →
-      (T b → (v : Verdict) → verdict (inner α) ≡ v → Every P (next v α)) →
-      Every P (enquire tok b inner next α)
+      (inner : Rest) (next : Verdict → Rest) (α : Valuation) → ((v : Verdict) → verdict (inner α) ≡ v → Every P (next v α)) →
+      Every P (enquire inner next α)
   unfolding Every enquire
-  enquire-every tok true inner next α h = h tt (verdict (inner α)) refl
-  enquire-every tok false inner next α h = tt
+  enquire-every inner next α h = h (verdict (inner α)) refl
 
 -- ---- some success or error leaf: Q holds of the node's valuation, for the error leaf below it
 
@@ -90,16 +65,6 @@ module _ (Q : Valuation → Type 0) where
   pub check-any : (b : Bool) (k : Rest) (α : Valuation) → T b → Any Q (k α) → Any Q (check b k α)
   check-any true k α t h = h
   check-any false k α t h = absurd t
-
-  pub assign-any :
-      (D : Declared) (m : Bool) (tok : ℕ) (p : Place) (v : ℤ) (k : Rest) (α : Valuation) → Q α → Any Q (k (put α p (full v))) →
-      Any Q (assign D m tok p v k α)
-  unfolding Any
-  assign-any D m tok p v k α q h = go (m && isElement D p)
-    where
-      go : (b : Bool) → Any Q (assignUnless D b tok p v k α)
-      go true = q
-      go false = h
 
   pub compared-any :
       (tok : ℕ) (r : Rel) (s t : Side) (k : Rest) (α : Valuation) → Q α → ((x y : ℤ) → s ≡ val x → t ≡ val y → T (test r x y) × Any Q (k α)) →
@@ -127,9 +92,7 @@ module _ (Q : Valuation → Type 0) where
   sons-any x (suc n) f i h a = (i, h, a)
 
   pub enquire-any :
-      (tok : ℕ) (b : Bool) (inner : Rest) (next : Verdict → Rest) (α : Valuation) → Q α →
-      (T b → (v : Verdict) → verdict (inner α) ≡ v → Any Q (next v α)) →
-      Any Q (enquire tok b inner next α)
+      (inner : Rest) (next : Verdict → Rest) (α : Valuation) → ((v : Verdict) → verdict (inner α) ≡ v → Any Q (next v α)) →
+      Any Q (enquire inner next α)
   unfolding Any enquire
-  enquire-any tok true inner next α q h = h tt (verdict (inner α)) refl
-  enquire-any tok false inner next α q h = q
+  enquire-any inner next α h = h (verdict (inner α)) refl

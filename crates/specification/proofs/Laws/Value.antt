@@ -1,10 +1,10 @@
 -- What the side of an atom says under a valuation: of the term's value in an environment that agrees, of its being in 32 bits, and of
--- the bare place, which is in scope and empty, and in a closed term known if it is no element. Assumes nothing.
+-- the bare place, which is in scope and empty. Assumes nothing.
 use Prim.Native.Nat.{ℕ, zero, suc, _+_, _<_}
 use mathlib.Core.Path.{_≡_, refl, ap, subst}
-use mathlib.Core.Bool.{Bool, true, false, not}
+use mathlib.Core.Bool.{Bool, true, false}
 use mathlib.Core.Option.{Option, none, some as just}
-use lib.Dec.{T, T-not, ltb, ltb→lt}
+use lib.Dec.{T, ltb, ltb→lt}
 use lib.IntN.{ℤ, pos, negsuc, _+ℤ_, _-ℤ_, _*ℤ_}
 use lib.Signed.{quotZ}
 use Rattle.specification.specs.Bytes.{pick}
@@ -15,12 +15,10 @@ use Rattle.specification.specs.Arithmetic.{noValue, outsideArray, outsid
 use Rattle.specification.specs.Place.{Place, cell, local}
 use Rattle.specification.specs.Value.{Slot, empty, full, Valuation, Side, val, bare, err, look, Pair, values, faulty, pairOf, sideOf, operate, inArray, elementSide, side}
 use Rattle.specification.specs.WellFormed.{Scope, OkTerm, Valid}
-use Rattle.specification.specs.Closed.{Known, closedTerm}
-use Rattle.specification.specs.Tree.{isElement}
 use Rattle.specification.specs.Plain.{Env, kept, applied, elementValue, valueOf, Has}
 use Rattle.specification.proofs.Laws.Allowed.{allowed-in32}
 use Rattle.specification.proofs.Laws.Scope.{In, Agree}
-use Rattle.specification.proofs.Laws.Elements.{scalar-declared, element-declared, element-is}
+use Rattle.specification.proofs.Laws.Elements.{scalar-declared, element-declared}
 
 -- ---- the value in an environment that agrees
 
@@ -128,66 +126,64 @@ module _ (D : Declared) (α : Valuation) (G : Side → Type 0) (firm : (s : Side
   element-firm n h (bare p) = firm (err noValue) tt
   element-firm n h (err κ) = firm (err κ) tt
 
--- ---- a value is in 32 bits, a bare place in scope and empty
-
-module _ (D : Declared) (S : Scope) (α : Valuation) where
-  abbrev pub Sane : Side → Type 0
-  Sane (val x) = T (in32 x)
-  Sane (bare p) = In D S p × (α p ≡ empty)
-  Sane (err κ) = Unit {0}
+-- ---- a value is in 32 bits
 
 module _ (D : Declared) (S : Scope) (α : Valuation) (v : Valid D α) where
-  firm-sane : (s : Side) → Firm s → Sane D S α s
-  firm-sane (val x) h = h
-  firm-sane (bare p) h = absurd h
-  firm-sane (err κ) h = tt
+  abbrev Fits : Side → Type 0
+  Fits (val x) = T (in32 x)
+  Fits (bare p) = Unit {0}
+  Fits (err κ) = Unit {0}
 
-  look-sane : (p : Place) → In D S p → (s : Slot) → α p ≡ s → Sane D S α (look s p)
-  look-sane p i empty e = (i, e)
-  look-sane p i (full x) e = allowed-in32 D p x (v p x e)
+  firm-fits : (s : Side) → Firm s → Fits s
+  firm-fits (val x) h = h
+  firm-fits (bare p) h = tt
+  firm-fits (err κ) h = tt
 
-  side-sane : (t : Term) → OkTerm D S t → Sane D S α (side D α t)
+  look-fits : (p : Place) (s : Slot) → α p ≡ s → Fits (look s p)
+  look-fits p empty e = tt
+  look-fits p (full x) e = allowed-in32 D p x (v p x e)
+
+  side-fits : (t : Term) → OkTerm D S t → Fits (side D α t)
   unfolding side OkTerm
-  side-sane (constant z) h = h
-  side-sane (scalarAt c) h = look-sane (cell c) (scalar-declared D c h) (α (cell c)) refl
-  side-sane (localAt l) h = look-sane (local l) h (α (local l)) refl
-  side-sane (elementAt n t) h =
-      element-firm D α (Sane D S α) firm-sane n (λ i k.
+  side-fits (constant z) h = h
+  side-fits (scalarAt c) h = look-fits (cell c) (α (cell c)) refl
+  side-fits (localAt l) h = look-fits (local l) (α (local l)) refl
+  side-fits (elementAt n t) h =
+      element-firm D α Fits firm-fits n (λ i k.
       let c = cell (firstOf D n + i) in
-      look-sane c (element-declared D n i k) (α c) refl) (side D α t)
-  side-sane (apply o s t) h = operate-firm D α (Sane D S α) firm-sane o (pairOf (side D α s) (side D α t))
+      look-fits c (α c) refl) (side D α t)
+  side-fits (apply o s t) h = operate-firm D α Fits firm-fits o (pairOf (side D α s) (side D α t))
 
   pub sane-val : (t : Term) → OkTerm D S t → (x : ℤ) → side D α t ≡ val x → T (in32 x)
-  sane-val t h x e = subst (Sane D S α) e (side-sane t h)
+  sane-val t h x e = subst Fits e (side-fits t h)
+
+-- ---- a bare place is in scope and empty
+
+module _ (D : Declared) (S : Scope) (α : Valuation) where
+  abbrev Free : Side → Type 0
+  Free (val x) = Unit {0}
+  Free (bare p) = In D S p × (α p ≡ empty)
+  Free (err κ) = Unit {0}
+
+  firm-free : (s : Side) → Firm s → Free s
+  firm-free (val x) h = tt
+  firm-free (bare p) h = absurd h
+  firm-free (err κ) h = tt
+
+  look-free : (p : Place) → In D S p → (s : Slot) → α p ≡ s → Free (look s p)
+  look-free p i empty e = (i, e)
+  look-free p i (full x) e = tt
+
+  side-free : (t : Term) → OkTerm D S t → Free (side D α t)
+  unfolding side OkTerm
+  side-free (constant z) h = tt
+  side-free (scalarAt c) h = look-free (cell c) (scalar-declared D c h) (α (cell c)) refl
+  side-free (localAt l) h = look-free (local l) h (α (local l)) refl
+  side-free (elementAt n t) h =
+      element-firm D α Free firm-free n (λ i k.
+      let c = cell (firstOf D n + i) in
+      look-free c (element-declared D n i k) (α c) refl) (side D α t)
+  side-free (apply o s t) h = operate-firm D α Free firm-free o (pairOf (side D α s) (side D α t))
 
   pub sane-bare : (t : Term) → OkTerm D S t → (p : Place) → side D α t ≡ bare p → In D S p × (α p ≡ empty)
-  sane-bare t h p e = subst (Sane D S α) e (side-sane t h)
-
--- ---- in a closed term a bare place that is no element is known
-
-module _ (D : Declared) (K : Known) (α : Valuation) where
-  abbrev pub Calm : Side → Type 0
-  Calm (val x) = Unit {0}
-  Calm (bare p) = T (not (isElement D p)) → T (K p) × (α p ≡ empty)
-  Calm (err κ) = Unit {0}
-
-module _ (D : Declared) (K : Known) (α : Valuation) where
-  firm-calm : (s : Side) → Firm s → Calm D K α s
-  firm-calm (val x) h = tt
-  firm-calm (bare p) h = absurd h
-  firm-calm (err κ) h = tt
-
-  look-calm : (p : Place) → (T (not (isElement D p)) → T (K p)) → (s : Slot) → α p ≡ s → Calm D K α (look s p)
-  look-calm p h empty e = λ n. (h n, e)
-  look-calm p h (full x) e = tt
-
-  pub side-calm : (t : Term) → T (closedTerm K t) → Calm D K α (side D α t)
-  unfolding side closedTerm
-  side-calm (constant z) h = tt
-  side-calm (scalarAt c) h = look-calm (cell c) (λ n. h) (α (cell c)) refl
-  side-calm (localAt l) h = look-calm (local l) (λ n. h) (α (local l)) refl
-  side-calm (elementAt n t) h =
-      element-firm D α (Calm D K α) firm-calm n (λ i k.
-      let c = cell (firstOf D n + i) in
-      look-calm c (λ f. absurd (T-not (isElement D c) f (element-is D n i))) (α c) refl) (side D α t)
-  side-calm (apply o s t) h = operate-firm D α (Calm D K α) firm-calm o (pairOf (side D α s) (side D α t))
+  sane-bare t h p e = subst Free e (side-free t h)
