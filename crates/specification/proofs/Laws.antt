@@ -26,15 +26,16 @@ pub mod Bounds
 pub mod ReadBounds
 pub mod Steady
 -- of the tree and the plain reading
+pub mod Outside
 pub mod Place
 pub mod Range
 pub mod Value
 pub mod Inner
 pub mod Every
-pub mod Outside
 pub mod Correct
 pub mod Atoms
 pub mod Quantifiers
+pub mod Negation
 pub mod Truth
 pub mod SheetTree
 pub mod Decide

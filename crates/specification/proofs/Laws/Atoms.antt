@@ -1,7 +1,6 @@
 -- The atoms are sound and complete. Assumes nothing.
 use Prim.Native.Nat.{ℕ}
 use mathlib.Core.Path.{_≡_, refl, subst}
-use mathlib.Core.Bool.{Bool}
 use lib.Dec.{T}
 use lib.IntN.{ℤ}
 use Rattle.specification.specs.Lines.{Declared}
@@ -17,32 +16,32 @@ use Rattle.specification.proofs.Laws.Scope.{Every, Any, Agree, Ext}
 use Rattle.specification.proofs.Laws.Place.{put-same, valid-put, ext-refl, agree-ext, ext-put, agree-put}
 use Rattle.specification.proofs.Laws.Range.{eqZ-eq, eqZ-refl}
 use Rattle.specification.proofs.Laws.Value.{has-val, has-bare, same-val, sane-val, sane-bare}
-use Rattle.specification.proofs.Laws.Every.{check-every, assign-every, compared-every, check-any, assign-any, compared-any}
+use Rattle.specification.proofs.Laws.Every.{check-every, compared-every, check-any, compared-any}
 use Rattle.specification.proofs.Laws.Correct.{Sound, Complete}
 
 -- ---- `eq`
 
-module _ (D : Declared) (S : Scope) (m : Bool) (tok : ℕ) (k : Rest) (α : Valuation) (v : Valid D α) where
+module _ (D : Declared) (S : Scope) (tok : ℕ) (k : Rest) (α : Valuation) (v : Valid D α) where
   -- s has a value, t is a bare place, which is assigned it
   module _ (s t : Term) (os : OkTerm D S s) (ot : OkTerm D S t) (x : ℤ) (p : Place) (e : side D α s ≡ val x) (f : side D α t ≡ bare p) where
     assigned-sound :
         (P : Valuation → Type 0) →
         ((β : Valuation) → Ext D S α β → Valid D β → ((ρ : Env) → Agree D S ρ β → Has D ρ s x × Has D ρ t x) → Every P (k β)) →
-        Every P (assign D m tok p x k α)
+        Every P (assign p x k α)
     assigned-sound P go =
-        let b = sane-bare D S α v t ot p f in
+        let b = sane-bare D S α t ot p f in
         let β = put α p (full x) in
         let w = ext-put D S α p (full x) (b .1) in
-        assign-every P D m tok p x k α (λ _. go β w (valid-put D α p (full x) v (in32-allowed D p x (sane-val D S α v s os x e))) (λ ρ a.
+        go β w (valid-put D α p (full x) v (in32-allowed D p x (sane-val D S α v s os x e))) (λ ρ a.
         let a′ = agree-ext D S ρ α β w a in
-        (has-val D S ρ α a′ s os x e, subst (Has D ρ t) (a p (b .0) x (put-same α p (full x))) (has-bare D S ρ α a′ t ot p f))))
+        (has-val D S ρ α a′ s os x e, subst (Has D ρ t) (a p (b .0) x (put-same α p (full x))) (has-bare D S ρ α a′ t ot p f)))
 
     assigned-complete :
-        (ρ : Env) → Agree D S ρ α → (z : ℤ) → Has D ρ s z → Has D ρ t z → (Q : Valuation → Type 0) → Q α →
-        ((β : Valuation) → Valid D β → Agree D S ρ β → Any Q (k β)) → Any Q (assign D m tok p x k α)
-    assigned-complete ρ a z hs ht Q q go =
-        assign-any Q D m tok p x k α q (go (put α p (full x)) (valid-put D α p (full x) v (in32-allowed D p x (sane-val D S α v s os x e)))
-        (agree-put D S ρ α p (full x) (λ _ w g. held w g) a))
+        (ρ : Env) → Agree D S ρ α → (z : ℤ) → Has D ρ s z → Has D ρ t z → (Q : Valuation → Type 0) →
+        ((β : Valuation) → Valid D β → Agree D S ρ β → Any Q (k β)) → Any Q (assign p x k α)
+    assigned-complete ρ a z hs ht Q go =
+        go (put α p (full x)) (valid-put D α p (full x) v (in32-allowed D p x (sane-val D S α v s os x e)))
+        (agree-put D S ρ α p (full x) (λ _ w g. held w g) a)
       where
         held : (w : ℤ) → full x ≡ full w → ρ p ≡ w
         held w g =
@@ -53,7 +52,7 @@ module _ (D : Declared) (S : Scope) (m : Bool) (tok : ℕ) (k : Rest) (α : Valu
     equate-sound :
         (P : Valuation → Type 0) →
         ((β : Valuation) → Ext D S α β → Valid D β → ((ρ : Env) → Agree D S ρ β → Truth D ρ (eq tok s t)) → Every P (k β)) →
-        (x y : Side) → side D α s ≡ x → side D α t ≡ y → Every P (equate D m tok x y k α)
+        (x y : Side) → side D α s ≡ x → side D α t ≡ y → Every P (equate tok x y k α)
     unfolding Every equate Truth
     equate-sound P go (val x) (val y) e f =
         check-every P (eqZ x y) k α (λ q. go α (ext-refl D S α) v (λ ρ a.
@@ -69,14 +68,14 @@ module _ (D : Declared) (S : Scope) (m : Bool) (tok : ℕ) (k : Rest) (α : Valu
 
     equate-complete :
         (ρ : Env) → Agree D S ρ α → (z : ℤ) → Has D ρ s z → Has D ρ t z → (Q : Valuation → Type 0) → Q α →
-        ((β : Valuation) → Valid D β → Agree D S ρ β → Any Q (k β)) → (x y : Side) → side D α s ≡ x → side D α t ≡ y → Any Q (equate D m tok x y k α)
+        ((β : Valuation) → Valid D β → Agree D S ρ β → Any Q (k β)) → (x y : Side) → side D α s ≡ x → side D α t ≡ y → Any Q (equate tok x y k α)
     unfolding Any equate
     equate-complete ρ a z hs ht Q q go (val x) (val y) e f =
         let i : x ≡ y = cc (same-val D S ρ α a s os x z e hs, same-val D S ρ α a t ot y z f ht) in
         check-any Q (eqZ x y) k α (subst (λ (w : ℤ). T (eqZ x w)) i (eqZ-refl x)) (go α v a)
-    equate-complete ρ a z hs ht Q q go (val x) (bare p) e f = assigned-complete s t os ot x p e f ρ a z hs ht Q q go
+    equate-complete ρ a z hs ht Q q go (val x) (bare p) e f = assigned-complete s t os ot x p e f ρ a z hs ht Q go
     equate-complete ρ a z hs ht Q q go (val x) (err κ) e f = q
-    equate-complete ρ a z hs ht Q q go (bare p) (val y) e f = assigned-complete t s ot os y p f e ρ a z ht hs Q q go
+    equate-complete ρ a z hs ht Q q go (bare p) (val y) e f = assigned-complete t s ot os y p f e ρ a z ht hs Q go
     equate-complete ρ a z hs ht Q q go (bare p) (bare p′) e f = q
     equate-complete ρ a z hs ht Q q go (bare p) (err κ) e f = q
     equate-complete ρ a z hs ht Q q go (err κ) y e f = q
@@ -84,23 +83,23 @@ module _ (D : Declared) (S : Scope) (m : Bool) (tok : ℕ) (k : Rest) (α : Valu
 module _ (D : Declared) (tok : ℕ) where
   pub eq-sound : (s t : Term) → Sound D (eq tok s t)
   unfolding grow Every Ok
-  eq-sound s t S o m k α v P go = equate-sound D S m tok k α v s t (o .0) (o .1) P go (side D α s) (side D α t) refl refl
+  eq-sound s t S c o k α v P go = equate-sound D S tok k α v s t (o .0) (o .1) P go (side D α s) (side D α t) refl refl
 
   pub eq-complete : (s t : Term) → Complete D (eq tok s t)
   unfolding grow Any Ok Truth
-  eq-complete s t S o m k α v ρ a (z, hs, ht) Q q go =
-      equate-complete D S m tok k α v s t (o .0) (o .1) ρ a z hs ht Q (q α a) go (side D α s) (side D α t) refl refl
+  eq-complete s t S c o k α v ρ a (z, hs, ht) Q q go =
+      equate-complete D S tok k α v s t (o .0) (o .1) ρ a z hs ht Q (q α a) go (side D α s) (side D α t) refl refl
 
   -- ---- the atoms that compare
 
   pub compare-sound : (r : Rel) (s t : Term) → Sound D (compare tok r s t)
   unfolding grow Every Ok Truth
-  compare-sound r s t S o m k α v P go =
+  compare-sound r s t S c o k α v P go =
       compared-every P tok r (side D α s) (side D α t) k α (λ x y e f h.
       go α (ext-refl D S α) v (λ ρ a. (x, y, has-val D S ρ α a s (o .0) x e, has-val D S ρ α a t (o .1) y f, h)))
 
   pub compare-complete : (r : Rel) (s t : Term) → Complete D (compare tok r s t)
   unfolding grow Any Ok Truth
-  compare-complete r s t S o m k α v ρ a (x′, y′, hs, ht, h) Q q go =
+  compare-complete r s t S c o k α v ρ a (x′, y′, hs, ht, h) Q q go =
       compared-any Q tok r (side D α s) (side D α t) k α (q α a) (λ x y e f.
       (rw (same-val D S ρ α a s (o .0) x x′ e hs, same-val D S ρ α a t (o .1) y y′ f ht) at h, go α v a))

@@ -1,5 +1,6 @@
 -- The tree of a list of formulas, clause by clause: the paper, Definition 4 by its numbers, and Definition 8. A conjunction
--- φ ∧ ψ there is a list here that begins with φ; the ways to end in an error are document 01's. Assumes nothing.
+-- φ ∧ ψ there is a list here that begins with φ; the ways to end in an error are document 01's, and what the inner trees of 5 and 6 count as
+-- success is document 02's, Two. Assumes nothing.
 use Prim.Native.Nat.{ℕ, suc}
 use mathlib.Core.Path.{_≡_, refl}
 use mathlib.Core.Bool.{true, false}
@@ -7,17 +8,28 @@ use mathlib.Core.List.{List, [], _∷_}
 use lib.IntN.{ℤ, pos, _+ℤ_}
 use Rattle.specification.specs.Lines.{Declared}
 use Rattle.specification.specs.Ast.{Rel, Term, Formula, truth, and, or, imp, neg, eq, compare, ex, some, all}
-use Rattle.specification.specs.Arithmetic.{noValue, openVariable, undecidedInside, eqZ, test, count}
+use Rattle.specification.specs.Arithmetic.{noValue, undecidedInside, eqZ, test, count}
 use Rattle.specification.specs.Place.{Place, local, put}
 use Rattle.specification.specs.Value.{empty, full, Valuation, val, bare, err, faulty, pairOf, side}
-use Rattle.specification.specs.Closed.{closed}
-use Rattle.specification.specs.Tree.{successLeaf, failureLeaf, errorLeaf, step, fork, fan, ask, succeeds, fails, undecided, verdict, Rest, check, equate, compared, bounded, sons, rounds, enquire, done, grow, treeOf}
+use Rattle.specification.specs.Outside.{gave}
+use Rattle.specification.specs.Tree.{successLeaf, failureLeaf, errorLeaf, step, fork, fan, ask, succeeds, fails, undecided, verdict, Rest, check, equate, compared, bounded, sons, rounds, enquire, doneInside, grow, treeOf}
+use Rattle.specification.proofs.Laws.Negation.{innerTree}
 
 module _ (D : Declared) (α : Valuation) where
   -- 1: the empty conjunction
   pub nil-clause : treeOf D [] α ≡ step (successLeaf α)
   unfolding treeOf
   nil-clause = refl
+
+  -- in the inner tree of F asked for under α: by whether a place outside F got a value
+  module _ (F : Formula) (β : Valuation) where
+    pub inner-nil-none : gave D F α β ≡ false → doneInside D F α β ≡ step (successLeaf β)
+    unfolding doneInside
+    inner-nil-none e = rw e
+
+    pub inner-nil-given : gave D F α β ≡ true → doneInside D F α β ≡ step (errorLeaf undecidedInside 0 β)
+    unfolding doneInside
+    inner-nil-given e = rw e
 
   module _ (Fs : List Formula) where
     pub truth-clause : treeOf D (truth ∷ Fs) α ≡ step (treeOf D Fs α)
@@ -84,42 +96,32 @@ module _ (D : Declared) (α : Valuation) where
     -- ---- 5 and 6: `imp` and `not`; the inner tree of F stands at the node, before its son
 
     module _ (tok : ℕ) (F : Formula) where
-      module _ (c : closed α F ≡ true) where
-        module _ (v : verdict (grow D true F done α) ≡ fails) where
-          pub imp-fails : (G : Formula) → treeOf D (imp tok F G ∷ Fs) α ≡ ask (grow D true F done α) (treeOf D Fs α)
-          unfolding treeOf grow enquire
-          imp-fails G = rw (c, v)
-
-          pub neg-fails : treeOf D (neg tok F ∷ Fs) α ≡ ask (grow D true F done α) (treeOf D Fs α)
-          unfolding treeOf grow enquire
-          neg-fails = rw (c, v)
-
-        module _ (v : verdict (grow D true F done α) ≡ succeeds) where
-          pub imp-succeeds : (G : Formula) → treeOf D (imp tok F G ∷ Fs) α ≡ ask (grow D true F done α) (treeOf D (G ∷ Fs) α)
-          unfolding treeOf grow enquire
-          imp-succeeds G = rw (c, v)
-
-          pub neg-succeeds : treeOf D (neg tok F ∷ Fs) α ≡ ask (grow D true F done α) failureLeaf
-          unfolding treeOf grow enquire
-          neg-succeeds = rw (c, v)
-
-        module _ (v : verdict (grow D true F done α) ≡ undecided) where
-          pub imp-undecided : (G : Formula) → treeOf D (imp tok F G ∷ Fs) α ≡ ask (grow D true F done α) (errorLeaf undecidedInside tok α)
-          unfolding treeOf grow enquire
-          imp-undecided G = rw (c, v)
-
-          pub neg-undecided : treeOf D (neg tok F ∷ Fs) α ≡ ask (grow D true F done α) (errorLeaf undecidedInside tok α)
-          unfolding treeOf grow enquire
-          neg-undecided = rw (c, v)
-
-      module _ (c : closed α F ≡ false) where
-        pub imp-open : (G : Formula) → treeOf D (imp tok F G ∷ Fs) α ≡ step (errorLeaf openVariable tok α)
+      module _ (v : verdict (innerTree D F α) ≡ fails) where
+        pub imp-fails : (G : Formula) → treeOf D (imp tok F G ∷ Fs) α ≡ ask (innerTree D F α) (treeOf D Fs α)
         unfolding treeOf grow enquire
-        imp-open G = rw c
+        imp-fails G = rw v
 
-        pub neg-open : treeOf D (neg tok F ∷ Fs) α ≡ step (errorLeaf openVariable tok α)
+        pub neg-fails : treeOf D (neg tok F ∷ Fs) α ≡ ask (innerTree D F α) (treeOf D Fs α)
         unfolding treeOf grow enquire
-        neg-open = rw c
+        neg-fails = rw v
+
+      module _ (v : verdict (innerTree D F α) ≡ succeeds) where
+        pub imp-succeeds : (G : Formula) → treeOf D (imp tok F G ∷ Fs) α ≡ ask (innerTree D F α) (treeOf D (G ∷ Fs) α)
+        unfolding treeOf grow enquire
+        imp-succeeds G = rw v
+
+        pub neg-succeeds : treeOf D (neg tok F ∷ Fs) α ≡ ask (innerTree D F α) failureLeaf
+        unfolding treeOf grow enquire
+        neg-succeeds = rw v
+
+      module _ (v : verdict (innerTree D F α) ≡ undecided) where
+        pub imp-undecided : (G : Formula) → treeOf D (imp tok F G ∷ Fs) α ≡ ask (innerTree D F α) (errorLeaf undecidedInside tok α)
+        unfolding treeOf grow enquire
+        imp-undecided G = rw v
+
+        pub neg-undecided : treeOf D (neg tok F ∷ Fs) α ≡ ask (innerTree D F α) (errorLeaf undecidedInside tok α)
+        unfolding treeOf grow enquire
+        neg-undecided = rw v
 
     -- ---- 7: `ex`; its local is fresh as it has no value
 
@@ -132,7 +134,7 @@ module _ (D : Declared) (α : Valuation) where
     module _ (tok l : ℕ) (a b : Term) (F : Formula) where
       -- the list that begins with the `all` over n values, the lowest v
       abbrev pub allOver : ℕ → ℤ → Rest
-      allOver n v = rounds (grow D false F) l (treeOf D Fs) n v
+      allOver n v = rounds (grow D F) l (treeOf D Fs) n v
 
       module _ (κ : ℕ) (e : pairOf (side D α a) (side D α b) ≡ faulty κ) where
         pub some-error : treeOf D (some tok l a b F ∷ Fs) α ≡ step (errorLeaf κ tok α)
@@ -163,6 +165,6 @@ module _ (D : Declared) (α : Valuation) where
       all-none v = refl
 
       -- F for the lowest value, then the same `all` over the values left
-      pub all-values : (n : ℕ) (v : ℤ) → allOver (suc n) v α ≡ step (grow D false F (allOver n (v +ℤ pos 1)) (put α (local l) (full v)))
+      pub all-values : (n : ℕ) (v : ℤ) → allOver (suc n) v α ≡ step (grow D F (allOver n (v +ℤ pos 1)) (put α (local l) (full v)))
       unfolding rounds
       all-values n v = refl

@@ -1,9 +1,10 @@
--- A formula that is read is well scoped: its terms are, and each binder's local is not bound around it. Assumes nothing.
-use Prim.Native.Nat.{ℕ, zero, suc}
+-- A formula that is read is well scoped: its terms are, and each binder's local is declared and not bound around it. Assumes nothing.
+use Prim.Native.Nat.{ℕ, zero, suc, _<_}
 use mathlib.Core.Path.{_≡_, sym, subst}
 use mathlib.Core.Bool.{false, not}
 use mathlib.Core.List.{_∷_}
 use lib.Dec.{T, ltb}
+use borrow.Author.Tests.{ltb-true}
 use Rattle.specification.specs.Parser.{Reader, Parser, give, _>>=_}
 use Rattle.specification.specs.Lines.{Declared}
 use Rattle.specification.specs.Ast.{Term, Formula, and, or, imp, eq, compare, some, all}
@@ -16,16 +17,16 @@ use Rattle.specification.proofs.Laws.ReadTerm.{scope, scope-enter, Sub,
 -- ---- binders
 
 module _ (D : Declared) (S : Locals) where
-  -- a binder's local is not in scope before, and has a binder after
+  -- a binder's local is declared, is not in scope before, and has a binder after
   abbrev Binds : ℕ → Reader → Type 0
-  Binds l r = (has l S ≡ false) × Sub (l ∷ S) (r .bound)
+  Binds l r = (l < D .locals) × (has l S ≡ false) × Sub (l ∷ S) (r .bound)
 
-  bind-local : (p l : ℕ) (r : Reader) → Sub S (r .bound) → Post Binds (bind p l r)
-  bind-local p l r s =
-      pick-post (has l (r .bound)) _ _ (λ e. refusal tt) (λ e. holds (fresh S (r .bound) l s e, sub-both S (r .bound) l s))
+  bind-local : (p l : ℕ) (r : Reader) → l < D .locals → Sub S (r .bound) → Post Binds (bind p l r)
+  bind-local p l r d s =
+      pick-post (has l (r .bound)) _ _ (λ e. refusal tt) (λ e. holds (d, fresh S (r .bound) l s e, sub-both S (r .bound) l s))
 
   binder-of : (p : ℕ) (w : TermWord) (r : Reader) → Sub S (r .bound) → Post Binds (binderOf D p w r)
-  binder-of p (localWord l) r s = require-post (ltb l (D .locals)) _ _ _ _ tt λ e. bind-local p l r s
+  binder-of p (localWord l) r s = require-post (ltb l (D .locals)) _ _ _ _ tt λ e. bind-local p l r (ltb-true l (D .locals) e) s
   binder-of p (constantWord z) r s = refusal tt
   binder-of p (scalarWord n) r s = refusal tt
   binder-of p (arrayWord a) r s = refusal tt
@@ -75,16 +76,16 @@ module _ (D : Declared) where
     two-terms g ok r s = two-post S T′ (term-post D S S k) (FormulaIn S) g ok r s
 
     quantified : (g : ℕ → Term → Term → Formula → Formula) →
-        ((l : ℕ) (a b : Term) (G : Formula) → OkTerm D (scope S) a → OkTerm D (scope S) b → T (not (has l S)) →
+        ((l : ℕ) (a b : Term) (G : Formula) → OkTerm D (scope S) a → OkTerm D (scope S) b → l < D .locals → T (not (has l S)) →
         Ok D (enter (scope S) l) G → FormulaIn S (g l a b G)) →
         (r : Reader) → Sub S (r .bound) →
         Post (Scoped S (FormulaIn S)) ((operand L >>= λ l. operand T′ >>= λ a. operand T′ >>= λ b. operand (F (l ∷ S)) >>= λ f. give (g l a b f)) r)
     quantified g ok r s =
         bind-post (operand-post S L (binder-post D S k) r s) λ l r₁ h₁.
-        bind-post (operand-post (l ∷ S) T′ (term-post D S (l ∷ S) k) r₁ (h₁ .1)) λ a r₂ h₂.
+        bind-post (operand-post (l ∷ S) T′ (term-post D S (l ∷ S) k) r₁ (h₁ .2)) λ a r₂ h₂.
         bind-post (operand-post (l ∷ S) T′ (term-post D S (l ∷ S) k) r₂ (h₂ .1)) λ b r₃ h₃.
         bind-post (operand-post (l ∷ S) (F (l ∷ S)) (ih (l ∷ S)) r₃ (h₃ .1)) λ f r₄ h₄.
-        holds (ok l a b f (h₂ .0) (h₃ .0) (false-T (has l S) (h₁ .0)) (leave S l f (h₄ .0)), sub-less S (r₄ .bound) l (h₄ .1))
+        holds (ok l a b f (h₂ .0) (h₃ .0) (h₁ .0) (false-T (has l S) (h₁ .1)) (leave S l f (h₄ .0)), sub-less S (r₄ .bound) l (h₄ .1))
 
     formula-of : (n : ℕ) (w : FormulaWord) (r : Reader) → Sub S (r .bound) → Post (Scoped S (FormulaIn S)) (formulaOf D F T′ L S n w r)
     unfolding Ok
@@ -97,10 +98,10 @@ module _ (D : Declared) where
     formula-of n (relWord c) r s = two-terms (compare n c) (λ x y a b. (a, b)) r s
     formula-of n exWord r s =
         bind-post (operand-post S L (binder-post D S k) r s) λ l r₁ h₁.
-        bind-post (operand-post (l ∷ S) (F (l ∷ S)) (ih (l ∷ S)) r₁ (h₁ .1)) λ f r₂ h₂.
-        holds ((false-T (has l S) (h₁ .0), leave S l f (h₂ .0)), sub-less S (r₂ .bound) l (h₂ .1))
-    formula-of n someWord r s = quantified (some n) (λ l a b G x y z h. (x, y, z, h)) r s
-    formula-of n allWord r s = quantified (all n) (λ l a b G x y z h. (x, y, z, h)) r s
+        bind-post (operand-post (l ∷ S) (F (l ∷ S)) (ih (l ∷ S)) r₁ (h₁ .2)) λ f r₂ h₂.
+        holds ((h₁ .0, false-T (has l S) (h₁ .1), leave S l f (h₂ .0)), sub-less S (r₂ .bound) l (h₂ .1))
+    formula-of n someWord r s = quantified (some n) (λ l a b G x y d z h. (x, y, d, z, h)) r s
+    formula-of n allWord r s = quantified (all n) (λ l a b G x y d z h. (x, y, d, z, h)) r s
 
     formula-with : (t : Token) (w : Word) (r : Reader) → Sub S (r .bound) → Post (Scoped S (FormulaIn S)) (formulaWith D F T′ L S t w r)
     formula-with t (formulaWord w) r s = formula-of (t .number) w r s

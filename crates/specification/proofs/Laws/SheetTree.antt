@@ -12,6 +12,7 @@ use Rattle.specification.specs.WellFormed.{nowhere, Ok, Valid}
 use Rattle.specification.specs.Tree.{treeOf}
 use Rattle.specification.specs.Plain.{Truth, Filling, env}
 use Rattle.specification.proofs.Laws.Scope.{Every, Any, Agree}
+use Rattle.specification.proofs.Laws.Outside.{covers-nowhere}
 use Rattle.specification.proofs.Laws.Truth.{laws}
 
 -- a filling agrees with the declared cells that have a value
@@ -32,10 +33,10 @@ module _ (D : Declared) (F : Formula) (o : Ok D nowhere F) (α : Valuation) (v :
   pub sound : Every (Answer D F α) (treeOf D (F ∷ []) α)
   unfolding treeOf Every
   sound =
-      (laws D F) .0 nowhere o false (treeOf D []) α v (Answer D F α) (λ β e vb pr.
+      (laws D F) .0 nowhere (covers-nowhere D) o (treeOf D []) α v (Answer D F α) (λ β e vb pr.
       record { keeps = λ c. e (cell c); valid = vb; proves = λ φ m. pr (env φ) (matches-agree D φ β m) })
 
   pub complete : (φ : Filling) → Matches D φ α → Truth D (env φ) F → Any (Matches D φ) (treeOf D (F ∷ []) α)
   unfolding treeOf Any
   complete φ m t =
-      (laws D F) .1 nowhere o false (treeOf D []) α v (env φ) (matches-agree D φ α m) t (Matches D φ) (λ β a c. a (cell c)) (λ β vb a c. a (cell c))
+      (laws D F) .1 nowhere (covers-nowhere D) o (treeOf D []) α v (env φ) (matches-agree D φ α m) t (Matches D φ) (λ β a c. a (cell c)) (λ β vb a c. a (cell c))
