@@ -1,5 +1,5 @@
--- The telling cases of docs/DECISIONS.md: where document 01 can be read two ways, a sheet that tells the readings apart, and sheets at its
--- limits. Assumes nothing.
+-- The telling cases of docs/DECISIONS.md: where document 01 or 02 can be read two ways, a sheet that tells the readings apart, and sheets at
+-- the limits. Assumes nothing.
 use Prim.Native.Nat.{ℕ, zero, suc, _+_}
 use Prim.Native.String.{String}
 use mathlib.Core.Path.{_≡_, refl}
@@ -88,12 +88,10 @@ decided-readings = refl
 unfoldable pub walks : List Case
 walks =
     single "all l0 0 0 true" "answer=1\nend=done\nnodes=5\nanswers=1\nerrors=0\nfails=0\n"
-    ∷ single "not or true eq v0 1" "error=1\nkind=5\nat=0\nend=done\nnodes=2\nanswers=0\nerrors=1\nfails=0\n"
     ∷ single "some l0 v0 3 true" "error=1\nkind=1\nat=0\nend=done\nnodes=2\nanswers=0\nerrors=1\nfails=0\n"
     ∷ boxed (sheetOf "1" "1" "1" "eq a0 v0 div 1 0") "error=1\nkind=1\nat=0\nend=done\nnodes=2\nanswers=0\nerrors=1\nfails=0\n"
     ∷ boxed (sheetOf "1" "1" "1" "eq a0 0 div 1 0") "error=1\nkind=3\nat=0\nend=done\nnodes=2\nanswers=0\nerrors=1\nfails=0\n"
     ∷ boxed (sheetOf "1" "1" "1" "eq a0 1 v0") "error=1\nkind=4\nat=0\nend=done\nnodes=2\nanswers=0\nerrors=1\nfails=0\n"
-    ∷ boxed (sheetOf "1" "1" "1" "not imp true eq a0 0 1") "error=1\nkind=6\nat=0\nend=done\nnodes=8\nanswers=0\nerrors=1\nfails=0\n"
     ∷ single "all l0 1 2 ex l1 true" "refused=7\nat=66\n"
     ∷ boxed (sheetOf "0" "2" "" "all l0 1 2 ex l1 eq l1 l0") "answer=1\nend=done\nnodes=9\nanswers=1\nerrors=0\nfails=0\n"
     ∷ single "eq v0 mod -2147483648 -1" "answer=1\nv0=0\nend=done\nnodes=3\nanswers=1\nerrors=0\nfails=0\n"
@@ -116,3 +114,39 @@ walks =
 pub decided-walks : map given walks ≡ map due walks
 unfolding walks read-defs tree-defs run-defs
 decided-walks = refl
+
+-- ---- inner trees: where a success counts (document 02, Two)
+
+unfoldable pub inners : List Case
+inners =
+    -- no value is needed first, and none remains after
+    single "not and eq v0 0 eq v0 1" "answer=1\nend=done\nnodes=7\nanswers=1\nerrors=0\nfails=0\n"
+    ∷ single "and not and eq v0 0 eq v0 1 eq v0 2" "answer=1\nv0=2\nend=done\nnodes=9\nanswers=1\nerrors=0\nfails=0\n"
+    ∷ single "imp or eq v0 0 true eq v0 1" "answer=1\nv0=1\nend=done\nnodes=11\nanswers=1\nerrors=0\nfails=0\n"
+    ∷ boxed (sheetOf "3" "0" "" "and eq v0 5 not eq v2 2") "error=1\nkind=6\nat=4\nv0=5\nend=done\nnodes=7\nanswers=0\nerrors=1\nfails=0\n"
+    -- a success that gives a value before and after one that gives none
+    ∷ single "not or eq v0 0 eq 1 1" "end=done\nnodes=9\nanswers=0\nerrors=0\nfails=1\n"
+    ∷ single "not or true eq v0 1" "end=done\nnodes=6\nanswers=0\nerrors=0\nfails=1\n"
+    ∷ single "not or eq v0 0 eq 1 2" "error=1\nkind=6\nat=0\nend=done\nnodes=8\nanswers=0\nerrors=1\nfails=0\n"
+    -- elements
+    ∷ boxed (sheetOf "0" "0" "2" "not eq a0 1 0") "error=1\nkind=6\nat=0\nend=done\nnodes=5\nanswers=0\nerrors=1\nfails=0\n"
+    ∷ boxed (sheetOf "0" "0" "2" "not and eq a0 1 0 eq a0 1 1") "answer=1\nend=done\nnodes=7\nanswers=1\nerrors=0\nfails=0\n"
+    -- locals bound inside, outside, and in an inner tree around
+    ∷ single "not ex l0 eq l0 0" "end=done\nnodes=6\nanswers=0\nerrors=0\nfails=1\n"
+    ∷ boxed (sheetOf "0" "2" "" "not all l0 0 1 ex l1 eq l1 l0") "end=done\nnodes=11\nanswers=0\nerrors=0\nfails=1\n"
+    ∷ single "ex l0 not eq l0 0" "error=1\nkind=6\nat=2\nend=done\nnodes=6\nanswers=0\nerrors=1\nfails=0\n"
+    ∷ single "not ex l0 not eq l0 0" "error=1\nkind=6\nat=0\nend=done\nnodes=8\nanswers=0\nerrors=1\nfails=0\n"
+    -- what an inner `not` assigns, and the left side of an inner `imp`, is gone; what its G assigns is not
+    ∷ single "not not eq v0 0" "error=1\nkind=6\nat=0\nend=done\nnodes=7\nanswers=0\nerrors=1\nfails=0\n"
+    ∷ single "not not and eq v0 0 eq v0 1" "end=done\nnodes=9\nanswers=0\nerrors=0\nfails=1\n"
+    ∷ single "not imp and eq v0 0 eq v0 1 eq 1 1" "end=done\nnodes=9\nanswers=0\nerrors=0\nfails=1\n"
+    ∷ boxed (sheetOf "1" "1" "1" "not imp true eq a0 0 1") "error=1\nkind=6\nat=0\nend=done\nnodes=9\nanswers=0\nerrors=1\nfails=0\n"
+    -- limits inside
+    ∷ under boxPath 5 (sheetOf "1" "1" "" "not and eq v0 0 eq v0 1") "end=spent\nnodes=5\nanswers=0\nerrors=0\nfails=0\n"
+    ∷ under 4 boxBudget (sheetOf "1" "1" "" "not and eq v0 0 eq v0 1") "end=path\nnodes=4\nanswers=0\nerrors=0\nfails=0\n"
+    ∷ under 5 9 (sheetOf "1" "1" "" "not or eq v0 0 eq 1 1") "end=done\nnodes=9\nanswers=0\nerrors=0\nfails=1\n"
+    ∷ []
+
+pub decided-inners : map given inners ≡ map due inners
+unfolding inners read-defs tree-defs run-defs
+decided-inners = refl

@@ -1,4 +1,5 @@
--- The marked cases of document 01: what the box prints, or a call under another setting. Assumes nothing.
+-- The marked cases of document 01, with document 02's kind 6 for `not eq v0 0`: what the box prints, or a call under another setting.
+-- Assumes nothing.
 use mathlib.Core.Path.{_≡_, refl}
 use mathlib.Core.List.{List, [], _∷_, map}
 use Rattle.specification.specs.Bytes.{Bytes}
@@ -20,7 +21,7 @@ marked =
     ∷ single "and eq v0 0 lt v0 1" "answer=1\nv0=0\nend=done\nnodes=5\nanswers=1\nerrors=0\nfails=0\n"
     ∷ single "and lt v0 1 eq v0 0" "error=1\nkind=1\nat=1\nend=done\nnodes=3\nanswers=0\nerrors=1\nfails=0\n"
     ∷ single "or eq v0 div 1 0 eq v0 3" "error=1\nkind=3\nat=1\nanswer=1\nv0=3\nend=done\nnodes=6\nanswers=1\nerrors=1\nfails=0\n"
-    ∷ single "not eq v0 0" "error=1\nkind=5\nat=0\nend=done\nnodes=2\nanswers=0\nerrors=1\nfails=0\n"
+    ∷ single "not eq v0 0" "error=1\nkind=6\nat=0\nend=done\nnodes=5\nanswers=0\nerrors=1\nfails=0\n"
     ∷ single "not or eq 1 1 eq 1 div 1 0" "end=done\nnodes=6\nanswers=0\nerrors=0\nfails=1\n"
     ∷ single "not or eq 1 2 eq 1 div 1 0" "error=1\nkind=6\nat=0\nend=done\nnodes=7\nanswers=0\nerrors=1\nfails=0\n"
     ∷ single "all l0 1 0 eq 1 2" "answer=1\nend=done\nnodes=3\nanswers=1\nerrors=0\nfails=0\n"
