@@ -31,6 +31,20 @@ Refutes D S F α = (ρ : Env) → Agree D S ρ α → ¬ Truth D ρ F
 
 -- ---- what the inner tree tells
 
+-- the leaf below the empty list, by whether something was given
+abbrev leafInside : Bool → Valuation → Tree
+leafInside given β = pick given (errorLeaf undecidedInside 0 β) (successLeaf β)
+
+leaf-every : (P : Valuation → Type 0) (given : Bool) (β : Valuation) → (given ≡ false → P β) → Every P (leafInside given β)
+unfolding Every
+leaf-every P true β h = tt
+leaf-every P false β h = h refl
+
+leaf-any : (Q : Valuation → Type 0) (given : Bool) (β : Valuation) → Q β → Any Q (leafInside given β)
+unfolding Any
+leaf-any Q true β h = h
+leaf-any Q false β h = h
+
 module _ (D : Declared) (F : Formula) (S : Scope) (c : Covers D S) (o : Ok D S F) (α : Valuation) where
   -- β extends α and gave nothing: what agrees with α agrees with β
   agree-given : (β : Valuation) → Ext D S α β → gave D F α β ≡ false → (ρ : Env) → Agree D S ρ α → Agree D S ρ β
@@ -40,30 +54,13 @@ module _ (D : Declared) (F : Formula) (S : Scope) (c : Covers D S) (o : Ok D S F
       go empty f = let g = gave-none D F α β n p (in-declares D S c p i) (in-outside D S F o p i) f in contradiction cc
       go (full u) f = let g = x p i u f in let h = a p i u f in cc
 
-  -- the one son of the empty list, if each valuation that gave nothing has P
-  inside-every : (P : Valuation → Type 0) (β : Valuation) → (gave D F α β ≡ false → P β) → Every P (doneInside D F α β)
-  unfolding Every doneInside
-  inside-every P β h = go (gave D F α β) h
-    where
-      go : (b : Bool) → (b ≡ false → P β) → Every P (pick b (errorLeaf undecidedInside 0 β) (successLeaf β))
-      go true h = tt
-      go false h = h refl
-
-  -- and where Q holds of the valuation, it does of the son, whichever leaf that is
-  inside-any : (Q : Valuation → Type 0) (β : Valuation) → Q β → Any Q (doneInside D F α β)
-  unfolding Any doneInside
-  inside-any Q β h = go (gave D F α β)
-    where
-      go : (b : Bool) → Any Q (pick b (errorLeaf undecidedInside 0 β) (successLeaf β))
-      go true = h
-      go false = h
-
   module _ (v : Valid D α) where
     -- each success leaf: it gave nothing, so F is true in each environment that agrees with α
     pub success-proves : Sound D F → Every (λ β. Proves D S F α) (innerTree D F α)
+    unfolding Every doneInside
     success-proves sF =
         sF S c o (doneInside D F α) α v (λ β. Proves D S F α) (λ β x vb pr.
-        inside-every (λ β. Proves D S F α) β (λ n ρ a. pr ρ (agree-given β x n ρ a)))
+        leaf-every (λ β. Proves D S F α) (gave D F α β) β (λ n ρ a. pr ρ (agree-given β x n ρ a)))
 
     -- so where the inner tree succeeds, F is true in each of them
     pub succeeds-proves : Sound D F → verdict (innerTree D F α) ≡ succeeds → Proves D S F α
@@ -71,9 +68,10 @@ module _ (D : Declared) (F : Formula) (S : Scope) (c : Covers D S) (o : Ok D S F
 
     -- failure leaves only: F is true in none of them
     pub fails-refutes : Complete D F → verdict (innerTree D F α) ≡ fails → Refutes D S F α
+    unfolding Any doneInside
     fails-refutes cF e ρ a t =
         fails-none (λ β. Unit {0}) (innerTree D F α) e
-        (cF S c o (doneInside D F α) α v ρ a t (λ β. Unit {0}) (λ β b. tt) (λ β vb b. inside-any (λ β. Unit {0}) β tt))
+        (cF S c o (doneInside D F α) α v ρ a t (λ β. Unit {0}) (λ β b. tt) (λ β vb b. leaf-any (λ β. Unit {0}) (gave D F α β) β tt))
 
 -- ---- `not` and `imp`
 
