@@ -1,7 +1,7 @@
 -- The third demand alone shuts out wrong boxes (document 01, claim c): one that lists nothing and says `done` (lists-nothing), and one that
--- walks the first branch of an `or` only (first-branch-only); and one that lists an answer which is none (invents-an-answer). Each law is
--- about the bytes that such a box writes for a small sheet, however it came to write them. The right listing of that sheet does meet the
--- demand (lists-both). Assumes nothing.
+-- walks the first branch of an `or` only (first-branch-only); one that lists an answer which is none (invents-an-answer); and one that counts an
+-- inner success which gave a value (counts-what-gave). Each law is about the bytes that such a box writes for a small sheet, however it came
+-- to write them. The right listing of one such sheet does meet the demand (lists-both). Assumes nothing.
 use Prim.Native.Nat.{ℕ}
 use native.Mathlib.Omega.{arith}
 use Prim.Native.String.{String}
@@ -16,7 +16,7 @@ use Rattle.specification.specs.Lists.{Each, Some}
 use Rattle.specification.specs.Bytes.{Bytes, bytes}
 use Rattle.specification.specs.Number.{in32}
 use Rattle.specification.specs.Lines.{scalar, cellOf}
-use Rattle.specification.specs.Ast.{Formula, constant, scalarAt, eq, or}
+use Rattle.specification.specs.Ast.{Formula, constant, scalarAt, neg, eq, or}
 use Rattle.specification.specs.Parser.{Reader, found}
 use Rattle.specification.specs.Sheet.{Sheet, read}
 use Rattle.specification.specs.Listing.{Block, answerHead, listingText}
@@ -77,6 +77,25 @@ unfolding listingText True Truth valueOf Some
 lists-nothing d =
     let a : Agreement (sheetWith oneFormula) [] = demand3-agreement reads-one refl d in
     a .complete (filled 1) (filled-such oneFormula 1 tt) (pos 1, refl, refl)
+
+-- ---- a negation
+
+abbrev pub negated : Bytes
+negated = sheetText "not eq v0 0"
+
+abbrev negatedFormula : Formula
+negatedFormula = neg 0 (is 1 0)
+
+reads-negated : read negated ≡ found (sheetWith negatedFormula) (after negated 4)
+unfolding read-defs
+reads-negated = refl
+
+-- the inner tree's one success gives v0 the value 0; a box that counts it has a failure leaf and lists nothing
+pub counts-what-gave : ¬ Demand3 negated []
+unfolding listingText True Truth valueOf Some
+counts-what-gave d =
+    let a : Agreement (sheetWith negatedFormula) [] = demand3-agreement reads-negated refl d in
+    a .complete (filled 1) (filled-such negatedFormula 1 tt) (λ (x, e, f). let z : _≡_ {A = ℕ} 1 0 = cc in absurd (omega arith))
 
 -- ---- an answer in each of two branches
 

@@ -1,7 +1,6 @@
 -- Demand 3 over the leaves of a sheet's tree: no local is bound at its root, and a filling stands for the environment. Assumes nothing.
 use Prim.Native.Nat.{ℕ, _<_}
 use mathlib.Core.Path.{_≡_}
-use mathlib.Core.Bool.{false}
 use mathlib.Core.List.{[], _∷_}
 use lib.IntN.{ℤ}
 use Rattle.specification.specs.Lines.{Declared, cells}

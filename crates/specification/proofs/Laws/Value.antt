@@ -107,24 +107,32 @@ compute-firm mul x y = fit-firm (x *ℤ y)
 compute-firm div x y = divided-firm y (fit (quotZ x y)) (fit-firm (quotZ x y))
 compute-firm modulo x y = divided-firm y (fit (x -ℤ y *ℤ quotZ x y)) (fit-firm (x -ℤ y *ℤ quotZ x y))
 
--- what holds of firm sides holds of operations, and of elements if it holds of the elements inside the array
-module _ (D : Declared) (α : Valuation) (G : Side → Type 0) (firm : (s : Side) → Firm s → G s) where
+-- what holds of firm sides, and of the places in scope as they are looked at, holds of every side
+module _ (D : Declared) (S : Scope) (α : Valuation) (G : Side → Type 0) (firm : (s : Side) → Firm s → G s)
+    (looked : (p : Place) → In D S p → (s : Slot) → α p ≡ s → G (look s p)) where
   operate-firm : (o : Op) (p : Pair) → G (operate o p)
   operate-firm o (values x y) = firm (sideOf (compute o x y)) (compute-firm o x y)
   operate-firm o (faulty κ) = firm (err κ) tt
 
-  inArray-firm : (b : Bool) (c : ℕ) → (T b → G (look (α (cell c)) (cell c))) → G (inArray D α b c)
-  inArray-firm true c h = h tt
+  inArray-firm : (b : Bool) (c : ℕ) → (T b → c < cells D) → G (inArray D α b c)
+  inArray-firm true c h = looked (cell c) (h tt) (α (cell c)) refl
   inArray-firm false c h = firm (err outsideArray) tt
 
-  element-firm :
-      (n : ℕ) → ((i : ℕ) → i < lengthOf D n → G (look (α (cell (firstOf D n + i))) (cell (firstOf D n + i)))) →
-      (s : Side) → G (elementSide D α n s)
+  element-firm : (n : ℕ) (s : Side) → G (elementSide D α n s)
   unfolding elementSide
-  element-firm n h (val (pos i)) = inArray-firm (ltb i (lengthOf D n)) (firstOf D n + i) (λ t. h i (ltb→lt i (lengthOf D n) t))
-  element-firm n h (val (negsuc i)) = firm (err outsideArray) tt
-  element-firm n h (bare p) = firm (err noValue) tt
-  element-firm n h (err κ) = firm (err κ) tt
+  element-firm n (val (pos i)) =
+      inArray-firm (ltb i (lengthOf D n)) (firstOf D n + i) (λ t. element-declared D n i (ltb→lt i (lengthOf D n) t))
+  element-firm n (val (negsuc i)) = firm (err outsideArray) tt
+  element-firm n (bare p) = firm (err noValue) tt
+  element-firm n (err κ) = firm (err κ) tt
+
+  side-firm : (t : Term) → OkTerm D S t → G (side D α t)
+  unfolding side OkTerm
+  side-firm (constant z) h = firm (val z) h
+  side-firm (scalarAt c) h = looked (cell c) (scalar-declared D c h) (α (cell c)) refl
+  side-firm (localAt l) h = looked (local l) h (α (local l)) refl
+  side-firm (elementAt n t) h = element-firm n (side D α t)
+  side-firm (apply o s t) h = operate-firm o (pairOf (side D α s) (side D α t))
 
 -- ---- a value is in 32 bits
 
@@ -139,23 +147,12 @@ module _ (D : Declared) (S : Scope) (α : Valuation) (v : Valid D α) where
   firm-fits (bare p) h = tt
   firm-fits (err κ) h = tt
 
-  look-fits : (p : Place) (s : Slot) → α p ≡ s → Fits (look s p)
-  look-fits p empty e = tt
-  look-fits p (full x) e = allowed-in32 D p x (v p x e)
-
-  side-fits : (t : Term) → OkTerm D S t → Fits (side D α t)
-  unfolding side OkTerm
-  side-fits (constant z) h = h
-  side-fits (scalarAt c) h = look-fits (cell c) (α (cell c)) refl
-  side-fits (localAt l) h = look-fits (local l) (α (local l)) refl
-  side-fits (elementAt n t) h =
-      element-firm D α Fits firm-fits n (λ i k.
-      let c = cell (firstOf D n + i) in
-      look-fits c (α c) refl) (side D α t)
-  side-fits (apply o s t) h = operate-firm D α Fits firm-fits o (pairOf (side D α s) (side D α t))
+  look-fits : (p : Place) → In D S p → (s : Slot) → α p ≡ s → Fits (look s p)
+  look-fits p i empty e = tt
+  look-fits p i (full x) e = allowed-in32 D p x (v p x e)
 
   pub sane-val : (t : Term) → OkTerm D S t → (x : ℤ) → side D α t ≡ val x → T (in32 x)
-  sane-val t h x e = subst Fits e (side-fits t h)
+  sane-val t h x e = subst Fits e (side-firm D S α Fits firm-fits look-fits t h)
 
 -- ---- a bare place is in scope and empty
 
@@ -174,16 +171,5 @@ module _ (D : Declared) (S : Scope) (α : Valuation) where
   look-free p i empty e = (i, e)
   look-free p i (full x) e = tt
 
-  side-free : (t : Term) → OkTerm D S t → Free (side D α t)
-  unfolding side OkTerm
-  side-free (constant z) h = tt
-  side-free (scalarAt c) h = look-free (cell c) (scalar-declared D c h) (α (cell c)) refl
-  side-free (localAt l) h = look-free (local l) h (α (local l)) refl
-  side-free (elementAt n t) h =
-      element-firm D α Free firm-free n (λ i k.
-      let c = cell (firstOf D n + i) in
-      look-free c (element-declared D n i k) (α c) refl) (side D α t)
-  side-free (apply o s t) h = operate-firm D α Free firm-free o (pairOf (side D α s) (side D α t))
-
   pub sane-bare : (t : Term) → OkTerm D S t → (p : Place) → side D α t ≡ bare p → In D S p × (α p ≡ empty)
-  sane-bare t h p e = subst Free e (side-free t h)
+  sane-bare t h p e = subst Free e (side-firm D S α Free firm-free look-free t h)
