@@ -1,6 +1,7 @@
--- Negation and implication (document 02, Two). What an inner tree tells of its formula, both ways: a success leaf gave no place outside a
--- value and makes the formula true of all that agrees with the valuation at the `not` or `imp`; failure leaves only, and it is true of none.
--- So `not` and `imp` are sound and complete, where each half needs the other half at the inner formula. Assumes nothing.
+-- Negation and implication (document 02, Two). What an inner tree tells of its formula, both ways: a success leaf, which gave nothing, makes it
+-- true in every environment (a filling, and values for the locals bound around) that agrees with the valuation at the `not` or `imp`; failure
+-- leaves only means that it is true in none. So `not` and `imp` are sound and complete; each half needs the other half at the inner formula.
+-- With both halves proved, the two are laws of every formula: inner-success-true and inner-failures-false in Truth.antt. Assumes nothing.
 use Prim.Native.Nat.{ℕ}
 use mathlib.Core.Path.{_≡_, refl}
 use mathlib.Core.Bool.{Bool, true, false}
@@ -54,13 +55,17 @@ module _ (D : Declared) (F : Formula) (S : Scope) (c : Covers D S) (o : Ok D S F
       go empty f = let g = gave-none D F α β n p (in-declares D S c p i) (in-outside D S F o p i) f in contradiction cc
       go (full u) f = let g = x p i u f in let h = a p i u f in cc
 
+  -- a leaf that gave nothing: where its valuation proves F, so does α
+  pub gave-nothing-proves : (β : Valuation) → Ext D S α β → Proves D S F β → gave D F α β ≡ false → Proves D S F α
+  gave-nothing-proves β x pr n ρ a = pr ρ (agree-given β x n ρ a)
+
   module _ (v : Valid D α) where
-    -- each success leaf: it gave nothing, so F is true in each environment that agrees with α
+    -- each success leaf gave nothing, so F is true in each environment that agrees with α
     pub success-proves : Sound D F → Every (λ β. Proves D S F α) (innerTree D F α)
     unfolding Every doneInside
     success-proves sF =
         sF S c o (doneInside D F α) α v (λ β. Proves D S F α) (λ β x vb pr.
-        leaf-every (λ β. Proves D S F α) (gave D F α β) β (λ n ρ a. pr ρ (agree-given β x n ρ a)))
+        leaf-every (λ β. Proves D S F α) (gave D F α β) β (gave-nothing-proves β x pr))
 
     -- so where the inner tree succeeds, F is true in each of them
     pub succeeds-proves : Sound D F → verdict (innerTree D F α) ≡ succeeds → Proves D S F α
