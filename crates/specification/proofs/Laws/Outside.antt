@@ -26,7 +26,8 @@ unfolding someBelow
 some-below zero f i h e = absurd (omega arith)
 some-below (suc n) f i h e =
     let le : i ≤ n = omega arith in
-    ⊎-elim (λ q. ap (_|| someBelow n f) (subst (λ (j : ℕ). f j ≡ true) q e)) (λ l. ap (f n ||_) (some-below n f i l e) ∙ or-true (f n)) (eq-or-lt-of-le le)
+    ⊎-elim (λ q. ap (_|| someBelow n f) (subst (λ (j : ℕ). f j ≡ true) q e))
+    (λ l. ap (f n ||_) (some-below n f i l e) ∙ or-true (f n)) (eq-or-lt-of-le le)
 
 none-below : (n : ℕ) (f : ℕ → Bool) → ((i : ℕ) → i < n → f i ≡ false) → someBelow n f ≡ false
 unfolding someBelow
@@ -96,17 +97,18 @@ yes-right : (a b : Bool) → T b → T (a || b)
 yes-right true b t = tt
 yes-right false b t = t
 
+-- each part is within the whole, and so is a binder's local
 pub and-within : (F G : Formula) → Within (and F G) F × Within (and F G) G
 unfolding binds
 and-within F G = ((λ l. yes-left (binds F l) (binds G l)), (λ l. yes-right (binds F l) (binds G l)))
 
 pub or-within : (F G : Formula) → Within (or F G) F × Within (or F G) G
 unfolding binds
-or-within F G = ((λ l. yes-left (binds F l) (binds G l)), (λ l. yes-right (binds F l) (binds G l)))
+or-within F G = and-within F G
 
 pub imp-within : (tok : ℕ) (F G : Formula) → Within (imp tok F G) F × Within (imp tok F G) G
 unfolding binds
-imp-within tok F G = ((λ l. yes-left (binds F l) (binds G l)), (λ l. yes-right (binds F l) (binds G l)))
+imp-within tok F G = and-within F G
 
 pub ex-within : (j : ℕ) (F : Formula) → T (binds (ex j F) j) × Within (ex j F) F
 unfolding binds
@@ -114,16 +116,18 @@ ex-within j F = (yes-left (eqb j j) (binds F j) (eqb-refl j), (λ l. yes-right (
 
 pub some-within : (tok j : ℕ) (a b : Term) (F : Formula) → T (binds (some tok j a b F) j) × Within (some tok j a b F) F
 unfolding binds
-some-within tok j a b F = (yes-left (eqb j j) (binds F j) (eqb-refl j), (λ l. yes-right (eqb l j) (binds F l)))
+some-within tok j a b F = ex-within j F
 
 pub all-within : (tok j : ℕ) (a b : Term) (F : Formula) → T (binds (all tok j a b F) j) × Within (all tok j a b F) F
 unfolding binds
-all-within tok j a b F = (yes-left (eqb j j) (binds F j) (eqb-refl j), (λ l. yes-right (eqb l j) (binds F l)))
+all-within tok j a b F = ex-within j F
 
 -- ---- what is in scope around a formula
 
 -- under a binder of j
-under : (S : Scope) (F : Formula) (j l : ℕ) → T (not (S j)) → (T (binds F l) → T (not (enter S j l))) → T (eqb l j || binds F l) → T (not (S l))
+under :
+    (S : Scope) (F : Formula) (j l : ℕ) → T (not (S j)) → (T (binds F l) → T (not (enter S j l))) →
+    T (eqb l j || binds F l) → T (not (S l))
 unfolding enter
 under S F j l n h b =
     ⊎-elim (λ e. subst (λ (i : ℕ). T (not (S i))) (sym (eqb-yes e)) n) (λ t. go (eqb l j) (h t)) (or-yes (eqb l j) (binds F l) b)
