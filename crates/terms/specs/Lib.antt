@@ -1,4 +1,3 @@
 -- What the contracts of terms cite.
 pub mod Results
 pub mod Machine
-pub mod Openness

@@ -3,6 +3,4 @@ pub const NO_VALUE: u32 = 1;
 
 pub const OUTSIDE_ARRAY: u32 = 4;
 
-pub const OPEN_VARIABLE: u32 = 5;
-
 pub const UNDECIDED_INSIDE: u32 = 6;

@@ -1,8 +1,6 @@
-// Terms and formulas over the tables in the work words: the values of two terms, and whether a formula is closed. Each is one loop over
-// the tokens; nothing recurses.
+// Terms over the tables in the work words: the values of two terms, by one loop over their tokens; nothing recurses.
 pub mod evaluation;
 pub mod kinds;
-pub mod openness;
 pub mod tags;
 
 // What two terms are: of each a tag (tags.rt) and a word.
