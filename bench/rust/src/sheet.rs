@@ -27,16 +27,15 @@ pub enum Formula {
     },
     And(Box<[Formula; 2]>),
     Or(Box<[Formula; 2]>),
-    /// `open`: the scalars, and locals bound outside, that stand in the formula.
+    /// `scope`: the locals bound around it, a bit each.
     Not {
         at: u32,
-        open: Box<[Slot]>,
+        scope: u32,
         formula: Box<Formula>,
     },
-    /// `open`: the same of the left part.
     Imp {
         at: u32,
-        open: Box<[Slot]>,
+        scope: u32,
         parts: Box<[Formula; 2]>,
     },
     Ex {
@@ -106,8 +105,6 @@ struct Reader<'a> {
     /// Locals that have a binder so far, and those in scope here, a bit each.
     bound: u32,
     scope: u32,
-    /// The scalars and locals met so far.
-    standing: Vec<Slot>,
 }
 
 /// A token's text, sorted out as far as it can be by itself.
@@ -291,14 +288,8 @@ impl<'a> Reader<'a> {
             b"true" => return Ok(Formula::True),
             b"and" => return Ok(Formula::And(Box::new([self.part(depth)?, self.part(depth)?]))),
             b"or" => return Ok(Formula::Or(Box::new([self.part(depth)?, self.part(depth)?]))),
-            b"imp" => {
-                let (left, open) = self.judged(depth)?;
-                return Ok(Formula::Imp { at, open, parts: Box::new([left, self.part(depth)?]) });
-            }
-            b"not" => {
-                let (formula, open) = self.judged(depth)?;
-                return Ok(Formula::Not { at, open, formula: Box::new(formula) });
-            }
+            b"imp" => return Ok(Formula::Imp { at, scope: self.scope, parts: Box::new([self.part(depth)?, self.part(depth)?]) }),
+            b"not" => return Ok(Formula::Not { at, scope: self.scope, formula: Box::new(self.part(depth)?) }),
             b"ex" => {
                 let local = self.binder(depth)?;
                 return Ok(Formula::Ex { local, formula: Box::new(self.scoped(local, depth)?) });
@@ -319,17 +310,6 @@ impl<'a> Reader<'a> {
     fn part(&mut self, depth: u32) -> Read<Formula> {
         self.want(b' ')?;
         self.formula(depth + 1)
-    }
-
-    /// A formula with an inner tree, and what must have a value before it.
-    fn judged(&mut self, depth: u32) -> Read<(Formula, Box<[Slot]>)> {
-        let start = self.standing.len();
-        let formula = self.part(depth)?;
-        let mut open: Vec<Slot> = self.standing[start..].to_vec();
-        open.retain(|&slot| usize::from(slot) < self.cells || self.scope >> (usize::from(slot) - self.cells) & 1 == 1);
-        open.sort_unstable();
-        open.dedup();
-        Ok((formula, open.into()))
     }
 
     fn binder(&mut self, depth: u32) -> Read<Slot> {
@@ -400,8 +380,7 @@ impl<'a> Reader<'a> {
         if letter == b'l' && self.scope >> index & 1 == 0 {
             return refused(8, place);
         }
-        let slot = if letter == b'v' { index } else { self.cells + index } as Slot;
-        self.standing.push(slot);
-        Ok(Term::Slot(slot))
+        let slot = if letter == b'v' { index } else { self.cells + index };
+        Ok(Term::Slot(slot as Slot))
     }
 }
