@@ -443,6 +443,129 @@ and not eq 1 2 eq v0 1
     case("no three queens", lines(scalars="0", locals="3", arrays="3", formula=queens.replace("3 ", "2 ")))
 
 
+# ---------------------------------------------------------------- negation over what has no value (document 02, Two)
+
+def negations():
+    """A success inside counts if it gave no value to a cell, or to a local bound outside."""
+    declared = dict(scalars="3", locals="4", arrays="2")
+    # a success that gave a value, one that gave none, and failures only
+    formulas("""
+not and eq v0 0 eq v0 1
+not eq v2 2
+and eq v0 1 not eq v2 2
+and not and eq v0 0 eq v0 1 eq v0 2
+not or eq v0 0 eq 1 1
+not or eq 1 1 eq v0 0
+not or eq v0 0 or eq v1 0 true
+not or eq v0 0 eq v1 0
+not or eq v0 0 eq 1 2
+not or eq 1 2 eq v0 0
+not or eq v0 div 1 0 true
+not or eq v0 0 and eq v0 0 eq v0 1
+not and or eq v0 0 true true
+not and or eq v0 0 true eq v0 1
+not and or eq v0 0 eq v1 0 and eq v0 1 eq v0 2
+not and eq 1 2 eq v0 v1
+not and eq v0 1 eq v1 v2
+imp eq v0 0 eq v1 1
+imp and eq v0 0 eq v0 1 eq v1 1
+imp or eq v0 0 true eq v0 1
+imp or true eq v0 0 eq v0 1
+imp or eq v0 0 eq 1 2 eq v0 1
+""", **declared)
+    # locals: bound inside, again in each round, and outside
+    formulas("""
+not ex l0 eq l0 0
+not ex l0 and eq l0 1 eq l0 2
+not ex l0 and eq l0 1 eq v0 l0
+not some l0 1 3 eq v0 l0
+not some l0 0 2 or eq v0 l0 eq l0 1
+not all l0 1 2 eq v0 l0
+not all l0 1 2 ex l1 eq l1 l0
+not and ex l0 eq l0 1 ex l1 eq l1 2
+not and ex l0 eq l0 1 ex l1 eq v0 2
+imp ex l0 eq l0 0 eq v0 1
+ex l0 not eq l0 0
+ex l0 and not and eq l0 1 eq l0 2 eq v0 3
+ex l0 not ex l1 and eq l1 1 eq l0 l1
+ex l0 not or eq l0 1 ex l1 eq l1 2
+ex l0 and imp and eq l0 1 eq l0 2 eq v0 1 eq l0 3
+some l0 1 2 and not eq l0 2 not eq v0 l0
+and ex l0 eq l0 1 not ex l1 eq l1 2
+""", **declared)
+    # elements
+    formulas("""
+not eq 2 a0 0
+not and eq a0 0 1 eq a0 0 2
+not and eq a0 0 1 eq a0 1 2
+not all l0 0 1 eq a0 l0 l0
+not and all l0 0 1 eq a0 l0 0 eq a0 0 1
+not or eq a0 1 0 true
+not and eq v0 1 eq a0 v0 v0
+not and eq v0 2 eq a0 v0 1
+and eq a0 0 1 not and eq a0 1 2 eq a0 1 a0 0
+imp and eq a0 0 1 eq a0 0 2 eq a0 1 3
+""", **declared)
+    # a `not` inside: what it gave is gone, and its own test is against the values at its place
+    formulas("""
+not not eq v0 0
+not not and eq v0 0 eq v0 1
+not and not and eq v0 0 eq v0 1 true
+not and not and eq v0 0 eq v0 1 eq v0 2
+not and not or eq v0 0 true true
+not and eq v0 0 not eq v0 0
+not and eq v0 0 not eq v0 1
+not and eq v0 0 not or eq v0 0 eq v1 1
+not and eq v0 0 not eq v1 1
+not and eq v0 0 not and eq v1 1 eq v1 2
+and eq v0 0 not and eq v1 1 not eq v1 1
+not ex l0 and eq l0 0 not eq l0 0
+not ex l0 and eq l0 0 not eq l0 1
+not ex l0 not and eq l0 0 eq l0 1
+not ex l3 not eq l3 0
+not or not eq v0 0 true
+imp not and eq v0 0 eq v0 1 eq v0 2
+""", **declared)
+    # an `imp` inside: what its right side gave counts, what its left side gave is gone
+    formulas("""
+not imp true eq v1 0
+not imp true and eq v1 0 eq v1 1
+not imp true ex l0 eq l0 0
+not imp and eq v0 0 eq v0 1 eq v1 0
+not imp eq v0 0 eq v1 0
+not imp or eq v0 0 true true
+not and imp true eq v1 0 eq v1 1
+not and eq v0 0 imp eq v0 0 eq v0 1
+imp imp true eq v0 0 eq v1 1
+imp imp true and eq v0 0 eq v0 1 eq v1 1
+imp and eq v0 0 imp eq v0 0 eq v1 1 eq v2 2
+""", **declared)
+    for n in (3, 30):
+        formulas("not " * n + "eq v0 0", **declared)
+        formulas("not " * n + "and eq v0 0 eq v0 1", **declared)
+        formulas("imp " * n + "eq v0 0" + " eq v1 1" * n, **declared)
+        formulas("imp " * n + "and eq v0 0 eq v0 1" + " eq v1 1" * n, **declared)
+
+
+def negations_cut():
+    """The same where the walk is ended inside such a tree, around it or after it, and where blocks are skipped."""
+    def under(formula, path, nodes):
+        """The case under each path limit up to `path`, which is enough, and each budget up to `nodes`."""
+        sheet = lines(scalars="2", locals="2", arrays="2", given="v1:7", formula=formula)
+        case(formula, sheet)
+        for limit in range(1, path + 1):
+            case("the same under path limit %d" % limit, sheet, path=limit)
+        for budget in range(nodes + 1):
+            case("the same under budget %d" % budget, sheet, budget=budget)
+        return sheet
+    under("and eq a0 1 5 or not ex l0 and eq l0 v1 not and eq v0 l0 eq v0 3 imp not or eq v0 1 some l1 6 7 eq l1 v1 eq v0 4", 12, 30)
+    three = under("or not and eq v0 0 eq v0 1 or not eq v0 2 not or eq a0 0 0 true", 7, 23)
+    for output, skip in ((13, 0), (14, 0), (39, 0), (40, 0), (25, 1), (26, 1), (0, 2)):
+        case("the same in %d bytes after a skip of %d" % (output, skip), three, output=output, skip=skip)
+    for skip in (0, 1, 2, 3, 4294967295):
+        case("error, answer and error after a skip of %d" % skip, lines(formula="or not eq v0 0 or eq v0 1 not eq v0 2"), skip=skip)
+
+
 # ---------------------------------------------------------------- damaged sheets
 
 def damaged():
@@ -585,7 +708,7 @@ def main():
     parser.add_argument("--random", action="store_true")
     parser.add_argument("--list", action="store_true")
     given = parser.parse_args()
-    for group in (marked, readings, slips, declared_limits, text_limits, lent_limits, kinds, words, inner_trees, damaged, taught):
+    for group in (marked, readings, slips, declared_limits, text_limits, lent_limits, kinds, words, inner_trees, negations, negations_cut, damaged, taught):
         group()
     for number, drawn_case in enumerate(drawn() if given.random else stored()):
         cases.append(("random %d" % (number + 1), drawn_case))

@@ -144,9 +144,9 @@ class Draft:
         return formula
 
     def inner(self, size):
-        """A formula for an inner tree: mostly one that assigns nothing but its own locals."""
+        """A formula for an inner tree: half of them assign nothing but their own locals."""
         before = set(self.outside)
-        if self.rng.random() < 0.9:
+        if self.rng.random() < 0.5:
             self.outside.update(self.names())
         formula = self.apart(size)
         self.outside = before

@@ -1,4 +1,5 @@
-"""The reference reading of document 01: the walker of bench/rust, which cargo builds when it is first asked.
+"""The reference reading of document 01 and of what landed of document 02: the walker of bench/rust, which cargo builds when it is first
+asked.
 
 A case is a sheet, a setting and the sizes of the lent memory; crates/cases/src/main.rt says how cases stand in a file.
 """
