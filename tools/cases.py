@@ -708,7 +708,8 @@ def main():
     parser.add_argument("--random", action="store_true")
     parser.add_argument("--list", action="store_true")
     given = parser.parse_args()
-    for group in (marked, readings, slips, declared_limits, text_limits, lent_limits, kinds, words, inner_trees, negations, negations_cut, damaged, taught):
+    for group in (marked, readings, slips, declared_limits, text_limits, lent_limits, kinds, words, inner_trees, negations, negations_cut,
+                  damaged, taught):
         group()
     for number, drawn_case in enumerate(drawn() if given.random else stored()):
         cases.append(("random %d" % (number + 1), drawn_case))
