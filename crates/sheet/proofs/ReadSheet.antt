@@ -15,10 +15,10 @@ use Rattle.specification.proofs.Laws.SheetLines.{sheet-by}
 use Rattle.specification.proofs.Laws.ReadSheet.{read-well-formed}
 use Rattle.tables.specs.Layout.{maxTokens, maxNesting, pathAt}
 use Rattle.sheet.specs.Tables.{tables}
-use Rattle.sheet.specs.Held.{FormulaAt, Holds, ArraysAt}
+use Rattle.sheet.specs.Held.{FormulaAt, Holds, Unmarked, ArraysAt}
 use Rattle.sheet.specs.Numbered.{formulaSize, Numbered}
 use Rattle.sheet.proofs.Numbered.{renumbered, formula-counts}
-use Rattle.sheet.proofs.Tables.{held, arrays-held, start-held}
+use Rattle.sheet.proofs.Tables.{held, arrays-held, start-held, start-unmarked}
 
 -- ---- readers that read no token
 
@@ -81,10 +81,11 @@ read-counts b s r e = of-found (sheet-counts (opened b) refl) e
 pub record Ready (s : Sheet) (n : ℕ) : Type 0 where
   pub formula : FormulaAt (tables s n) 0 (s .formula)
   pub values : Holds (tables s n) (start (s .given))
+  pub unmarked : Unmarked (tables s n) (start (s .given))
   pub arrays : ArraysAt (tables s n) (s .declared)
 
 pub read-ready : (b : Bytes) (s : Sheet) (r : Reader) (n : ℕ) → read b ≡ found s r → pathAt ≤ n → Ready s n
 read-ready b s r n e h =
     let c = read-counts b s r e in
     let ok = read-well-formed b s r e in
-    record { formula = held s n h (c .1) (c .0); values = start-held s n h (c .1) ok; arrays = arrays-held s n h (c .1) ok }
+    record { formula = held s n h (c .1) (c .0); values = start-held s n h (c .1) ok; unmarked = start-unmarked s n h (c .1) ok; arrays = arrays-held s n h (c .1) ok }

@@ -21,7 +21,7 @@ use Rattle.tables.specs.Layout.{maxTokens, maxCells, maxArrays, cellSlot, local
 use Rattle.sheet.specs.declared.Token.{Token}
 use Rattle.sheet.specs.Codes.{formulaTokens}
 use Rattle.sheet.specs.Tables.{Words, laidArrays, laidGiven, laidTokens, tablesOf, sheetTokens, tables}
-use Rattle.sheet.specs.Held.{FormulaAt, SlotAt, Holds, ArraysAt}
+use Rattle.sheet.specs.Held.{FormulaAt, SlotAt, Holds, Unmarked, ArraysAt}
 use Rattle.sheet.specs.Numbered.{Numbered}
 use Rattle.sheet.proofs.Laid.{tokens-other, ends-other, tokens-length, ends-length, Along, Entry, laid, skip}
 use Rattle.sheet.proofs.Held.{formula-at}
@@ -124,6 +124,12 @@ module _ (s : Sheet) (n : ℕ) (enough : pathAt ≤ n) (few : length (sheetToken
     rest-zero j l = above j (omega arith) ∙ zero-base j (λ c x. (omega arith, omega arith)) (λ m x. omega arith)
 
     -- ---- the start valuation
+
+    pub start-unmarked : Unmarked (tables s n) (start (s .given))
+    start-unmarked = record {
+      cells = λ c h e. rw (add-one, e) at (cells-held c h .1);
+      locals = λ l h e. locals-zero (suc (localSlot l)) (omega arith) (omega arith);
+    }
 
     pub start-held : Holds (tables s n) (start (s .given))
     start-held = record {

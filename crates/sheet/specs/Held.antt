@@ -101,6 +101,11 @@ pub record Holds (w : Words) (α : Valuation) : Type 0 where
   pub cells : (c : ℕ) → c < maxCells → SlotAt w (cellSlot c) (α (cell c))
   pub locals : (l : ℕ) → l < maxLocals → SlotAt w (localSlot l) (α (local l))
 
+-- the second word of a slot without a value is zero
+pub record Unmarked (w : Words) (α : Valuation) : Type 0 where
+  pub cells : (c : ℕ) → c < maxCells → α (cell c) ≡ empty → getD w (suc (cellSlot c)) 0 ≡ 0
+  pub locals : (l : ℕ) → l < maxLocals → α (local l) ≡ empty → getD w (suc (localSlot l)) 0 ≡ 0
+
 -- the words hold the arrays' first cells, and the end of the cells after them
 abbrev pub ArraysAt : Words → Declared → Type 0
 ArraysAt w D = (a : ℕ) → a ≤ maxArrays → getD w (firstSlot a) 0 ≡ firstOf D a
