@@ -5,7 +5,6 @@ use mathlib.Core.Path.{_≡_, refl, sym, _∙_, ap}
 use lib.ListN.{length}
 use lib.IntN.{pos, _+ℤ_}
 use Rattle.specification.specs.Bytes.{Bytes}
-use Rattle.specification.specs.Tree.{rounds}
 use Rattle.values.specs.Word.{signed}
 use Rattle.values.proofs.Laws.Word.{signed-add}
 use Rattle.sheet.specs.Tables.{Words}
@@ -13,6 +12,7 @@ use Rattle.tables.specs.Layout.{nodeEnd}
 use Rattle.tables.specs.Node.{headAt, currentAt, lastAt}
 use Rattle.walker.specs.declared.Regs.{Regs}
 use Rattle.walker.specs.Frame.{treeItems}
+use Rattle.walker.specs.Site.{roundsAt}
 use Rattle.walker.specs.Path.{World}
 use Rattle.walker.specs.Stands.{LeftAfter}
 use Rattle.walker.specs.Sim.{In}
@@ -37,7 +37,7 @@ module _ {w : Words} {r : Regs} (x : Visited w r) (j : r .due .job ≡ againJob)
     again-small = let q = left-is (x .ins) in (q .order, q .fits)
 
     pub again-none : current ≡ last → GoesOn w r
-    unfolding rounds
+    unfolding roundsAt
     again-none e = record {
       at = x;
       son = λ c o i.
@@ -47,7 +47,7 @@ module _ {w : Words} {r : Regs} (x : Visited w r) (j : r .due .job ≡ againJob)
     }
 
     pub again-rounds : {h : ℕ} → h ≡ headAt w (r .due .head - 1) → ¬ (current ≡ last) → Rounds w r h (current + 1) last
-    unfolding rounds treeItems
+    unfolding roundsAt treeItems
     again-rounds {h} eh n = record {
       at = x;
       code = (

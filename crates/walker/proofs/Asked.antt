@@ -1,34 +1,28 @@
--- The steps into `not` and `imp`: an error leaf where a variable is open, else an inner tree to judge. Assumes nothing.
+-- The steps into `not` and `imp`: an inner tree to judge. Assumes nothing.
 use Prim.Native.Nat.{suc, _+_, _≤_, _<_}
 use native.Mathlib.Omega.{arith}
 use native.Mathlib.Numerals.{add-one}
 use native.Mathlib.Nat.{eq-or-lt-of-le}
 use mathlib.Core.Path.{_≡_, refl, sym, _∙_}
-use mathlib.Core.Bool.{Bool, true, false}
 use mathlib.Core.Logic.{_⊎_, inl, inr}
 use mathlib.Core.List.{List, [], _∷_}
 use Rattle.specification.specs.Bytes.{Bytes}
-use Rattle.specification.specs.Ast.{Formula, and, imp, some, all}
-use Rattle.specification.specs.Closed.{closed}
-use Rattle.specification.specs.Tree.{enquire, grow}
-use Rattle.specification.specs.Arithmetic.{openVariable}
+use Rattle.specification.specs.Ast.{Formula}
+use Rattle.specification.specs.Tree.{enquire}
 use Rattle.tables.specs.Node.{Pushed}
 use Rattle.tables.specs.Codes.{impCode, notCode}
 use Rattle.tables.specs.Layout.{maxTokens}
 use Rattle.tables.proofs.Laws.Kept.{marked-kept}
 use Rattle.sheet.specs.Tables.{Words}
-use Rattle.sheet.specs.Held.{endAt}
-use Rattle.terms.specs.Openness.{Standing, AskedFormula, Judged}
 use Rattle.walker.specs.declared.Due.{Due}
 use Rattle.walker.specs.declared.Regs.{Regs}
-use Rattle.walker.specs.Frame as frames
-use Rattle.walker.specs.Frame.{Item, form, the, treeItems, innerIn, Question, denying, implying, sonOf}
+use Rattle.walker.specs.Frame.{Item, form, the, treeItems, siteIn, Question, denying, implying, sonOf}
+use Rattle.walker.specs.Site.{sonSite, innerSite, growAt}
 use Rattle.walker.specs.Path.{World, Pend, Asks}
 use Rattle.walker.specs.Stands.{Stands}
 use Rattle.walker.specs.Sim.{tree, In, Down}
-use Rattle.walker.specs.Steps.{Visited, Entered, OneLeaf}
-use Rattle.walker.specs.Registers.{formulaDue, errorDue, dueRegs}
-use Rattle.walker.proofs.Here.{formula-here}
+use Rattle.walker.specs.Steps.{Visited, Entered}
+use Rattle.walker.specs.Registers.{formulaDue, dueRegs}
 use Rattle.walker.proofs.Heads.{at-form, form-tree}
 use Rattle.walker.proofs.Pushes.{formula-job}
 use Rattle.walker.proofs.Onto.{askNode, down-asks}
@@ -46,12 +40,12 @@ pub record Questioned (c : World) (o : Bytes) (w : Words) (r : Regs) (i : In c o
   pub rest : Pend c w (r .depth) (r .due .rest) is
   pub grown :
       tree c (i .fr) (i .x) (i .α)
-      ≡ enquire (r .due .head) (closed (i .α) F) (λ β. treeItems (c .declared) true (form F ∷ []) β)
-      (λ v β. sonOf (c .declared) (innerIn (i .fr)) (r .due .head) question is v β) (i .α)
+      ≡ enquire (λ β. treeItems (c .declared) (form F ∷ []) (innerSite (siteIn (i .fr))) β)
+      (λ v β. sonOf (c .declared) (r .due .head) question is v (sonSite (siteIn (i .fr))) β) (i .α)
 
 module _ {w : Words} {r : Regs} where
   pub imp-asks : Entered w r impCode → (c : World) (o : Bytes) (i : In c o w r) → Questioned c o w r i
-  unfolding grow treeItems
+  unfolding growAt treeItems
   imp-asks x c o i =
       let a = at-form i (x .formula) (x .code) in
       let b = a .under in
@@ -67,7 +61,7 @@ module _ {w : Words} {r : Regs} where
       }
 
   pub not-asks : Entered w r notCode → (c : World) (o : Bytes) (i : In c o w r) → Questioned c o w r i
-  unfolding grow treeItems
+  unfolding growAt treeItems
   not-asks x c o i =
       let a = at-form i (x .formula) (x .code) in
       let b = a .under in
@@ -91,51 +85,16 @@ pub questions : {w : Words} {r : Regs} → Entered w r impCode ⊎ Entered w r n
 questions (inl x) = record { at = x .at; all = imp-asks x }
 questions (inr x) = record { at = x .at; all = not-asks x }
 
-module _ {w : Words} {r : Regs} (x : Questions w r) where
-  -- the formula that `is_closed` is asked about
-  standing : (c : World) (o : Bytes) (i : In c o w r) →
-      Standing w (r .due .head + 1) (endAt w (r .due .head + 1)) (c .declared) (i .α) (x .all c o i .F)
-  standing c o i =
-      let q = x .all c o i in
-      let g = q .first .good in
-      record {
-        formula = rw (add-one (r .due .head)) (formula-here (c .tables) w (i .path .tokens) (q .F) (suc (r .due .head)) (q .first .held));
-        end = refl;
-        holds = i .path .holds;
-        cells = i .path .cells;
-        scope = g .scope;
-        locals = g .locals;
-        ok = g .ok;
-        shallow = g .shallow;
-        size = omega (arith, i .path .size);
-      }
-
-  pub closed-asked : AskedFormula w (r .due .head + 1) (endAt w (r .due .head + 1))
-  closed-asked =
-      let v = x .at in
-      record { declared = v .c .declared; valuation = v .ins .α; formula = x .all (v .c) (v .o) (v .ins) .F; standing = standing (v .c) (v .o) (v .ins) }
-
-  module _ {b : Bool} (j : Judged w (r .due .head + 1) (endAt w (r .due .head + 1)) b) where
-    closed-is : (c : World) (o : Bytes) (i : In c o w r) → closed (i .α) (x .all c o i .F) ≡ b
-    closed-is c o i = sym (j (c .declared) (i .α) (x .all c o i .F) (standing c o i))
-
-    pub open-error : b ≡ false → OneLeaf w r (errorDue openVariable (r .due .head))
-    unfolding enquire
-    open-error e = record {
-      at = x .at;
-      son = λ c o i. (frames.error openVariable (r .due .head), x .all c o i .grown ∙ rw (closed-is c o i, e), (refl, refl, refl), omega arith);
-    }
-
-    pub asks-down : {w' : Words} {d : Due} → b ≡ true → Pushed w w' (r .depth) (askNode r) → d ≡ formulaDue w' (r .due .head + 1) 0 →
-        (c : World) (o : Bytes) → In c o w r → Down c o w' (dueRegs r (r .depth + 1) d 1 0)
-    unfolding enquire
-    asks-down {w'} e g k c o i =
-        let q = x .all c o i in
-        let near = q .near in
-        let m = marked-kept (g .linked .marked) in
-        down-asks i g (q .F) (q .question) (q .is) (q .grown ∙ rw (closed-is c o i, e)) (omega arith) (q .asks) (q .rest)
-        (rw (k, add-one (r .due .head))
-        (formula-job c w' (r .depth + 1) (suc (r .due .head)) 0 (q .F) [] (λ j h. m .tokens j h ∙ i .path .tokens j h) near (q .first) refl))
+pub asks-down : {w w' : Words} {r : Regs} {d : Due} (x : Questions w r) → Pushed w w' (r .depth) (askNode r) → d ≡ formulaDue w' (r .due .head + 1) 0 →
+    (c : World) (o : Bytes) → In c o w r → Down c o w' (dueRegs r (r .depth + 1) d (r .depth + 2) 0)
+unfolding enquire
+asks-down {w' = w'} {r = r} x g k c o i =
+    let q = x .all c o i in
+    let near = q .near in
+    let m = marked-kept (g .linked .marked) in
+    down-asks i g (q .F) (q .question) (q .is) (q .grown) (omega arith) (q .asks) (q .rest)
+    (rw (k, add-one (r .due .head))
+    (formula-job c w' (r .depth + 1) (suc (r .due .head)) 0 (q .F) [] (λ j h. m .tokens j h ∙ i .path .tokens j h) near (q .first) refl))
 
 -- by the job
 pub question-at : {w : Words} {r : Regs} → Visited w r → impCode ≤ r .due .job → r .due .job ≤ notCode → Questions w r

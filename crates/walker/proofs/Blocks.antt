@@ -112,7 +112,7 @@ module _ {c : World} {o : Bytes} {w : Words} {r : Regs} (l : Leaf c o w r) where
     e = l .e;
     b = b;
     path = l .path;
-    inner = l .inner ∙ rw (l .main) refl;
+    inner = l .inner;
     bad = l .bad;
     out = p;
     count = passed-count;
@@ -190,6 +190,7 @@ module _ {w : Words} {o : Bytes} {r : Regs} {t : Task} (a : BlockDue w o r t) wh
     sim = λ c f l. up refl (skips l (omega (arith, h, ap (λ (s : Setting). s .skip) (f .setting))));
     nodes = passed-nodes r;
     falls = omega arith;
+    modes = omega arith;
     size = refl;
   })
 
@@ -201,6 +202,7 @@ module _ {w : Words} {o : Bytes} {r : Regs} {t : Task} (a : BlockDue w o r t) wh
       sim = λ c f l. up refl (fills l (omega (arith, h, ap (λ (s : Setting). s .skip) (f .setting))) n (p (c .declared) (l .α) (shows l f)));
       nodes = passed-nodes r;
       falls = omega arith;
+      modes = omega arith;
       size =
           let l = a .leaf in
           let z = p (a .c .declared) (l .α) (shows l (a .fixed)) in
@@ -214,6 +216,7 @@ module _ {w : Words} {o : Bytes} {r : Regs} {t : Task} (a : BlockDue w o r t) wh
       sim = λ c f l. over refl (lacks l (omega (arith, h, ap (λ (s : Setting). s .skip) (f .setting))) (p (c .declared) (l .α) (shows l f)));
       nodes = refl;
       falls = omega arith;
+      modes = omega arith;
       size = rw (p (a .c .declared) (a .leaf .α) (shows (a .leaf) (a .fixed)) .1, put-same) refl;
     })
 

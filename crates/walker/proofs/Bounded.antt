@@ -6,7 +6,7 @@ use lib.IntN.{pos, _+ℤ_}
 use Rattle.specification.specs.Ast.{some, all}
 use Rattle.specification.specs.Place.{local, put}
 use Rattle.specification.specs.Value.{full}
-use Rattle.specification.specs.Tree.{sons, rounds, grow}
+use Rattle.specification.specs.Tree.{sons}
 use Rattle.tables.specs.Codes.{someCode, allCode}
 use Rattle.sheet.specs.Tables.{Words}
 use Rattle.terms.specs.declared.Sides.{Sides}
@@ -14,6 +14,7 @@ use Rattle.terms.specs.Results.{Valued, valueTag}
 use Rattle.walker.specs.declared.Regs.{Regs}
 use Rattle.walker.specs.Frame as frames
 use Rattle.walker.specs.Frame.{treeItems}
+use Rattle.walker.specs.Site.{boundSite, roundsAt, growAt}
 use Rattle.walker.specs.Stands.{bodyOf}
 use Rattle.walker.specs.Steps.{Entered, GoesOn, OneLeaf, Opens, Rounds}
 use Rattle.walker.specs.Registers.{dueOf}
@@ -25,12 +26,12 @@ use Rattle.walker.proofs.Ranged.{Quantifier, range-terms, range-errs, v
 -- ---- `some`
 
 unfoldable pub some-quantifier : Quantifier someCode
-unfolding grow
+unfolding growAt
 some-quantifier = record {
   make = some;
-  over = λ D m l F k x n β. sons x n (λ i. grow D m F k (put β (local l) (full (x +ℤ pos i))));
+  over = λ D l F k x n s β. sons x n (λ i. growAt D F k (boundSite l s) (put β (local l) (full (x +ℤ pos i))));
   says = λ D t h F q. q;
-  grows = λ D m tok l a b F k α. refl;
+  grows = λ D tok l a b F k s α. refl;
 }
 
 abbrev pub some-terms : {w : Words} {r : Regs} → Entered w r someCode → Terms w r (r .due .head + 2) (bodyOf w (r .due .head))
@@ -62,12 +63,12 @@ module _
 -- ---- `all`
 
 unfoldable pub all-quantifier : Quantifier allCode
-unfolding grow
+unfolding growAt
 all-quantifier = record {
   make = all;
-  over = λ D m l F k x n. rounds (λ k′ β. grow D m F k′ β) l k n x;
+  over = λ D l F k x n s. roundsAt (λ k′ t β. growAt D F k′ t β) l k n x s;
   says = λ D t h F q. q;
-  grows = λ D m tok l a b F k α. refl;
+  grows = λ D tok l a b F k s α. refl;
 }
 
 abbrev pub all-terms : {w : Words} {r : Regs} → Entered w r allCode → Terms w r (r .due .head + 2) (bodyOf w (r .due .head))
@@ -81,7 +82,7 @@ module _
     (h : s .rtag ≡ valueTag) where
   -- no value: go on
   pub all-none : s .right < s .left → GoesOn w' r
-  unfolding rounds all-quantifier
+  unfolding roundsAt all-quantifier
   all-none less = record {
     at = visited-spare w w' (v .kept) (v .size) (x .at);
     son = λ c o i.
@@ -90,7 +91,7 @@ module _
   }
 
   pub all-rounds : s .left ≤ s .right → Rounds w' r (r .due .head) (s .left) (s .right)
-  unfolding rounds treeItems all-quantifier
+  unfolding roundsAt treeItems all-quantifier
   all-rounds more = record {
     at = visited-spare w w' (v .kept) (v .size) (x .at);
     code = head-code (entered-spare w w' (v .kept) (v .size) x);

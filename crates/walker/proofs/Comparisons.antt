@@ -9,7 +9,7 @@ use Rattle.specification.specs.Bytes.{Bytes}
 use Rattle.specification.specs.Ast.{ne, lt, le, gt, ge}
 use Rattle.specification.specs.Arithmetic.{test}
 use Rattle.specification.specs.Value.{pairOf}
-use Rattle.specification.specs.Tree.{compared, grow}
+use Rattle.specification.specs.Tree.{compared}
 use Rattle.values.proofs.Laws.Word.{signed-eq, signed-lt, signed-le}
 use Rattle.tables.specs.Codes.{neCode, ltCode, leCode, gtCode, geCode}
 use Rattle.tables.proofs.Laws.Kept.{spare-kept}
@@ -18,6 +18,7 @@ use Rattle.sheet.specs.Held.{endAt}
 use Rattle.terms.specs.declared.Sides.{Sides}
 use Rattle.terms.specs.Results.{Valued, valueTag}
 use Rattle.walker.specs.declared.Regs.{Regs}
+use Rattle.walker.specs.Site.{growAt}
 use Rattle.walker.specs.Path.{World}
 use Rattle.walker.specs.Sim.{In}
 use Rattle.walker.specs.Steps.{Entered, Tested, Compares}
@@ -44,12 +45,12 @@ module _ {n : ℕ} {w : Words} {r : Regs} (x : Entered w r n) (low : neCode ≤ 
   }
 
   pub compare-errs : Errs w r (r .due .head + 1) (endAt w (r .due .head)) compare-terms
-  unfolding compare-terms grow compared
+  unfolding compare-terms growAt compared
   compare-errs c o i κ e = let a = at-form i (x .formula) (x .code) in form-tree i a ∙ rw (comparing c o i .2 .is, e)
 
   pub compare-tested : {w' : Words} {s : Sides} (v : Valued w w' (r .due .head + 1) (endAt w (r .due .head)) s) → s .ltag ≡ valueTag → s .rtag ≡ valueTag →
       (b : Bool) → Compares n (s .left) (s .right) b → Tested w' r b
-  unfolding compare-terms back in-spare grow compared pairOf
+  unfolding compare-terms back in-spare growAt compared pairOf
   compare-tested {w'} {s} v l h b k = record {
     at = visited-spare w w' (v .kept) (v .size) (x .at);
     son = λ c o i.

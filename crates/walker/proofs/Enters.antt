@@ -1,28 +1,39 @@
 -- What is visited, by the job. Assumes nothing.
 use Prim.Native.Nat.{ℕ, _≤_, _<_}
 use native.Mathlib.Omega.{arith}
-use mathlib.Core.Path.{_≡_, refl}
+use mathlib.Core.Path.{_≡_, refl, sym, _∙_}
 use mathlib.Core.List.{[], _∷_}
 use mathlib.Core.Logic.{_⊎_, inl, inr}
+use borrow.Author.Tests.{eq-eqb, ne-eqb}
+use Rattle.specification.specs.Arithmetic.{undecidedInside}
 use Rattle.tables.specs.Codes.{trueCode, andCode, orCode, eqCode, exCode, someCode, allCode, firstFormula, lastFormula, impCode, notCode, neCode, geCode}
 use Rattle.sheet.specs.Tables.{Words}
 use Rattle.walker.specs.declared.Regs.{Regs}
-use Rattle.walker.specs.Frame.{form, again, What, the, success, failure, error, treeItems}
+use Rattle.walker.specs.Frame.{form, again, What, the, success, failure, error, treeItems, siteIn}
 use Rattle.walker.specs.Path.{Job}
 use Rattle.walker.specs.Steps.{Visited, Entered, Stepped, OneLeaf}
 use Rattle.walker.specs.Loop.{AtLeaf, LeafDone}
-use Rattle.walker.specs.Registers.{dueOf}
-use Rattle.walker.specs.States.{emptyJob, againJob, successJob, errorJob}
+use Rattle.walker.specs.Registers.{dueOf, errorDue}
+use Rattle.walker.specs.States.{givenTree, emptyJob, againJob, successJob, errorJob}
 use Rattle.walker.proofs.Inverse.{code-range}
 use Rattle.walker.proofs.Heads.{at-empty}
 
--- the empty list: a success leaf
-pub empty-leaf : {w : Words} {r : Regs} → Visited w r → r .due .job ≡ emptyJob → OneLeaf w r (dueOf successJob 0 0)
-unfolding treeItems
-empty-leaf {w} {r} v j = record {
-  at = v;
-  son = λ c o i. (success, rw (at-empty i j) refl, refl, omega arith);
-}
+-- the empty list: a success leaf, or an error leaf where a place outside has got a value
+module _ {w : Words} {r : Regs} (v : Visited w r) (j : r .due .job ≡ emptyJob) where
+  pub empty-success : ¬ (r .inner ≡ givenTree) → OneLeaf w r (dueOf successJob 0 0)
+  unfolding treeItems
+  empty-success n = record {
+    at = v;
+    son = λ c o i. (success, rw (at-empty i j, ne-eqb (siteIn (i .fr) .inner) givenTree (λ z. n (i .inner ∙ z))) refl, refl, omega arith);
+  }
+
+  pub empty-given : r .inner ≡ givenTree → OneLeaf w r (errorDue undecidedInside 0)
+  unfolding treeItems
+  empty-given e = record {
+    at = v;
+    son = λ c o i.
+        (error undecidedInside 0, rw (at-empty i j, eq-eqb (siteIn (i .fr) .inner) givenTree (sym (i .inner) ∙ e)) refl, (refl, refl, refl), omega arith);
+  }
 
 -- the jobs: the empty list and the codes of formulas; above every code an `all` that goes on and the leaves
 pub jobs : {w : Words} {r : Regs} → Visited w r → ((r .due .job ≤ allCode) ⊎ (againJob ≤ r .due .job)) × (r .due .job ≤ errorJob)

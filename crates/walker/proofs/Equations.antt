@@ -3,17 +3,17 @@ use Prim.Native.Nat.{ℕ, _+_, _≤_, _<_}
 use native.Mathlib.Omega.{arith}
 use native.Mathlib.Numerals.{add-one}
 use mathlib.Core.Path.{_≡_, refl, sym, _∙_, ap}
-use mathlib.Core.Bool.{Bool}
 use mathlib.Core.List.{List}
 use lib.Dec.{T, eqb}
 use Rattle.specification.specs.Bytes.{Bytes}
 use Rattle.specification.specs.Lines.{Declared, cells}
 use Rattle.specification.specs.Ast.{Term}
 use Rattle.specification.specs.Arithmetic.{eqZ, noValue}
-use Rattle.specification.specs.Place.{Place, cell, local}
-use Rattle.specification.specs.Value.{Valuation, Side, val, bare, err, side}
+use Rattle.specification.specs.Place.{Place, cell, local, put}
+use Rattle.specification.specs.Value.{full, Valuation, Side, val, bare, err, side}
 use Rattle.specification.specs.WellFormed as scopes
-use Rattle.specification.specs.Tree.{errorLeaf, step, Rest, assign, equate, grow}
+use Rattle.specification.specs.Tree.{errorLeaf, step}
+use Rattle.specification.proofs.Laws.Allowed.{in32-allowed}
 use Rattle.specification.proofs.Laws.Scope as places
 use Rattle.specification.proofs.Laws.Value.{sane-val, sane-bare}
 use Rattle.values.proofs.Laws.Word.{signed-eq}
@@ -26,7 +26,8 @@ use Rattle.terms.specs.declared.Sides.{Sides}
 use Rattle.terms.specs.Results.{tagOf, wordOf, Valued, valueTag, bareTag, errorTag}
 use Rattle.walker.specs.declared.Regs.{Regs}
 use Rattle.walker.specs.Frame as frames
-use Rattle.walker.specs.Frame.{Item, treeItems, innerIn}
+use Rattle.walker.specs.Frame.{Item, treeItems, siteIn}
+use Rattle.walker.specs.Site.{Site, givenSite, RestAt, equateAt, growAt}
 use Rattle.walker.specs.Path.{World, Pend, InTable}
 use Rattle.walker.specs.Sim.{tree, In}
 use Rattle.walker.specs.Steps.{Visited, Entered, OneLeaf, Assigns, Tested}
@@ -64,8 +65,8 @@ module _ {w : Words} {r : Regs} (x : Entered w r eqCode) where
     -- the tree by the two sides
     equated : (c : World) (o : Bytes) (i : In c o w' r) →
         tree c (i .fr) (i .x) (i .α) ≡
-        step (equate (c .declared) (innerIn (i .fr)) (r .due .head) (lefts c o i) (rights c o i) (λ β. treeItems (c .declared) (innerIn (i .fr)) (items c o i) β) (i .α))
-    unfolding eq-terms back in-spare grow
+        step (equateAt (r .due .head) (lefts c o i) (rights c o i) (λ t β. treeItems (c .declared) (items c o i) t β) (siteIn (i .fr)) (i .α))
+    unfolding eq-terms back in-spare growAt
     equated c o i =
         let j = back eq-terms v i in
         let a = at-form j (x .formula) (x .code) in
@@ -81,15 +82,15 @@ module _ {w : Words} {r : Regs} (x : Entered w r eqCode) where
 
     -- an error leaf by the two sides
     leaf-by : (k : ℕ) →
-        ((D : Declared) (m : Bool) (tok : ℕ) (p q : Side) (rest : Rest) (α : Valuation) →
-        s .ltag ≡ tagOf p → s .left ≡ wordOf p → s .rtag ≡ tagOf q → s .right ≡ wordOf q → equate D m tok p q rest α ≡ errorLeaf k tok α) →
+        ((tok : ℕ) (p q : Side) (rest : RestAt) (u : Site) (α : Valuation) →
+        s .ltag ≡ tagOf p → s .left ≡ wordOf p → s .rtag ≡ tagOf q → s .right ≡ wordOf q → equateAt tok p q rest u α ≡ errorLeaf k tok α) →
         OneLeaf w' r (errorDue k (r .due .head))
     leaf-by k f = record {
       at = visited;
       son = λ c o i. (
         frames.error k (r .due .head),
         equated c o i ∙
-            ap step (f (c .declared) (innerIn (i .fr)) (r .due .head) (lefts c o i) (rights c o i) (λ β. treeItems (c .declared) (innerIn (i .fr)) (items c o i) β) (i .α)
+            ap step (f (r .due .head) (lefts c o i) (rights c o i) (λ t β. treeItems (c .declared) (items c o i) t β) (siteIn (i .fr)) (i .α)
             (ltag-is eq-terms v c o i) (left-is eq-terms v c o i) (rtag-is eq-terms v c o i) (right-is eq-terms v c o i)),
         (refl, refl, refl),
         omega arith,
@@ -97,38 +98,38 @@ module _ {w : Words} {r : Regs} (x : Entered w r eqCode) where
     }
 
     pub eq-left-error : s .ltag ≡ errorTag → OneLeaf w' r (errorDue (s .left) (r .due .head))
-    unfolding equate
+    unfolding equateAt
     eq-left-error e = leaf-by (s .left) go
       where
-        go : (D : Declared) (m : Bool) (tok : ℕ) (p q : Side) (rest : Rest) (α : Valuation) →
-            s .ltag ≡ tagOf p → s .left ≡ wordOf p → s .rtag ≡ tagOf q → s .right ≡ wordOf q → equate D m tok p q rest α ≡ errorLeaf (s .left) tok α
-        go D m tok (val z) q rest α a b c d = absurd (omega arith)
-        go D m tok (bare z) q rest α a b c d = absurd (omega arith)
-        go D m tok (err κ) q rest α a b c d = ap (λ k. errorLeaf k tok α) (sym b)
+        go : (tok : ℕ) (p q : Side) (rest : RestAt) (u : Site) (α : Valuation) →
+            s .ltag ≡ tagOf p → s .left ≡ wordOf p → s .rtag ≡ tagOf q → s .right ≡ wordOf q → equateAt tok p q rest u α ≡ errorLeaf (s .left) tok α
+        go tok (val z) q rest u α a b c d = absurd (omega arith)
+        go tok (bare z) q rest u α a b c d = absurd (omega arith)
+        go tok (err κ) q rest u α a b c d = ap (λ k. errorLeaf k tok α) (sym b)
 
     pub eq-right-error : ¬ (s .ltag ≡ errorTag) → s .rtag ≡ errorTag → OneLeaf w' r (errorDue (s .right) (r .due .head))
-    unfolding equate
+    unfolding equateAt
     eq-right-error n e = leaf-by (s .right) go
       where
-        go : (D : Declared) (m : Bool) (tok : ℕ) (p q : Side) (rest : Rest) (α : Valuation) →
-            s .ltag ≡ tagOf p → s .left ≡ wordOf p → s .rtag ≡ tagOf q → s .right ≡ wordOf q → equate D m tok p q rest α ≡ errorLeaf (s .right) tok α
-        go D m tok p (val z) rest α a b c d = absurd (omega arith)
-        go D m tok p (bare z) rest α a b c d = absurd (omega arith)
-        go D m tok (val y) (err κ) rest α a b c d = ap (λ k. errorLeaf k tok α) (sym d)
-        go D m tok (bare y) (err κ) rest α a b c d = ap (λ k. errorLeaf k tok α) (sym d)
-        go D m tok (err y) (err κ) rest α a b c d = absurd (n a)
+        go : (tok : ℕ) (p q : Side) (rest : RestAt) (u : Site) (α : Valuation) →
+            s .ltag ≡ tagOf p → s .left ≡ wordOf p → s .rtag ≡ tagOf q → s .right ≡ wordOf q → equateAt tok p q rest u α ≡ errorLeaf (s .right) tok α
+        go tok p (val z) rest u α a b c d = absurd (omega arith)
+        go tok p (bare z) rest u α a b c d = absurd (omega arith)
+        go tok (val y) (err κ) rest u α a b c d = ap (λ k. errorLeaf k tok α) (sym d)
+        go tok (bare y) (err κ) rest u α a b c d = ap (λ k. errorLeaf k tok α) (sym d)
+        go tok (err y) (err κ) rest u α a b c d = absurd (n a)
 
     pub eq-both-bare : s .ltag ≡ bareTag → s .rtag ≡ bareTag → OneLeaf w' r (errorDue noValue (r .due .head))
-    unfolding equate
+    unfolding equateAt
     eq-both-bare e f = leaf-by 1 go
       where
-        go : (D : Declared) (m : Bool) (tok : ℕ) (p q : Side) (rest : Rest) (α : Valuation) →
-            s .ltag ≡ tagOf p → s .left ≡ wordOf p → s .rtag ≡ tagOf q → s .right ≡ wordOf q → equate D m tok p q rest α ≡ errorLeaf noValue tok α
-        go D m tok (val y) q rest α a b c d = absurd (omega arith)
-        go D m tok (err y) q rest α a b c d = absurd (omega arith)
-        go D m tok (bare y) (val z) rest α a b c d = absurd (omega arith)
-        go D m tok (bare y) (err z) rest α a b c d = absurd (omega arith)
-        go D m tok (bare y) (bare z) rest α a b c d = refl
+        go : (tok : ℕ) (p q : Side) (rest : RestAt) (u : Site) (α : Valuation) →
+            s .ltag ≡ tagOf p → s .left ≡ wordOf p → s .rtag ≡ tagOf q → s .right ≡ wordOf q → equateAt tok p q rest u α ≡ errorLeaf noValue tok α
+        go tok (val y) q rest u α a b c d = absurd (omega arith)
+        go tok (err y) q rest u α a b c d = absurd (omega arith)
+        go tok (bare y) (val z) rest u α a b c d = absurd (omega arith)
+        go tok (bare y) (err z) rest u α a b c d = absurd (omega arith)
+        go tok (bare y) (bare z) rest u α a b c d = refl
 
     -- one side bare, the other with a value
     abbrev Crossed : (c : World) (o : Bytes) (i : In c o w' r) → ℕ → ℕ → Type 0
@@ -137,50 +138,49 @@ module _ {w : Words} {r : Regs} (x : Entered w r eqCode) where
         × (one : Term) × scopes.OkTerm (c .declared) S one
         × (other : Term) × scopes.OkTerm (c .declared) S other
         × (p : Bare (side (c .declared) (i .α) one) slot) × (q : Has (side (c .declared) (i .α) other) value)
-        × ((rest : Rest) →
-        equate (c .declared) (innerIn (i .fr)) (r .due .head) (lefts c o i) (rights c o i) rest (i .α) ≡
-        assign (c .declared) (innerIn (i .fr)) (r .due .head) (p .place) (q .z) rest (i .α))
+        × ((rest : RestAt) (u : Site) →
+        equateAt (r .due .head) (lefts c o i) (rights c o i) rest u (i .α) ≡ rest (givenSite (p .place) u) (put (i .α) (p .place) (full (q .z))))
 
     assigns : (slot value : ℕ) → ((c : World) (o : Bytes) (i : In c o w' r) → Crossed c o i slot value) → Assigns w' r slot value
     assigns slot value f = record {
       at = visited;
       son = λ c o i.
           let (S, small, one, one-ok, other, other-ok, p, q, assigned) = f c o i in
-          let b = sane-bare (c .declared) S (i .α) (i .path .valid) one one-ok (p .place) (p .is) in (
+          let b = sane-bare (c .declared) S (i .α) one one-ok (p .place) (p .is) in (
             items c o i,
             p .place,
             q .z,
-            equated c o i ∙ ap step (assigned (λ β. treeItems (c .declared) (innerIn (i .fr)) (items c o i) β)),
+            equated c o i ∙ ap step (assigned (λ t β. treeItems (c .declared) (items c o i) t β) (siteIn (i .fr))),
             rests c o i,
             p .word,
             q .word,
             in-table (c .declared) S (i .path .cells) small (p .place) (b .0),
             b .1,
-            sane-val (c .declared) S (i .α) (i .path .valid) other other-ok (q .z) (q .is),
+            in32-allowed (c .declared) (p .place) (q .z) (sane-val (c .declared) S (i .α) (i .path .valid) other other-ok (q .z) (q .is)),
           );
     }
 
     pub eq-assign-left : s .ltag ≡ bareTag → s .rtag ≡ valueTag → Assigns w' r (s .left) (s .right)
-    unfolding equate
+    unfolding equateAt
     eq-assign-left e f =
         assigns (s .left) (s .right) (λ c o i.
         let (one, other, t) = eq-terms .both c o (back eq-terms v i) in
         let p = left-place eq-terms v e c o i in
         let q = right-value eq-terms v f c o i in
-        (t .scope, t .locals, one, t .left, other, t .right, p, q, λ rest. rw (p .is, q .is)))
+        (t .scope, t .locals, one, t .left, other, t .right, p, q, λ rest u. rw (p .is, q .is)))
 
     pub eq-assign-right : s .ltag ≡ valueTag → s .rtag ≡ bareTag → Assigns w' r (s .right) (s .left)
-    unfolding equate
+    unfolding equateAt
     eq-assign-right e f =
         assigns (s .right) (s .left) (λ c o i.
         let (other, one, t) = eq-terms .both c o (back eq-terms v i) in
         let p = right-place eq-terms v f c o i in
         let q = left-value eq-terms v e c o i in
-        (t .scope, t .locals, one, t .right, other, t .left, p, q, λ rest. rw (p .is, q .is)))
+        (t .scope, t .locals, one, t .right, other, t .left, p, q, λ rest u. rw (p .is, q .is)))
 
     -- two values
     pub eq-tested : s .ltag ≡ valueTag → s .rtag ≡ valueTag → Tested w' r (eqb (s .left) (s .right))
-    unfolding equate
+    unfolding equateAt
     eq-tested e f = record {
       at = visited;
       son = λ c o i.

@@ -9,7 +9,6 @@ use lib.ListN.{length, getD}
 use lib.IntN.{ℤ}
 use Rattle.specification.specs.Bytes.{Bytes}
 use Rattle.specification.specs.Ast.{Formula}
-use Rattle.specification.specs.Tree.{grow, rounds}
 use Rattle.tables.specs.Layout.{nodeEnd, duesAt, duesEnd, maxTokens, maxPath}
 use Rattle.tables.specs.Node.{headAt, currentAt, lastAt}
 use Rattle.tables.specs.Codes.{allCode, firstFormula, lastFormula}
@@ -17,7 +16,8 @@ use Rattle.tables.proofs.Laws.Kept.{spare-kept, spare-slots}
 use Rattle.sheet.specs.Tables.{Words}
 use Rattle.sheet.specs.Held.{codeAt}
 use Rattle.walker.specs.declared.Regs.{Regs}
-use Rattle.walker.specs.Frame.{Item, form, again, What, the, success, failure, error, treeItems, innerIn}
+use Rattle.walker.specs.Frame.{Item, form, again, What, the, success, failure, error, treeItems, siteIn}
+use Rattle.walker.specs.Site.{roundsAt, growAt}
 use Rattle.walker.specs.Path.{World, Pend, Job}
 use Rattle.walker.specs.Stands.{Stands, Binds, LeftAfter}
 use Rattle.walker.specs.Sim.{tree, In}
@@ -27,7 +27,7 @@ use Rattle.walker.proofs.Here.{code-here}
 use Rattle.walker.proofs.Under.{Says}
 use Rattle.walker.proofs.Inverse.{says, code-range}
 use Rattle.walker.proofs.Keep.{job-keep}
-use Rattle.walker.proofs.Slots.{holds-keep}
+use Rattle.walker.proofs.Slots.{holds-keep, marks-keep}
 use Rattle.walker.proofs.Whole.{path-kept}
 
 -- ---- a formula
@@ -116,13 +116,13 @@ module _ {c : World} {o : Bytes} {w : Words} {r : Regs} (i : In c o w r) where
 
   -- the tree there
   pub form-tree : {n : ℕ} (a : AtForm c w r n (i .x)) →
-      tree c (i .fr) (i .x) (i .α) ≡ grow (c .declared) (innerIn (i .fr)) (a .F) (λ β. treeItems (c .declared) (innerIn (i .fr)) (a .is) β) (i .α)
+      tree c (i .fr) (i .x) (i .α) ≡ growAt (c .declared) (a .F) (λ t β. treeItems (c .declared) (a .is) t β) (siteIn (i .fr)) (i .α)
   unfolding treeItems
   form-tree a = rw (a .due)
 
   pub again-tree : (a : AtAgain c w r (i .x)) →
       tree c (i .fr) (i .x) (i .α) ≡
-      rounds (λ k β. grow (c .declared) (innerIn (i .fr)) (a .F) k β) (a .l) (λ β. treeItems (c .declared) (innerIn (i .fr)) (a .is) β) (a .m) (a .v) (i .α)
+      roundsAt (λ k t β. growAt (c .declared) (a .F) k t β) (a .l) (λ t β. treeItems (c .declared) (a .is) t β) (a .m) (a .v) (siteIn (i .fr)) (i .α)
   unfolding treeItems
   again-tree a = rw (a .due)
 
@@ -153,7 +153,7 @@ module _ (w w' : Words) (u : (k : ℕ) → (k < duesAt) ⊎ (duesEnd ≤ k) → 
         α = i .α;
         e = i .e;
         b = i .b;
-        path = path-kept (i .path) k (holds-keep (spare-slots w w' u) (i .path .holds));
+        path = path-kept (i .path) k (holds-keep (spare-slots w w' u) (i .path .holds)) (marks-keep (spare-slots w w' u) (i .path .marks));
         inner = i .inner;
         bad = i .bad;
         job = job-keep c w w' (r .depth) (r .due) (i .x) (k .nodes) (i .job);

@@ -142,7 +142,7 @@ module _ {D : Declared} {t : Words} {h : ℕ} where
         is = refl;
         local = s .held .1;
         small = g .shallow .0;
-        under = record { held = s .held .2; good = in-scope g l A (g .shallow .0) (g .ok .1) (g .shallow .1) };
+        under = record { held = s .held .2; good = in-scope g l A (g .shallow .0) (g .ok .2) (g .shallow .1) };
         near = omega (arith, z .after, z .inside);
       })
   code-says (some n l a b A) s =
@@ -150,13 +150,13 @@ module _ {D : Declared} {t : Words} {h : ℕ} where
       rw (s .held .0 .code)
       (ranges (some h) l a b A (some n l a b A) (ap (λ k. some k l a b A) (s .held .1)) (s .held .2) (g .shallow .2)
       (terms-in g (suc (suc h)) (bodyOf t h) a b (s .held .3) (g .ok .0) (g .ok .1) (g .shallow .0) (g .shallow .1))
-      (record { held = s .held .4; good = in-scope g l A (g .shallow .2) (g .ok .3) (g .shallow .3) }))
+      (record { held = s .held .4; good = in-scope g l A (g .shallow .2) (g .ok .4) (g .shallow .3) }))
   code-says (all n l a b A) s =
       let g = s .good in
       rw (s .held .0 .code)
       (ranges (all h) l a b A (all n l a b A) (ap (λ k. all k l a b A) (s .held .1)) (s .held .2) (g .shallow .2)
       (terms-in g (suc (suc h)) (bodyOf t h) a b (s .held .3) (g .ok .0) (g .ok .1) (g .shallow .0) (g .shallow .1))
-      (record { held = s .held .4; good = in-scope g l A (g .shallow .2) (g .ok .3) (g .shallow .3) }))
+      (record { held = s .held .4; good = in-scope g l A (g .shallow .2) (g .ok .4) (g .shallow .3) }))
 
   -- the law for a code that is known
   pub says : {F : Formula} {n : ℕ} → Stands D t h F → codeAt t h ≡ n → Says D t h n F

@@ -18,9 +18,10 @@ use Rattle.sheet.specs.Tables.{Words}
 use Rattle.sheet.specs.Held.{codeAt, endAt}
 use Rattle.walker.specs.declared.Regs.{Regs}
 use Rattle.walker.specs.declared.Due.{Due}
-use Rattle.walker.specs.Frame.{Item, form, What, the, failure, error, treeItems, Question, denying, implying, Frame, pass, asks, innerIn, sonOf}
+use Rattle.walker.specs.Frame.{Item, form, What, the, failure, error, treeItems, Question, denying, implying, Frame, pass, asks, siteIn, sonOf}
+use Rattle.walker.specs.Site.{Site, sonSite}
 use Rattle.walker.specs.Path.{World, Pend, Job, bit, Path, Output, Count}
-use Rattle.walker.specs.Sim.{yes, no, tree, Down, Up, Yes}
+use Rattle.walker.specs.Sim.{yes, no, son, Down, Up, Yes}
 use Rattle.walker.specs.Steps.{Leads, Listed}
 use Rattle.walker.specs.Registers.{dueOf, formulaDue, errorDue, dueRegs}
 use Rattle.walker.specs.Loop.{Topped}
@@ -43,12 +44,12 @@ pub judging : {w w' : Words} {r : Regs} {h p inner bad : ℕ} → Topped w r jud
     inner ≡ innerAt w (r .depth - 1) → bad ≡ badAt w (r .depth - 1) → w' ≡ set w (todoWord (r .depth - 1)) 0 → Judges w w' r h p inner bad
 judging t eh ep ei eb ew = record { some = t .some; todo = t .todo; head = eh; rest = ep; inside = ei; flag = eb; words = ew }
 
-module _ (D : Declared) (m : Bool) (tok : ℕ) (is : List Item) (α : Valuation) where
-  son-undecided : (q : Question) → sonOf D m tok q is undecided α ≡ errorLeaf undecidedInside tok α
+module _ (D : Declared) (tok : ℕ) (is : List Item) (u : Site) (α : Valuation) where
+  son-undecided : (q : Question) → sonOf D tok q is undecided u α ≡ errorLeaf undecidedInside tok α
   son-undecided denying = refl
   son-undecided (implying G) = refl
 
-  son-fails : (q : Question) → sonOf D m tok q is fails α ≡ treeItems D m is α
+  son-fails : (q : Question) → sonOf D tok q is fails u α ≡ treeItems D is u α
   son-fails denying = refl
   son-fails (implying G) = refl
 
@@ -72,16 +73,16 @@ module _ {w w' : Words} {r : Regs} {h p inner bad : ℕ} (g : Judges w w' r h p 
     token-is = g .head ∙ ap (headAt w) (top-index P) ∙ P .stack .0 .1
 
     code-is : codeAt w' h ≡ codeAt (c .tables) tok
-    code-is = rw token-is (code-here (c .tables) w' (turned P (g .words) refl .tokens) (P .stack .0 .2))
+    code-is = rw token-is (code-here (c .tables) w' (turned P (g .words) refl refl .tokens) (P .stack .0 .2))
 
     list-is : Pend c w' (r .depth) p is
     list-is = rest-under P (turned-kept P (g .words)) is (g .rest) (P .stack .0 .6)
 
     judged : {o : Bytes} (b : Bytes) (x : What) {d : Due} → Job c w' (r .depth) d x → Output c o (r .written) b → Count c (r .tallies) →
-        Gives c r (pass β) fr e b (tree c fr x β) → Down c o w' (dueRegs r (r .depth) d inner bad)
+        Gives c r (pass β) fr e b (son c fr x β) → Down c o w' (dueRegs r (r .depth) d inner bad)
     judged b x j out n z =
         let i = top-index P in
-        son-due r e b x (turned P (g .words) refl) (g .inside ∙ ap (innerAt w) i ∙ P .stack .0 .4) (g .flag ∙ ap (badAt w) i ∙ P .stack .0 .5) j out n z
+        son-due r e b x (turned P (g .words) refl refl) (g .inside ∙ ap (innerAt w) i ∙ P .stack .0 .4) (g .flag ∙ ap (badAt w) i ∙ P .stack .0 .5) j out n z
 
   -- the rest of the node's list can be read
   pub judge-leads : Topped w r judgeTodo → Leads w' p
@@ -93,7 +94,7 @@ module _ {w w' : Words} {r : Regs} {h p inner bad : ℕ} (g : Judges w w' r h p 
         c = t .c;
         n = r .depth;
         is = is;
-        tokens = turned P (g .words) refl .tokens;
+        tokens = turned P (g .words) refl refl .tokens;
         size = omega (arith, k .size, P .size, P .inside);
         pend = list-is P;
       }) (t .fr) (t .path)
@@ -104,7 +105,7 @@ module _ {w w' : Words} {r : Regs} {h p inner bad : ℕ} (g : Judges w w' r h p 
     judge-bad one u =
         top-asks (λ fr. no c fr true (r .tallies) (u .b) ≡ c .result → Down c o w' (dueRegs r (r .depth) (errorDue undecidedInside h) inner bad)) (g .some) (g .todo)
         (λ tok q is β e fr P z.
-        judged P (u .b) (error undecidedInside tok) (refl, refl, token-is P) (u .out) (u .count) (rw (son-undecided (c .declared) (innerIn fr) tok is β q) at z))
+        judged P (u .b) (error undecidedInside tok) (refl, refl, token-is P) (u .out) (u .count) (rw (son-undecided (c .declared) tok is (sonSite (siteIn fr)) β q) at z))
         (u .fr) (u .path) (rw (flag-on (u .e) (sym (u .bad) ∙ one)) at (u .result))
 
     -- it has had failure leaves only
@@ -112,8 +113,8 @@ module _ {w w' : Words} {r : Regs} {h p inner bad : ℕ} (g : Judges w w' r h p 
     judge-on {d} none f u =
         top-asks (λ fr. no c fr false (r .tallies) (u .b) ≡ c .result → Down c o w' (dueRegs r (r .depth) d inner bad)) (g .some) (g .todo)
         (λ tok q is β e fr P z.
-        judged P (u .b) (the is) (f c (r .depth) is (turned P (g .words) refl .tokens) (list-is P)) (u .out) (u .count)
-        (rw (son-fails (c .declared) (innerIn fr) tok is β q) at z))
+        judged P (u .b) (the is) (f c (r .depth) is (turned P (g .words) refl refl .tokens) (list-is P)) (u .out) (u .count)
+        (rw (son-fails (c .declared) tok is (sonSite (siteIn fr)) β q) at z))
         (u .fr) (u .path) (rw (flag-off (u .e) (λ y. none (u .bad ∙ y))) at (u .result))
 
     -- it has had a success leaf, and the node is one of `not`
@@ -138,7 +139,7 @@ module _ {w w' : Words} {r : Regs} {h p inner bad : ℕ} (g : Judges w w' r h p 
         go denying is P z = absurd (omega (arith, code, code-is P, P .stack .0 .3))
         go {tok} (implying G) is P z =
             let a = P .stack .0 .3 in
-            let s = turned P (g .words) refl .tokens in
+            let s = turned P (g .words) refl refl .tokens in
             let at : n ≡ endAt (c .tables) (suc tok) = en ∙ rw (add-one, token-is P) (end-here (c .tables) w' s (a .1)) in
             judged P (u .b) (the (form G ∷ is)) (code-here (c .tables) w' s (rw at (a .2)), rw at (a .2), rw at (a .3), list-is P) (u .out) (u .count) z
 
@@ -151,5 +152,5 @@ module _ {w w' : Words} {r : Regs} {h p inner bad : ℕ} (g : Judges w w' r h p 
       go denying is P = absurd (omega (arith, code, code-is P, P .stack .0 .3))
       go {tok} (implying G) is P =
           let a = P .stack .0 .3 in
-          let s = turned P (g .words) refl .tokens in
+          let s = turned P (g .words) refl refl .tokens in
           rw (en, token-is P, add-one tok, end-here (t .c .tables) w' s (a .1)) (a .2)

@@ -2,7 +2,6 @@
 use Prim.Native.Nat.{ℕ, suc, _≤_, _<_}
 use native.Mathlib.Omega.{arith}
 use mathlib.Core.Path.{_≡_, _∙_}
-use mathlib.Core.Bool.{Bool}
 use mathlib.Core.List.{List, [], _∷_}
 use lib.ListN.{getD}
 use Rattle.specification.specs.Place.{Place}
@@ -13,7 +12,8 @@ use Rattle.tables.proofs.Laws.Kept.{fewer-nodes}
 use Rattle.tables.specs.Node.{headAt, restAt, restWord, todoWord, slotWord, hadWord, oldWord, currentWord, lastWord, innerWord, badWord}
 use Rattle.sheet.specs.Tables.{Words}
 use Rattle.walker.specs.declared.Due.{Due}
-use Rattle.walker.specs.Frame.{Item, form, again, What, the, success, failure, error, Frame, pass, other, undo, range, asks, len, innerIn}
+use Rattle.walker.specs.Frame.{Item, form, again, What, the, success, failure, error, Frame, pass, other, bound, given, range, asks, len, siteIn}
+use Rattle.walker.specs.Site.{Site}
 use Rattle.walker.specs.Path.{World, Pend, Job, Changed, FrameAt, Stack}
 
 -- the words of a node that is kept
@@ -25,11 +25,13 @@ module _ {w w' : Words} (i : ℕ) (u : SameNodes (suc i) w w') where
   same-head = u .same (nodeSlot i) (omega arith) (omega arith)
 
   -- what a node keeps of a slot
-  pub changed-keep : {p : Place} {α : Valuation} → Changed w i p α → Changed w' i p α
+  pub changed-keep : {p : Place} {v : Site} {α : Valuation} → Changed w i p v α → Changed w' i p v α
   changed-keep q = record {
     slot = same-word (slotWord i) (omega arith) (omega arith) ∙ q .slot;
     inside = q .inside;
     saved = rw (same-word (hadWord i) (omega arith) (omega arith), same-word (oldWord i) (omega arith) (omega arith)) (q .saved);
+    mark = λ e. same-word (oldWord i) (omega arith) (omega arith) ∙ q .mark e;
+    inner = same-word (innerWord i) (omega arith) (omega arith) ∙ q .inner;
   }
 
 module _ (c : World) (w : Words) where
@@ -95,9 +97,9 @@ module _ (c : World) (w w' : Words) where
   job-keep n d failure u q = q
   job-keep n d (error κ tok) u q = q
 
-  pub frame-keep : (i : ℕ) (m : Bool) (f : Frame) → SameNodes (suc i) w w' → FrameAt c w i m f → FrameAt c w' i m f
-  frame-keep i m (pass α) u q = same-word i u (todoWord i) (omega arith) (omega arith) ∙ q
-  frame-keep i m (other G is α) u q =
+  pub frame-keep : (i : ℕ) (v : Site) (f : Frame) → SameNodes (suc i) w w' → FrameAt c w i v f → FrameAt c w' i v f
+  frame-keep i v (pass α) u q = same-word i u (todoWord i) (omega arith) (omega arith) ∙ q
+  frame-keep i v (other G is α) u q =
       let head = same-head i u in (
         same-word i u (todoWord i) (omega arith) (omega arith) ∙ q .0,
         rw head (q .1),
@@ -105,8 +107,9 @@ module _ (c : World) (w w' : Words) where
         rw head (q .3),
         rw (same-word i u (restWord i) (omega arith) (omega arith)) (pend-keep i (restAt w i) is (fewer-nodes (omega arith) u) (q .4)),
       )
-  frame-keep i m (undo p s α) u q = (same-word i u (todoWord i) (omega arith) (omega arith) ∙ q .0, changed-keep i u (q .1))
-  frame-keep i m (range l x j n F is α) u q =
+  frame-keep i v (bound l s α) u q = (same-word i u (todoWord i) (omega arith) (omega arith) ∙ q .0, changed-keep i u (q .1))
+  frame-keep i v (given p z α) u q = (same-word i u (todoWord i) (omega arith) (omega arith) ∙ q .0, changed-keep i u (q .1))
+  frame-keep i v (range l x j n F is α) u q =
       let now = same-word i u (currentWord i) (omega arith) (omega arith) in (
         same-word i u (todoWord i) (omega arith) (omega arith) ∙ q .0,
         changed-keep i u (q .1),
@@ -115,7 +118,7 @@ module _ (c : World) (w w' : Words) where
         rw now (q .4),
         rw (same-word i u (restWord i) (omega arith) (omega arith)) (pend-keep i (restAt w i) is (fewer-nodes (omega arith) u) (q .5)),
       )
-  frame-keep i m (asks tok q is α e) u h = (
+  frame-keep i v (asks tok q is α e) u h = (
     same-word i u (todoWord i) (omega arith) (omega arith) ∙ h .0,
     same-head i u ∙ h .1,
     h .2,
@@ -127,4 +130,4 @@ module _ (c : World) (w w' : Words) where
 
   pub stack-keep : (fr : List Frame) → SameNodes (len fr) w w' → Stack c w fr → Stack c w' fr
   stack-keep [] u q = q
-  stack-keep (f ∷ fr) u q = (frame-keep (len fr) (innerIn fr) f u (q .0), stack-keep fr (fewer-nodes (omega arith) u) (q .1))
+  stack-keep (f ∷ fr) u q = (frame-keep (len fr) (siteIn fr) f u (q .0), stack-keep fr (fewer-nodes (omega arith) u) (q .1))

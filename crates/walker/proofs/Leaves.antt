@@ -19,20 +19,13 @@ use Rattle.walker.specs.Walk.{within, leaf}
 use Rattle.walker.specs.Frame.{form, again, What, the, success, failure, error, innerIn}
 use Rattle.sheet.specs.Held.{codeAt}
 use Rattle.walker.specs.Stands.{Stands}
-use Rattle.walker.specs.Path.{World, Job, bit}
+use Rattle.walker.specs.Path.{World, Job}
 use Rattle.walker.specs.Sim.{In, Up, Yes, Leaf, up, won, block}
 use Rattle.walker.specs.Registers.{leafRegs, counted}
 use Rattle.walker.specs.Loop.{AtLeaf, LeafDone}
-use Rattle.walker.specs.States.{upMode, wonMode, blockMode, successJob, failureJob, errorJob, failTally, maxWord}
+use Rattle.walker.specs.States.{mainTree, upMode, wonMode, blockMode, successJob, failureJob, errorJob, failTally, maxWord}
+use Rattle.walker.proofs.Registered.{inner-main, inner-inside}
 use Rattle.walker.proofs.Inverse.{code-range}
-
-bit-one : (m : Bool) → bit m ≡ 1 → m ≡ true
-bit-one true e = refl
-bit-one false e = absurd (omega arith)
-
-bit-none : (m : Bool) → (bit m ≡ 1 → ⊥) → m ≡ false
-bit-none true e = absurd (e refl)
-bit-none false e = refl
 
 module _ {c : World} {o : Bytes} {w : Words} {r : Regs} (i : In c o w r) where
   -- ---- which leaf it is
@@ -74,15 +67,15 @@ module _ {c : World} {o : Bytes} {w : Words} {r : Regs} (i : In c o w r) where
       go failure q = absurd (n4 q)
       go (error κ tok) q = (q .0, rw (q .1, q .2) refl)
 
-  inside-yes : r .inner ≡ 1 → innerIn (i .fr) ≡ true
-  inside-yes e = bit-one (innerIn (i .fr)) (sym (i .inner) ∙ e)
+  inside-yes : ¬ (r .inner ≡ mainTree) → innerIn (i .fr) ≡ true
+  inside-yes n = inner-inside (i .fr) (λ z. n (i .inner ∙ z))
 
-  inside-no : (r .inner ≡ 1 → ⊥) → innerIn (i .fr) ≡ false
-  inside-no e = bit-none (innerIn (i .fr)) (λ z. e (i .inner ∙ z))
+  inside-no : r .inner ≡ mainTree → innerIn (i .fr) ≡ false
+  inside-no e = inner-main (i .fr) (sym (i .inner) ∙ e)
 
   -- ---- what it leads to
 
-  inner-success : r .inner ≡ 1 → r .due .job ≡ successJob → Yes c o w (leafRegs r wonMode (r .bad) (r .tallies) (r .written))
+  inner-success : ¬ (r .inner ≡ mainTree) → r .due .job ≡ successJob → Yes c o w (leafRegs r wonMode (r .bad) (r .tallies) (r .written))
   unfolding within
   inner-success m j = record {
     fr = i .fr;
@@ -94,7 +87,7 @@ module _ {c : World} {o : Bytes} {w : Words} {r : Regs} (i : In c o w r) where
     result = rw (at-success j, inside-yes m) at (i .result);
   }
 
-  inner-failure : r .inner ≡ 1 → r .due .job ≡ failureJob → Up c o w (leafRegs r upMode (r .bad) (r .tallies) (r .written))
+  inner-failure : ¬ (r .inner ≡ mainTree) → r .due .job ≡ failureJob → Up c o w (leafRegs r upMode (r .bad) (r .tallies) (r .written))
   unfolding within
   inner-failure m j = record {
     fr = i .fr;
@@ -109,7 +102,7 @@ module _ {c : World} {o : Bytes} {w : Words} {r : Regs} (i : In c o w r) where
     result = rw (at-failure j, inside-yes m) at (i .result);
   }
 
-  inner-error : r .inner ≡ 1 → successJob ≤ r .due .job → (r .due .job ≡ successJob → ⊥) → (r .due .job ≡ failureJob → ⊥) → Up c o w (leafRegs r upMode 1 (r .tallies) (r .written))
+  inner-error : ¬ (r .inner ≡ mainTree) → successJob ≤ r .due .job → (r .due .job ≡ successJob → ⊥) → (r .due .job ≡ failureJob → ⊥) → Up c o w (leafRegs r upMode 1 (r .tallies) (r .written))
   unfolding within
   inner-error m h n3 n4 = record {
     fr = i .fr;
@@ -124,7 +117,7 @@ module _ {c : World} {o : Bytes} {w : Words} {r : Regs} (i : In c o w r) where
     result = rw (at-error h n3 n4 .1, inside-yes m) at (i .result);
   }
 
-  main-failure : (r .inner ≡ 1 → ⊥) → r .due .job ≡ failureJob → Up c o w (leafRegs r upMode (r .bad) (addFail (r .tallies)) (r .written))
+  main-failure : r .inner ≡ mainTree → r .due .job ≡ failureJob → Up c o w (leafRegs r upMode (r .bad) (addFail (r .tallies)) (r .written))
   unfolding within leaf arrive
   main-failure m j = record {
     fr = i .fr;
@@ -139,7 +132,7 @@ module _ {c : World} {o : Bytes} {w : Words} {r : Regs} (i : In c o w r) where
     result = rw (at-failure j, inside-no m) at (i .result);
   }
 
-  main-success : (r .inner ≡ 1 → ⊥) → r .due .job ≡ successJob → Leaf c o w (leafRegs r blockMode (r .bad) (r .tallies) (r .written))
+  main-success : r .inner ≡ mainTree → r .due .job ≡ successJob → Leaf c o w (leafRegs r blockMode (r .bad) (r .tallies) (r .written))
   unfolding within
   main-success m j = record {
     v = answer (i .α);
@@ -148,8 +141,7 @@ module _ {c : World} {o : Bytes} {w : Words} {r : Regs} (i : In c o w r) where
     e = i .e;
     b = i .b;
     path = i .path;
-    main = inside-no m;
-    inner = i .inner ∙ rw (inside-no m) refl;
+    inner = i .inner;
     bad = i .bad;
     block = (j, refl);
     out = i .out;
@@ -158,7 +150,7 @@ module _ {c : World} {o : Bytes} {w : Words} {r : Regs} (i : In c o w r) where
     result = rw (at-success j, inside-no m) at (i .result);
   }
 
-  main-error : (r .inner ≡ 1 → ⊥) → successJob ≤ r .due .job → (r .due .job ≡ successJob → ⊥) → (r .due .job ≡ failureJob → ⊥) →
+  main-error : r .inner ≡ mainTree → successJob ≤ r .due .job → (r .due .job ≡ successJob → ⊥) → (r .due .job ≡ failureJob → ⊥) →
       Leaf c o w (leafRegs r blockMode (r .bad) (r .tallies) (r .written))
   unfolding within
   main-error m h n3 n4 =
@@ -170,8 +162,7 @@ module _ {c : World} {o : Bytes} {w : Words} {r : Regs} (i : In c o w r) where
         e = i .e;
         b = i .b;
         path = i .path;
-        main = inside-no m;
-        inner = i .inner ∙ rw (inside-no m) refl;
+        inner = i .inner;
         bad = i .bad;
         block = (x .0, refl, refl, refl);
         out = i .out;
@@ -183,21 +174,21 @@ module _ {c : World} {o : Bytes} {w : Words} {r : Regs} (i : In c o w r) where
 -- ---- the steps
 
 module _ {r q : Regs} where
-  pub done-success : q ≡ leafRegs r wonMode (r .bad) (r .tallies) (r .written) → r .inner ≡ 1 → r .due .job ≡ successJob → LeafDone r q
+  pub done-success : q ≡ leafRegs r wonMode (r .bad) (r .tallies) (r .written) → ¬ (r .inner ≡ mainTree) → r .due .job ≡ successJob → LeafDone r q
   done-success e m j = rw e (record { sim = λ c o w i. won refl (inner-success i m j); nodes = refl; falls = omega arith })
 
-  pub done-failure : q ≡ leafRegs r upMode (r .bad) (r .tallies) (r .written) → r .inner ≡ 1 → r .due .job ≡ failureJob → LeafDone r q
+  pub done-failure : q ≡ leafRegs r upMode (r .bad) (r .tallies) (r .written) → ¬ (r .inner ≡ mainTree) → r .due .job ≡ failureJob → LeafDone r q
   done-failure e m j = rw e (record { sim = λ c o w i. up refl (inner-failure i m j); nodes = refl; falls = omega arith })
 
-  pub done-error : q ≡ leafRegs r upMode 1 (r .tallies) (r .written) → r .inner ≡ 1 → successJob ≤ r .due .job → (r .due .job ≡ successJob → ⊥) → (r .due .job ≡ failureJob → ⊥) → LeafDone r q
+  pub done-error : q ≡ leafRegs r upMode 1 (r .tallies) (r .written) → ¬ (r .inner ≡ mainTree) → successJob ≤ r .due .job → (r .due .job ≡ successJob → ⊥) → (r .due .job ≡ failureJob → ⊥) → LeafDone r q
   done-error e m h n3 n4 = rw e (record { sim = λ c o w i. up refl (inner-error i m h n3 n4); nodes = refl; falls = omega arith })
 
-  pub failure-done : {t : Tallies} → t ≡ counted (r .tallies) failTally → q ≡ leafRegs r upMode (r .bad) t (r .written) → (r .inner ≡ 1 → ⊥) → r .due .job ≡ failureJob → LeafDone r q
+  pub failure-done : {t : Tallies} → t ≡ counted (r .tallies) failTally → q ≡ leafRegs r upMode (r .bad) t (r .written) → r .inner ≡ mainTree → r .due .job ≡ failureJob → LeafDone r q
   unfolding counted
   failure-done h e m j = rw (e, h) (record { sim = λ c o w i. up refl (main-failure i m j); nodes = refl; falls = omega arith })
 
   -- an answer or an error
-  pub block-done : q ≡ leafRegs r blockMode (r .bad) (r .tallies) (r .written) → (r .inner ≡ 1 → ⊥) → successJob ≤ r .due .job → (r .due .job ≡ failureJob → ⊥) → LeafDone r q
+  pub block-done : q ≡ leafRegs r blockMode (r .bad) (r .tallies) (r .written) → r .inner ≡ mainTree → successJob ≤ r .due .job → (r .due .job ≡ failureJob → ⊥) → LeafDone r q
   block-done e m h n4 = rw e (record { sim = λ c o w i. block refl (main i (eqb (r .due .job) successJob) refl); nodes = refl; falls = omega arith })
     where
       main : {c : World} {o : Bytes} {w : Words} → In c o w r → (t : Bool) → eqb (r .due .job) successJob ≡ t → Leaf c o w (leafRegs r blockMode (r .bad) (r .tallies) (r .written))

@@ -1,11 +1,8 @@
--- Runs of steps: visits down to a leaf, a block, steps up, and the three together. Assumes nothing.
+-- Steps up, a block, and a visit with what follows it. Assumes nothing.
 use Prim.Native.Nat.{ℕ, _+_, _*_, _≤_, _<_}
 use native.Mathlib.Omega.{arith}
-use mathlib.Core.Path.{_≡_, refl, ap, subst, _∙_}
-use mathlib.Core.Bool.{Bool, true, false}
+use mathlib.Core.Path.{_≡_, refl, sym, ap, subst, _∙_}
 use mathlib.Core.Logic.{_⊎_, inl, inr}
-use lib.Dec.{eqb}
-use borrow.Author.Tests.{eqb-true, eqb-false}
 use Rattle.specification.specs.declared.Setting.{Setting}
 use Rattle.specification.specs.Bytes.{Bytes}
 use Rattle.sheet.specs.Tables.{Words}
@@ -14,7 +11,7 @@ use Rattle.walker.specs.declared.Task.{Task}
 use Rattle.walker.specs.Frame.{the}
 use Rattle.walker.specs.Path.{World}
 use Rattle.walker.specs.Sim.{Down, Leaf, Over, Sim, over, down, up, won, block}
-use Rattle.walker.specs.Loop.{Ups, IsUp, Rising, Rose, Fixed, BlockDue, Blocked, measure, VisitDue, Arrived, Goes, Went, Climbs, Climbed, Runs, Settled, Live, snapshot, Moved}
+use Rattle.walker.specs.Loop.{Ups, Rising, Rose, Fixed, BlockDue, Blocked, VisitDue, Arrived, Climbs, Climbed, Runs, Settled, Live, snapshot, Moved}
 use Rattle.walker.specs.States.{overMode, downMode, blockMode, upMode, wonMode}
 
 -- ---- the invariant by the mode
@@ -67,90 +64,43 @@ module _ {c : World} {o : Bytes} {w : Words} {r : Regs} where
   sim-mode (won e s) = omega arith
   sim-mode (block e s) = omega arith
 
--- ---- down
-
-module _ {w : Words} {r : Regs} {path budget : ℕ} where
-  pub visit-due : Goes w r path budget → r .mode ≡ downMode → VisitDue w r path budget
-  visit-due a m = record { c = a .c; o = a .o; path-is = a .path-is; budget-is = a .budget-is; mode = m; ins = sim-down m (a .sim) }
-
--- the invariant of `descend`: what is so far of its contract
-pub record Going (w w' : Words) (r r' : Regs) (path budget : ℕ) : Type 0 where
-  pub sim : (c : World) (o : Bytes) → c .setting .path ≡ path → c .setting .budget ≡ budget → Sim c o w r → Sim c o w' r'
-  pub falls : (r' ≡ r) ⊎ (measure budget r' < measure budget r)
-
-pub going-from : {w : Words} {r : Regs} {path budget : ℕ} → Going w w r r path budget
-going-from = record { sim = λ c o p b s. s; falls = inl refl }
-
-module _ {w w1 : Words} {r q : Regs} {path budget : ℕ} (g : Going w w1 r q path budget) where
-  pub going-here : Goes w r path budget → Goes w1 q path budget
-  going-here a = record {
-    c = a .c;
-    o = a .o;
-    path-is = a .path-is;
-    budget-is = a .budget-is;
-    sim = g .sim (a .c) (a .o) (a .path-is) (a .budget-is) (a .sim);
-  }
-
-  pub going-on : {w' : Words} {q' : Regs} → q .mode ≡ downMode → Arrived w1 w' q q' path budget → Going w w' r q' path budget
-  going-on {q' = q'} m v = record {
-    sim = λ c o p b s. v .sim c o p b (sim-down m (g .sim c o p b s));
-    falls = less (g .falls);
-  }
-    where
-      less : (q ≡ r) ⊎ (measure budget q < measure budget r) → (q' ≡ r) ⊎ (measure budget q' < measure budget r)
-      less (inl e) = inr (rw e at (v .falls))
-      less (inr h) = inr (omega (arith, v .falls))
-
-  pub went : (q .mode ≡ downMode → ⊥) → Went w w1 r q path budget
-  went n = record { sim = g .sim; falls = g .falls; stops = n }
-
 -- ---- up
 
--- the second test, where the first does not hold
-pub by-three : (m : ℕ) → (m ≡ 2 → ⊥) → IsUp m (eqb m 3)
-by-three m n = go (eqb m 3) refl
-  where
-    off : Ups m → (m ≡ 3 → ⊥) → ⊥
-    off (inl e) k = n e
-    off (inr e) k = k e
-
-    go : (b : Bool) → eqb m 3 ≡ b → IsUp m b
-    go true e = inr (eqb-true m 3 e)
-    go false e = λ u. off u (eqb-false m 3 e)
-
--- what the test tells
-pub is-up : {mode : ℕ} {b : Bool} → IsUp mode b → b ≡ true → Ups mode
-is-up {mode} h e = subst (IsUp mode) e h
-
-pub not-up : {mode : ℕ} {b : Bool} → IsUp mode b → b ≡ false → Ups mode → ⊥
-not-up {mode} h e = subst (IsUp mode) e h
-
 -- the invariant of `climb`
-pub record Climbing (w w' : Words) (r r' : Regs) : Type 0 where
+pub record Climbing (w w' : Words) (r r' : Regs) (mode : ℕ) : Type 0 where
   pub sim : (c : World) (o : Bytes) → Sim c o w r → Sim c o w' r'
   pub nodes : r' .tallies .nodes ≡ r .tallies .nodes
-  pub falls : (r' ≡ r) ⊎ (2 * r' .depth + r' .mode < 2 * r .depth + r .mode)
+  pub falls : (r' ≡ r) ⊎ ((2 * r' .depth + r' .mode < 2 * r .depth + r .mode) × ((r' .mode ≡ mode) ⊎ (r' .mode ≤ downMode)))
 
-pub climbing-from : {w : Words} {r : Regs} → Climbing w w r r
+pub climbing-from : {w : Words} {r : Regs} {mode : ℕ} → Climbing w w r r mode
 climbing-from = record { sim = λ c o s. s; nodes = refl; falls = inl refl }
 
-module _ {w w1 : Words} {r q : Regs} (g : Climbing w w1 r q) where
-  pub climbing-here : Climbs w r → Ups (q .mode) → Rising w1 q
-  climbing-here a m = sim-rising m (g .sim (a .c) (a .o) (a .sim))
+module _ {w w1 : Words} {r q : Regs} {mode : ℕ} (g : Climbing w w1 r q mode) where
+  pub climbing-here : Climbs w r mode → q .mode ≡ mode → Rising w1 q
+  climbing-here a m = sim-rising (subst Ups (sym m) (a .way)) (g .sim (a .c) (a .o) (a .sim))
 
-  pub climbing-on : {w' : Words} {q' : Regs} → Ups (q .mode) → Rose w1 w' q q' → Climbing w w' r q'
-  climbing-on {q' = q'} m v = record {
-    sim = λ c o s. sim-rose m v (g .sim c o s);
+  pub climbing-on : {w' : Words} {q' : Regs} → Climbs w r mode → q .mode ≡ mode → Rose w1 w' q q' → Climbing w w' r q' mode
+  climbing-on {q' = q'} a m v = record {
+    sim = λ c o s. sim-rose (subst Ups (sym m) (a .way)) v (g .sim c o s);
     nodes = v .nodes ∙ g .nodes;
-    falls = less (g .falls);
+    falls = less (g .falls) (v .modes);
   }
     where
-      less : (q ≡ r) ⊎ (2 * q .depth + q .mode < 2 * r .depth + r .mode) → (q' ≡ r) ⊎ (2 * q' .depth + q' .mode < 2 * r .depth + r .mode)
-      less (inl e) = inr (rw e at (v .falls))
-      less (inr h) = inr (omega (arith, v .falls))
+      less : (q ≡ r) ⊎ ((2 * q .depth + q .mode < 2 * r .depth + r .mode) × ((q .mode ≡ mode) ⊎ (q .mode ≤ downMode))) → (q' .mode ≡ q .mode) ⊎ (q' .mode ≤ downMode) →
+          (q' ≡ r) ⊎ ((2 * q' .depth + q' .mode < 2 * r .depth + r .mode) × ((q' .mode ≡ mode) ⊎ (q' .mode ≤ downMode)))
+      less (inl e) (inl f) = inr (rw e at (v .falls), inl (f ∙ m))
+      less (inl e) (inr f) = inr (rw e at (v .falls), inr f)
+      less (inr h) (inl f) = inr (omega (arith, v .falls, h .0), inl (f ∙ m))
+      less (inr h) (inr f) = inr (omega (arith, v .falls, h .0), inr f)
 
-  pub climbed : (Ups (q .mode) → ⊥) → Climbed w w1 r q
-  climbed n = record { sim = g .sim; nodes = g .nodes; falls = g .falls; stops = n }
+  pub climbed : (q .mode ≡ mode → ⊥) → Climbed w w1 r q mode
+  climbed n = record { sim = g .sim; nodes = g .nodes; falls = go (g .falls); stops = n }
+    where
+      go : (q ≡ r) ⊎ ((2 * q .depth + q .mode < 2 * r .depth + r .mode) × ((q .mode ≡ mode) ⊎ (q .mode ≤ downMode))) →
+          (q ≡ r) ⊎ ((2 * q .depth + q .mode < 2 * r .depth + r .mode) × (q .mode ≤ downMode))
+      go (inl e) = inl e
+      go (inr (h, inl e)) = absurd (n e)
+      go (inr (h, inr f)) = inr (h, f)
 
 -- ---- a block
 
@@ -162,18 +112,44 @@ module _ {w : Words} {o : Bytes} {r : Regs} {t : Task} where
   settles m v = record {
     sim = λ c f s. v .sim c f (sim-leaf m s);
     nodes = v .nodes;
-    falls = inr (omega (arith, v .falls));
+    falls = inr (omega (arith, v .falls), v .modes);
     size = v .size;
   }
 
   pub settled : (r .mode ≡ blockMode → ⊥) → Settled w o o r r t
   settled n = record { sim = λ c f s. s; nodes = refl; falls = inl (refl, n); size = refl }
 
--- ---- all three
+-- ---- all of it
 
--- a mode that none of the three changes
-still : {m : ℕ} → m ≤ blockMode → (m ≡ overMode → ⊥) → (m ≡ downMode → ⊥) → (m ≡ blockMode → ⊥) → (Ups m → ⊥) → ⊥
-still {m} h n0 n1 n4 n = let n2 : m ≡ upMode → ⊥ = λ e. n (inl e) in let n3 : m ≡ wonMode → ⊥ = λ e. n (inr e) in omega arith
+-- registers do not rise
+level : Regs → ℕ
+level r = 2 * r .depth + r .mode
+
+module _ {w w' : Words} {r q : Regs} {mode : ℕ} (x : Climbed w w' r q mode) where
+  climbed-level : level q ≤ level r
+  unfolding level
+  climbed-level = go (x .falls)
+    where
+      go : (q ≡ r) ⊎ ((2 * q .depth + q .mode < 2 * r .depth + r .mode) × (q .mode ≤ downMode)) → 2 * q .depth + q .mode ≤ 2 * r .depth + r .mode
+      go (inl e) = rw e (omega arith)
+      go (inr h) = omega (arith, h .0)
+
+  -- a mode among the five, beside the one that was left
+  climbed-modes : (P : ℕ → Type 0) → (q .mode ≤ downMode → P (q .mode)) → (q ≡ r → (r .mode ≡ mode → ⊥) → P (q .mode)) → P (q .mode)
+  climbed-modes P low same = go (x .falls)
+    where
+      go : (q ≡ r) ⊎ ((2 * q .depth + q .mode < 2 * r .depth + r .mode) × (q .mode ≤ downMode)) → P (q .mode)
+      go (inl e) = same e (λ m. x .stops (ap (λ (z : Regs). z .mode) e ∙ m))
+      go (inr h) = low (h .1)
+
+module _ {w : Words} {o o' : Bytes} {r q : Regs} {t : Task} (x : Settled w o o' r q t) where
+  settled-level : level q ≤ level r
+  unfolding level
+  settled-level = go (x .falls)
+    where
+      go : ((q ≡ r) × (r .mode ≡ blockMode → ⊥)) ⊎ ((2 * q .depth + q .mode < 2 * r .depth + r .mode) × (q .mode ≤ upMode)) → 2 * q .depth + q .mode ≤ 2 * r .depth + r .mode
+      go (inl e) = rw (e .0) (omega arith)
+      go (inr h) = omega (arith, h .0)
 
 module _ {t : Task} where
   setting-path : (c : World) → Fixed c t → c .setting .path ≡ t .setting .path
@@ -183,40 +159,59 @@ module _ {t : Task} where
   setting-budget c f = ap (λ (z : Setting). z .budget) (f .setting)
 
   module _ {w : Words} {o : Bytes} {r : Regs} (a : Live w o r t) where
-    pub live-goes : Goes w r (t .setting .path) (t .setting .budget)
-    live-goes =
+    pub live-visit : VisitDue w r (t .setting .path) (t .setting .budget)
+    live-visit =
         let u = a .runs in
-        record { c = u .c; o = o; path-is = setting-path (u .c) (u .fixed); budget-is = setting-budget (u .c) (u .fixed); sim = u .sim }
-
-    module _ {w1 : Words} {d : Regs} (x : Went w w1 r d (t .setting .path) (t .setting .budget)) where
-      pub gone-runs : Runs w1 o d t
-      gone-runs =
-          let u = a .runs in
-          record { c = u .c; fixed = u .fixed; sim = x .sim (u .c) o (setting-path (u .c) (u .fixed)) (setting-budget (u .c) (u .fixed)) (u .sim) }
-
-      module _ {o' : Bytes} {s : Regs} (y : Settled w1 o o' d s t) where
-        pub settled-climbs : Climbs w1 s
-        settled-climbs = let u = gone-runs in record { c = u .c; o = o'; sim = y .sim (u .c) (u .fixed) (u .sim) }
-
-        pub moved : {w' : Words} {q : Regs} → Climbed w1 w' s q → Moved (snapshot w o r) (snapshot w' o' q) t
-        moved {q = q} z = record {
-          sim = λ c f m. z .sim c o' (y .sim c f (x .sim c o (setting-path c f) (setting-budget c f) m));
-          falls = less (x .falls) (y .falls) (z .falls);
-          size = y .size;
+        record {
+          c = u .c;
+          o = o;
+          path-is = setting-path (u .c) (u .fixed);
+          budget-is = setting-budget (u .c) (u .fixed);
+          mode = a .on;
+          ins = sim-down (a .on) (u .sim);
         }
-          where
-            level : Regs → ℕ
-            level t = 2 * t .depth + t .mode
 
-            less : (d ≡ r) ⊎ (measure (t .setting .budget) d < measure (t .setting .budget) r) → ((s ≡ d) × (d .mode ≡ blockMode → ⊥)) ⊎ (level s < level d) →
-                (q ≡ s) ⊎ (level q < level s) → measure (t .setting .budget) q < measure (t .setting .budget) r
-            less (inl e) (inl f) (inl g) =
-                absurd (still (sim-mode (a .runs .sim)) (a .on) (subst (λ t. t .mode ≡ downMode → ⊥) e (x .stops)) (subst (λ t. t .mode ≡ blockMode → ⊥) e (f .1))
-                (subst (λ t. Ups (t .mode) → ⊥) (g ∙ f .0 ∙ e) (z .stops)))
-            less (inl e) (inl f) (inr g) = let m = ap level (f .0) in let n = ap (measure (t .setting .budget)) e in omega (arith, y .nodes, z .nodes)
-            less (inl e) (inr f) (inl g) = let m = ap level g in let n = ap (measure (t .setting .budget)) e in omega (arith, y .nodes, z .nodes)
-            less (inl e) (inr f) (inr g) = let n = ap (measure (t .setting .budget)) e in omega (arith, y .nodes, z .nodes)
-            less (inr e) (inl f) (inl g) = let m = ap level (f .0) in let n = ap level g in omega (arith, y .nodes, z .nodes)
-            less (inr e) (inl f) (inr g) = let m = ap level (f .0) in omega (arith, y .nodes, z .nodes)
-            less (inr e) (inr f) (inl g) = let n = ap level g in omega (arith, y .nodes, z .nodes)
-            less (inr e) (inr f) (inr g) = omega (arith, y .nodes, z .nodes)
+    module _ {w1 : Words} {d : Regs} (x : Arrived w w1 r d (t .setting .path) (t .setting .budget)) where
+      visited-sim : (c : World) → Fixed c t → Sim c o w r → Sim c o w1 d
+      visited-sim c f m = x .sim c o (setting-path c f) (setting-budget c f) (sim-down (a .on) m)
+
+      pub visited-climbs : Climbs w1 d wonMode
+      visited-climbs = let u = a .runs in record { c = u .c; o = o; sim = visited-sim (u .c) (u .fixed) (u .sim); way = inr refl }
+
+      module _ {w2 : Words} {e : Regs} (y : Climbed w1 w2 d e wonMode) where
+        pub climbed-runs : Runs w2 o e t
+        climbed-runs = let u = a .runs in record { c = u .c; fixed = u .fixed; sim = y .sim (u .c) o (visited-sim (u .c) (u .fixed) (u .sim)) }
+
+        module _ {o' : Bytes} {s : Regs} (z : Settled w2 o o' e s t) where
+          pub settled-climbs : Climbs w2 s upMode
+          settled-climbs = let u = climbed-runs in record { c = u .c; o = o'; sim = z .sim (u .c) (u .fixed) (u .sim); way = inl refl }
+
+          pub moved : {w' : Words} {q : Regs} → Climbed w2 w' s q upMode → Moved (snapshot w o r) (snapshot w' o' q) t
+          unfolding level
+          moved {q = q} v = record {
+            sim = λ c f m. v .sim c o' (z .sim c f (y .sim c o (visited-sim c f m)));
+            falls = omega (arith, x .falls, y .nodes, z .nodes, v .nodes, climbed-level y, settled-level z, climbed-level v);
+            modes = climbed-modes v (λ m. m ≤ downMode) (λ h. h) last;
+            size = z .size;
+          }
+            where
+              -- one of the five, and none that a step up or a block is due in
+              start : e ≡ d → (d .mode ≡ wonMode → ⊥) → (e .mode ≡ blockMode → ⊥) → (e .mode ≡ upMode → ⊥) → e .mode ≤ downMode
+              start i ended n m =
+                  let five = sim-mode (visited-sim (a .runs .c) (a .runs .fixed) (a .runs .sim)) in
+                  let same = ap (λ (z : Regs). z .mode) i in
+                  omega arith
+
+              middle : ((s ≡ e) × (e .mode ≡ blockMode → ⊥)) ⊎ ((2 * s .depth + s .mode < 2 * e .depth + e .mode) × (s .mode ≤ upMode)) → (s .mode ≡ upMode → ⊥) → s .mode ≤ downMode
+              middle (inl (i, n)) m =
+                  let same = ap (λ (z : Regs). z .mode) i in
+                  let k : e .mode ≡ upMode → ⊥ = λ h. m (same ∙ h) in
+                  let low = climbed-modes y (λ m. m ≤ downMode) (λ h. h) (λ j ended. start j ended n k) in
+                  omega arith
+              middle (inr (h, k)) m = omega arith
+
+              last : q ≡ s → (s .mode ≡ upMode → ⊥) → q .mode ≤ downMode
+              last i m =
+                  let same = ap (λ (z : Regs). z .mode) i in
+                  let low = middle (z .falls) m in
+                  omega arith

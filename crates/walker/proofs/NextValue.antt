@@ -13,19 +13,21 @@ use Rattle.specification.specs.Number.{in32}
 use Rattle.specification.specs.Ast.{Formula}
 use Rattle.specification.specs.Place.{local, put}
 use Rattle.specification.specs.Value.{full, Valuation}
-use Rattle.specification.proofs.Laws.Place.{valid-put}
+use Rattle.specification.proofs.Laws.Contradiction.{contradiction}
+use Rattle.specification.proofs.Laws.Place.{put-same, put-other, valid-put}
 use Rattle.values.specs.Word.{signed, biased}
 use Rattle.values.proofs.Laws.Word.{biased-signed, signed-in32, signed-add}
 use Rattle.tables.specs.Layout.{nodeSlot, firstsAt, pathAt, maxTokens}
-use Rattle.tables.specs.Node.{currentWord, headAt, restAt, todoAt, slotAt, currentAt, lastAt, restWord, todoWord, slotWord, hadWord, oldWord, lastWord}
+use Rattle.tables.specs.Node.{currentWord, headAt, restAt, todoAt, slotAt, currentAt, lastAt, restWord, todoWord, slotWord, hadWord, oldWord, lastWord, innerWord}
 use Rattle.tables.specs.Kept.{Kept}
 use Rattle.tables.proofs.Laws.Kept.{kept-both, word-kept, word-slots}
 use Rattle.sheet.specs.Tables.{Words}
 use Rattle.sheet.specs.Held.{endAt, Holds}
 use Rattle.walker.specs.declared.Regs.{Regs}
 use Rattle.walker.specs.Walk.{sonsFrom}
-use Rattle.walker.specs.Frame.{Item, form, the, Frame, range, len, innerIn}
-use Rattle.walker.specs.Path.{World, bit, FrameAt, Path}
+use Rattle.walker.specs.Frame.{Item, form, the, Frame, range, len, siteIn}
+use Rattle.walker.specs.Site.{boundSite}
+use Rattle.walker.specs.Path.{World, FrameAt, Path}
 use Rattle.walker.specs.Stands.{bodyOf, LeftAfter}
 use Rattle.walker.specs.Sim.{no, Down, Up}
 use Rattle.walker.specs.Registers.{formulaDue, dueRegs}
@@ -33,7 +35,7 @@ use Rattle.walker.specs.Loop.{Topped}
 use Rattle.walker.specs.States.{nextTodo}
 use Rattle.walker.proofs.Keep.{pend-keep}
 use Rattle.walker.proofs.Here.{code-here, end-here, body-here}
-use Rattle.walker.proofs.Slots.{in-table, Altered, alter, holds-keep, holds-again}
+use Rattle.walker.proofs.Slots.{in-table, Altered, alter, holds-keep, holds-again, marks-keep, altered-marks}
 use Rattle.walker.proofs.Whole.{altered-kept, path-top}
 use Rattle.walker.proofs.Tops.{top-index, top-range}
 use Rattle.walker.proofs.Turns.{son-due, rest-under}
@@ -149,12 +151,12 @@ module _ {c : World} {w w' : Words} {r : Regs} {h p : ℕ} (g : Follows w w' r h
       from-first (currentWord (len fr)) (omega arith) ∙
       rw current-is (getD-set-same w (currentWord (len fr)) (g .v) 0 (omega (arith, P .size, P .inside)) ∙ value-is)
 
-  next-frame : FrameAt c w' (len fr) (innerIn fr) (range l x (suc i) m F is β)
+  next-frame : FrameAt c w' (len fr) (siteIn fr) (range l x (suc i) m F is β)
   next-frame =
       let a = P .stack .0 in
       let ch = a .1 in (
         same-word (todoWord (len fr)) (omega arith) (λ y. omega arith) ∙ a .0,
-        record { slot = same-word (slotWord (len fr)) (omega arith) (λ y. omega arith) ∙ ch .slot; inside = ch .inside; saved = rw (same-word (hadWord (len fr)) (omega arith) (λ y. omega arith), same-word (oldWord (len fr)) (omega arith) (λ y. omega arith)) (ch .saved) },
+        record { slot = same-word (slotWord (len fr)) (omega arith) (λ y. omega arith) ∙ ch .slot; inside = ch .inside; saved = rw (same-word (hadWord (len fr)) (omega arith) (λ y. omega arith), same-word (oldWord (len fr)) (omega arith) (λ y. omega arith)) (ch .saved); mark = λ e. same-word (oldWord (len fr)) (omega arith) (λ y. omega arith) ∙ ch .mark e; inner = same-word (innerWord (len fr)) (omega arith) (λ y. omega arith) ∙ ch .inner },
         rw (same-word (nodeSlot (len fr)) (omega arith) (λ y. omega arith)) (a .2),
         rw (now, same-word (lastWord (len fr)) (omega arith) (λ y. omega arith)) (next-left x i (a .3) more-here m refl),
         rw now (next-value x i (a .3) more-here),
@@ -164,9 +166,13 @@ module _ {c : World} {w w' : Words} {r : Regs} {h p : ℕ} (g : Follows w w' r h
   next-path : Path c w' (r .depth) (put β (local l) (full (x +ℤ pos (suc i)))) (range l x (suc i) m F is β ∷ fr)
   next-path =
       let a = P .stack .0 in
+      let same = word-slots (currentWord (len fr)) (g .v) (omega arith) current-is in
       path-top P next-kept (range l x (suc i) m F is β) refl next-frame
-      (holds-again altered (a .1 .inside) β (full (x +ℤ pos i))
-      (holds-keep (word-slots (currentWord (len fr)) (g .v) (omega arith) current-is) (subst (Holds w) (P .chain .0) (P .holds))))
+      (holds-again altered (a .1 .inside) β (full (x +ℤ pos i)) (holds-keep same (subst (Holds w) (P .chain .0) (P .holds))))
+      (altered-marks altered (a .1 .inside) (put β (local l) (full (x +ℤ pos i))) (put β (local l) (full (x +ℤ pos (suc i)))) (boundSite l (siteIn fr) .marks)
+      (boundSite l (siteIn fr) .marks) (marks-keep same (rw (P .chain .0) at (P .marks)))
+      (λ q n. put-other β (local l) (full (x +ℤ pos (suc i))) q n ∙ sym (put-other β (local l) (full (x +ℤ pos i)) q n)) (λ q n. refl)
+      (λ none. let z = sym (put-same β (local l) (full (x +ℤ pos (suc i)))) ∙ none in contradiction cc))
       (valid-put (c .declared) β (local l) (full (x +ℤ pos (suc i))) (P .chain .1) (next-in x i (a .3) more-here))
 
   -- the formula under the quantifier
@@ -183,11 +189,11 @@ pub next-up : {c : World} {o : Bytes} {w w' : Words} {r : Regs} {h p e n : ℕ} 
 unfolding sonsFrom
 next-up {c} {o} {w} {w'} {r} {h} {p} {e} {n} g ee en u =
     top-range
-    (λ fr. r .inner ≡ bit (innerIn fr) → no c fr (u .e) (r .tallies) (u .b) ≡ c .result → Down c o w' (dueRegs r (r .depth) (formulaDue w n p) (r .inner) (r .bad)))
+    (λ fr. r .inner ≡ siteIn fr .inner → no c fr (u .e) (r .tallies) (u .b) ≡ c .result → Down c o w' (dueRegs r (r .depth) (formulaDue w n p) (r .inner) (r .bad)))
     (g .some) (g .todo) (λ l x i m F is β fr P k q. go l x i m F is β fr P k q) (u .fr) (u .path) (u .inner) (u .result)
   where
     go : (l : ℕ) (x : ℤ) (i m : ℕ) (F : Formula) (is : List Item) (β : Valuation) (fr : List Frame) →
-        Path c w (r .depth) (u .α) (range l x i m F is β ∷ fr) → r .inner ≡ bit (innerIn fr) →
+        Path c w (r .depth) (u .α) (range l x i m F is β ∷ fr) → r .inner ≡ siteIn fr .inner →
         no c (range l x i m F is β ∷ fr) (u .e) (r .tallies) (u .b) ≡ c .result →
         Down c o w' (dueRegs r (r .depth) (formulaDue w n p) (r .inner) (r .bad))
     go l x i zero F is β fr P k q =

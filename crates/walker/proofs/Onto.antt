@@ -3,16 +3,17 @@
 use Prim.Native.Nat.{ℕ, suc, _+_, _<_}
 use native.Mathlib.Omega.{arith}
 use native.Mathlib.Numerals.{add-one}
-use mathlib.Core.Path.{_≡_, refl, sym, _∙_}
+use mathlib.Core.Path.{_≡_, refl, sym, _∙_, ap}
 use mathlib.Core.Bool.{Bool, true, false}
 use mathlib.Core.List.{List, [], _∷_}
 use lib.IntN.{ℤ, pos, _+ℤ_}
 use Rattle.specification.specs.Bytes.{Bytes}
 use Rattle.specification.specs.Ast.{Formula}
 use Rattle.specification.specs.Place.{Place, local, put}
-use Rattle.specification.specs.Value.{Slot, full}
+use Rattle.specification.specs.Value.{Slot, empty, full}
 use Rattle.specification.specs.Tree.{Tree, step, fork, fan, ask, Verdict, verdict}
-use Rattle.specification.proofs.Laws.Place.{valid-put}
+use Rattle.specification.proofs.Laws.Contradiction.{contradiction}
+use Rattle.specification.proofs.Laws.Place.{put-same, put-other, valid-put}
 use Rattle.values.specs.Word.{signed}
 use Rattle.tables.specs.declared.nodes.Node.{Node}
 use Rattle.tables.specs.Node.{Marked, Linked, Pushed}
@@ -23,17 +24,19 @@ use Rattle.sheet.specs.Held.{endAt}
 use Rattle.walker.specs.declared.Due.{Due}
 use Rattle.walker.specs.declared.Regs.{Regs}
 use Rattle.walker.specs.Walk.{sonsFrom, within, walk}
-use Rattle.walker.specs.Frame.{Item, form, What, the, treeItems, Question, sonOf, Frame, pass, other, undo, range, asks, here, below, innerIn}
+use Rattle.walker.specs.Frame.{Item, form, What, the, treeItems, treeWhat, Question, sonOf, Frame, pass, other, bound, given, range, asks, here, below, innerIn, siteIn}
+use Rattle.walker.specs.Site.{sonSite, boundSite, innerSite, givenSite, innerAfter}
 use Rattle.walker.specs.Path.{World, conditionsOf, Pend, Job, bit, Changed, Asks, FrameAt, Path}
 use Rattle.walker.specs.Stands.{Stands, Binds, LeftAfter}
-use Rattle.walker.specs.Sim.{tree, yes, no, Down, In, down}
+use Rattle.walker.specs.Sim.{tree, son, yes, no, Down, In, down}
 use Rattle.walker.specs.Steps.{Stepped}
 use Rattle.walker.specs.Registers.{dueRegs}
 use Rattle.walker.specs.Binding.{binderNode}
 use Rattle.walker.specs.States.{noTodo, otherTodo, undoTodo, nextTodo, judgeTodo}
 use Rattle.walker.proofs.Walk.{within-ask}
+use Rattle.walker.proofs.Registered.{site-depth}
 use Rattle.walker.proofs.Keep.{frame-keep}
-use Rattle.walker.proofs.Slots.{holds-keep, holds-put}
+use Rattle.walker.proofs.Slots.{holds-keep, holds-put, marks-keep, altered-marks}
 use Rattle.walker.proofs.Whole.{altered-kept, path-onto}
 use Rattle.walker.proofs.Pushes.{Replaces, replaces-kept, rest-onto}
 
@@ -52,7 +55,7 @@ module _ {c : World} {o : Bytes} {w : Words} {r : Regs} (i : In c o w r) where
       ≡ c .result
 
   onto : {w' : Words} (f : Frame) (x : What) (e : Bool) {d : Due} {inner bad : ℕ} → Path c w' (r .depth + 1) (below f) (f ∷ i .fr) →
-      inner ≡ bit (innerIn (f ∷ i .fr)) → bad ≡ bit e → Job c w' (r .depth + 1) d x → Gives f e (tree c (f ∷ i .fr) x (below f)) →
+      inner ≡ siteIn (f ∷ i .fr) .inner → bad ≡ bit e → Job c w' (r .depth + 1) d x → Gives f e (tree c (f ∷ i .fr) x (below f)) →
       Down c o w' (dueRegs r (r .depth + 1) d inner bad)
   onto f x e P n b j g = record {
     x = x;
@@ -70,62 +73,102 @@ module _ {c : World} {o : Bytes} {w : Words} {r : Regs} (i : In c o w r) where
   }
 
   -- a frame that changes no slot
-  plain : {w' : Words} {todo : ℕ} → Marked w w' (r .depth) todo → (f : Frame) → below f ≡ i .α → here f ≡ i .α →
-      FrameAt c w' (r .depth) (innerIn (i .fr)) f → Path c w' (r .depth + 1) (below f) (f ∷ i .fr)
-  plain g f e e′ q =
-      path-onto (i .path) f (i .room) (marked-kept g) e′ q (rw e (holds-keep (marked-slots g) (i .path .holds))) (rw e (i .path .valid))
+  plain : {w' : Words} {todo : ℕ} → Marked w w' (r .depth) todo → (f : Frame) → below f ≡ i .α → here f ≡ i .α → siteIn (f ∷ i .fr) .marks ≡ siteIn (i .fr) .marks →
+      FrameAt c w' (r .depth) (siteIn (i .fr)) f → Path c w' (r .depth + 1) (below f) (f ∷ i .fr)
+  plain g f e e′ m q =
+      path-onto (i .path) f (i .room) (marked-kept g) e′ q (rw e (holds-keep (marked-slots g) (i .path .holds)))
+      (rw (e, m) (marks-keep (marked-slots g) (i .path .marks))) (rw e (i .path .valid))
 
   -- a frame that changes one
-  changed : {w' : Words} {n : Node} (p : Place) (s : Slot) (a : Replaces (c .declared) w w' (r .depth) n (i .α) p s) (f : Frame) →
-      below f ≡ put (i .α) p s → here f ≡ i .α → (Changed (a .mid) (r .depth) p (i .α) → FrameAt c (a .mid) (r .depth) (innerIn (i .fr)) f) →
+  changed : {w' : Words} {n : Node} (p : Place) (s : Slot) (a : Replaces (c .declared) w w' (r .depth) n (i .α) p s) → n .inner ≡ r .inner → (f : Frame) →
+      below f ≡ put (i .α) p s → here f ≡ i .α → ((q : Place) → ¬ (q ≡ p) → siteIn (f ∷ i .fr) .marks q ≡ siteIn (i .fr) .marks q) →
+      (s ≡ empty → a .altered .word ≡ siteIn (f ∷ i .fr) .marks p) →
+      (Changed (a .mid) (r .depth) p (siteIn (i .fr)) (i .α) → FrameAt c (a .mid) (r .depth) (siteIn (i .fr)) f) →
       Path c w' (r .depth + 1) (below f) (f ∷ i .fr)
-  changed {w'} p s a f e e′ q =
+  changed {w'} p s a kept f e e′ off mark q =
       let g = a .pushed in
       let k = altered-kept (suc (r .depth)) (a .inside) (a .altered) in
-      let ch : Changed (a .mid) (r .depth) p (i .α) = record { slot = g .place ∙ a .place; inside = a .inside; saved = rw (g .saved, g .value) (a .saved) } in
-      path-onto (i .path) f (i .room) (replaces-kept a) e′ (frame-keep c (a .mid) w' (r .depth) (innerIn (i .fr)) f (k .nodes) (q ch))
-      (rw e (holds-put (a .altered) (a .inside) (holds-keep (marked-slots (g .linked .marked)) (i .path .holds))))
+      let same = marked-slots (g .linked .marked) in
+      let ch : Changed (a .mid) (r .depth) p (siteIn (i .fr)) (i .α) = record {
+        slot = g .place ∙ a .place;
+        inside = a .inside;
+        saved = rw (g .saved, g .value) (a .saved);
+        mark = λ none. g .value ∙ a .mark ∙ i .path .marks p (a .inside) none;
+        inner = g .inner ∙ kept ∙ i .inner;
+      } in
+      path-onto (i .path) f (i .room) (replaces-kept a) e′ (frame-keep c (a .mid) w' (r .depth) (siteIn (i .fr)) f (k .nodes) (q ch))
+      (rw e (holds-put (a .altered) (a .inside) (holds-keep same (i .path .holds))))
+      (rw e
+      (altered-marks (a .altered) (a .inside) (i .α) (put (i .α) p s) (siteIn (i .fr) .marks) (siteIn (f ∷ i .fr) .marks) (marks-keep same (i .path .marks))
+      (put-other (i .α) p s) off (λ none. mark (sym (put-same (i .α) p s) ∙ none))))
       (rw e (valid-put (c .declared) (i .α) p s (i .path .valid) (a .good)))
+
+  -- the marks below a binder
+  bound-other : (l : ℕ) (q : Place) → ¬ (q ≡ local l) → boundSite l (siteIn (i .fr)) .marks q ≡ siteIn (i .fr) .marks q
+  bound-other l q n = put-other (siteIn (i .fr) .marks) (local l) (suc (siteIn (i .fr) .depth)) q n
+
+  at-depth : siteIn (i .fr) .depth ≡ r .depth
+  at-depth = site-depth (i .fr) ∙ sym (i .path .deep)
+
+  bound-mark : (l : ℕ) (s : Slot) {v : ℕ} → (s ≡ empty → v ≡ suc (r .depth)) → s ≡ empty → v ≡ boundSite l (siteIn (i .fr)) .marks (local l)
+  bound-mark l s mark none =
+      mark none ∙ ap suc (sym at-depth) ∙ sym (put-same (siteIn (i .fr) .marks) (local l) (suc (siteIn (i .fr) .depth)))
+
+  inner-number : r .depth + 2 ≡ innerSite (siteIn (i .fr)) .inner
+  inner-number = omega (arith, at-depth)
 
   -- nothing is left to do
   pub down-pass : {w' : Words} → Marked w w' (r .depth) noTodo → (x : What) →
-      tree c (i .fr) (i .x) (i .α) ≡ step (tree c (i .fr) x (i .α)) → {d : Due} → Job c w' (r .depth + 1) d x →
+      tree c (i .fr) (i .x) (i .α) ≡ step (son c (i .fr) x (i .α)) → {d : Due} → Job c w' (r .depth + 1) d x →
       Down c o w' (dueRegs r (r .depth + 1) d (r .inner) (r .bad))
   unfolding within
-  down-pass g x e j = onto (pass (i .α)) x (i .e) (plain g (pass (i .α)) refl refl (g .left)) (i .inner) (i .bad) j (rw add-one (rw e at (i .result)))
+  down-pass g x e j = onto (pass (i .α)) x (i .e) (plain g (pass (i .α)) refl refl refl (g .left)) (i .inner) (i .bad) j (rw add-one (rw e at (i .result)))
 
-  -- a slot to put back
-  pub down-undo : {w' : Words} {n : Node} (p : Place) (s : Slot) → Replaces (c .declared) w w' (r .depth) n (i .α) p s → n .todo ≡ undoTodo → (x : What) →
-      tree c (i .fr) (i .x) (i .α) ≡ step (tree c (i .fr) x (put (i .α) p s)) → {d : Due} → Job c w' (r .depth + 1) d x →
+  -- a local that is bound
+  pub down-bound : {w' : Words} {n : Node} (l : ℕ) (s : Slot) (a : Replaces (c .declared) w w' (r .depth) n (i .α) (local l) s) → n .todo ≡ undoTodo → n .inner ≡ r .inner →
+      (s ≡ empty → a .altered .word ≡ suc (r .depth)) → (x : What) →
+      tree c (i .fr) (i .x) (i .α) ≡ step (treeWhat (c .declared) x (boundSite l (siteIn (i .fr))) (put (i .α) (local l) s)) → {d : Due} → Job c w' (r .depth + 1) d x →
       Down c o w' (dueRegs r (r .depth + 1) d (r .inner) (r .bad))
   unfolding within
-  down-undo p s a t x e j =
-      onto (undo p s (i .α)) x (i .e) (changed p s a (undo p s (i .α)) refl refl (λ h. (a .pushed .linked .marked .left ∙ t, h))) (i .inner) (i .bad) j (rw add-one (rw e at (i .result)))
+  down-bound l s a t kept mark x e j =
+      onto (bound l s (i .α)) x (i .e)
+      (changed (local l) s a kept (bound l s (i .α)) refl refl (bound-other l) (bound-mark l s mark) (λ h. (a .pushed .linked .marked .left ∙ t, h))) (i .inner)
+      (i .bad) j (rw add-one (rw e at (i .result)))
+
+  -- a place that is given a value
+  pub down-given : {w' : Words} {n : Node} (p : Place) (v : ℤ) → Replaces (c .declared) w w' (r .depth) n (i .α) p (full v) → n .todo ≡ undoTodo → n .inner ≡ r .inner → (x : What) →
+      tree c (i .fr) (i .x) (i .α) ≡ step (treeWhat (c .declared) x (givenSite p (siteIn (i .fr))) (put (i .α) p (full v))) → {d : Due} → Job c w' (r .depth + 1) d x →
+      {inner : ℕ} → inner ≡ innerAfter p (siteIn (i .fr)) → Down c o w' (dueRegs r (r .depth + 1) d inner (r .bad))
+  unfolding within
+  down-given p v a t kept x e j n =
+      onto (given p v (i .α)) x (i .e)
+      (changed p (full v) a kept (given p v (i .α)) refl refl (λ q z. refl) (λ none. contradiction cc) (λ h. (a .pushed .linked .marked .left ∙ t, h))) n
+      (i .bad) j (rw add-one (rw e at (i .result)))
 
   -- the second son of `or`
   pub down-other : {w' : Words} → Linked w w' (r .depth) (r .due .head) (r .due .rest) otherTodo → (x : What) (G : Formula) (is : List Item) →
-      tree c (i .fr) (i .x) (i .α) ≡ fork (tree c (i .fr) x (i .α)) (treeItems (c .declared) (innerIn (i .fr)) (form G ∷ is) (i .α)) →
+      tree c (i .fr) (i .x) (i .α) ≡ fork (son c (i .fr) x (i .α)) (son c (i .fr) (the (form G ∷ is)) (i .α)) →
       suc (r .due .head) < maxTokens → endAt (c .tables) (suc (r .due .head)) < maxTokens → Stands (c .declared) (c .tables) (endAt (c .tables) (suc (r .due .head))) G →
       Pend c w (r .depth) (r .due .rest) is → {d : Due} → Job c w' (r .depth + 1) d x →
       Down c o w' (dueRegs r (r .depth + 1) d (r .inner) (r .bad))
   unfolding within
   down-other g x G is e small far st q j =
       onto (other G is (i .α)) x (i .e)
-      (plain (g .marked) (other G is (i .α)) refl refl
+      (plain (g .marked) (other G is (i .α)) refl refl refl
       (g .marked .left, rw (g .head) small, rw (g .head) far, rw (g .head) st, rw (g .rest) (rest-onto i is (r .depth) (marked-kept (g .marked)) (omega arith) q)))
       (i .inner) (i .bad) j (rw (add-one, ← i .path .deep) (rw e at (i .result)))
 
   -- the next values of a `some`
   pub down-range : {w' : Words} {low high : ℕ} (l : ℕ) (x : ℤ) (n : ℕ) (F : Formula) (is : List Item) →
       Replaces (c .declared) w w' (r .depth) (binderNode w r (r .due .head) nextTodo low high) (i .α) (local l) (full (x +ℤ pos 0)) →
-      tree c (i .fr) (i .x) (i .α) ≡ fan x (suc n) (λ j. treeItems (c .declared) (innerIn (i .fr)) (form F ∷ is) (put (i .α) (local l) (full (x +ℤ pos j)))) →
+      tree c (i .fr) (i .x) (i .α) ≡ fan x (suc n) (λ j. treeItems (c .declared) (form F ∷ is) (boundSite l (siteIn (i .fr))) (put (i .α) (local l) (full (x +ℤ pos j)))) →
       Binds (c .declared) (c .tables) (r .due .head) l F → LeftAfter low high n (x +ℤ pos 1) → signed low ≡ x +ℤ pos 0 → Pend c w (r .depth) (r .due .rest) is →
       {d : Due} → Job c w' (r .depth + 1) d (the (form F ∷ is)) →
       Down c o w' (dueRegs r (r .depth + 1) d (r .inner) (r .bad))
   unfolding within sonsFrom
   down-range l x n F is a e bi le lo q j =
       onto (range l x 0 n F is (i .α)) (the (form F ∷ is)) (i .e)
-      (changed (local l) (full (x +ℤ pos 0)) a (range l x 0 n F is (i .α)) refl refl (λ h.
+      (changed (local l) (full (x +ℤ pos 0)) a refl (range l x 0 n F is (i .α)) refl refl (bound-other l) (λ none. contradiction cc) (λ h.
       let g = a .pushed in
       let at = g .linked in (
         at .marked .left,
@@ -139,15 +182,15 @@ module _ {c : World} {o : Bytes} {w : Words} {r : Regs} (i : In c o w r) where
 
   -- an inner tree to judge
   pub down-asks : {w' : Words} → Pushed w w' (r .depth) (askNode r) → (F : Formula) (q : Question) (is : List Item) →
-      (let I = treeItems (c .declared) true (form F ∷ []) (i .α) in
-      tree c (i .fr) (i .x) (i .α) ≡ ask I (sonOf (c .declared) (innerIn (i .fr)) (r .due .head) q is (verdict I) (i .α))) →
+      (let I = treeItems (c .declared) (form F ∷ []) (innerSite (siteIn (i .fr))) (i .α) in
+      tree c (i .fr) (i .x) (i .α) ≡ ask I (sonOf (c .declared) (r .due .head) q is (verdict I) (sonSite (siteIn (i .fr))) (i .α))) →
       r .due .head < maxTokens → Asks c (r .due .head) q → Pend c w (r .depth) (r .due .rest) is → {d : Due} → Job c w' (r .depth + 1) d (the (form F ∷ [])) →
-      Down c o w' (dueRegs r (r .depth + 1) d 1 0)
+      Down c o w' (dueRegs r (r .depth + 1) d (r .depth + 2) 0)
   down-asks g F q is e small a p j =
       let m = innerIn (i .fr) in
-      let son : Verdict → Tree = λ v. sonOf (c .declared) (innerIn (i .fr)) (r .due .head) q is v (i .α) in
+      let after : Verdict → Tree = λ v. sonOf (c .declared) (r .due .head) q is v (sonSite (siteIn (i .fr))) (i .α) in
       let at = g .linked in
-      let P = plain (at .marked) (asks (r .due .head) q is (i .α) (i .e)) refl refl (
+      let P = plain (at .marked) (asks (r .due .head) q is (i .α) (i .e)) refl refl refl (
         at .marked .left,
         at .head,
         small,
@@ -156,9 +199,9 @@ module _ {c : World} {o : Bytes} {w : Words} {r : Regs} (i : In c o w r) where
         g .bad ∙ i .bad,
         rw (at .rest) (rest-onto i is (r .depth) (marked-kept (at .marked)) (omega arith) p),
       ) in
-      let h = within-ask (conditionsOf c) (treeItems (c .declared) true (form F ∷ []) (i .α)) son m (suc (r .depth))
+      let h = within-ask (conditionsOf c) (treeItems (c .declared) (form F ∷ []) (innerSite (siteIn (i .fr))) (i .α)) after m (suc (r .depth))
       (yes c (i .fr)) (no c (i .fr)) (i .e) (r .tallies) (i .b) in
-      onto (asks (r .due .head) q is (i .α) (i .e)) (the (form F ∷ [])) false P refl refl j
+      onto (asks (r .due .head) q is (i .α) (i .e)) (the (form F ∷ [])) false P inner-number refl j
       (rw (add-one, ← i .path .deep) (sym h ∙ (rw e at (i .result))))
 
 -- ---- a step

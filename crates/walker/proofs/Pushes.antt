@@ -5,7 +5,7 @@ use native.Mathlib.Omega.{arith}
 use native.Mathlib.Numerals.{add-one}
 use mathlib.Core.Path.{_≡_, ap, _∙_}
 use mathlib.Core.List.{List, _∷_}
-use lib.ListN.{length, length-set}
+use lib.ListN.{length, getD, length-set}
 use lib.IntN.{ℤ}
 use Rattle.specification.specs.Bytes.{Bytes}
 use Rattle.specification.specs.Lines.{Declared}
@@ -41,17 +41,19 @@ pub record Replaces (D : Declared) (w w' : Words) (d : ℕ) (n : Node) (α : Val
   pub place : n .slot ≡ slotOf p
   pub inside : InTable p
   pub saved : Saved (n .had) (n .old) (α p)
+  pub mark : n .old ≡ getD w (slotOf p + 1) 0
   pub good : SlotIn D p s
   pub altered : Altered mid w' p s
 
-pub replaces : {w w' : Words} {d : ℕ} {n : Node} {flag value : ℕ} (D : Declared) (α : Valuation) (p : Place) (s : Slot) → Alters w w' d n flag value → n .slot ≡ slotOf p →
-    InTable p → Saved (n .had) (n .old) (α p) → SlotIn D p s → Saved flag value s → pathAt ≤ length w → Replaces D w w' d n α p s
-replaces {flag = flag} {value = value} D α p s g place inside saved good new size = record {
+unfoldable pub replaces : {w w' : Words} {d : ℕ} {n : Node} {flag value : ℕ} (D : Declared) (α : Valuation) (p : Place) (s : Slot) → Alters w w' d n flag value → n .slot ≡ slotOf p →
+    InTable p → Saved (n .had) (n .old) (α p) → n .old ≡ getD w (n .slot + 1) 0 → SlotIn D p s → Saved flag value s → pathAt ≤ length w → Replaces D w w' d n α p s
+replaces {w = w} {flag = flag} {value = value} D α p s g place inside saved mark good new size = record {
   mid = g .mid;
   pushed = g .pushed;
   place = place;
   inside = inside;
   saved = saved;
+  mark = mark ∙ ap (λ z. getD w (z + 1) 0) place;
   good = good;
   altered = alter p s flag value place inside (omega (arith, g .pushed .linked .marked .size)) new (g .words);
 }

@@ -12,7 +12,7 @@ use Rattle.specification.specs.Number.{in32}
 use Rattle.specification.specs.Ast.{Formula}
 use Rattle.specification.specs.Place.{local}
 use Rattle.specification.specs.Value.{Slot, empty, full}
-use Rattle.specification.specs.Tree.{grow}
+use Rattle.specification.proofs.Laws.Contradiction.{contradiction}
 use Rattle.specification.proofs.Laws.Place.{SlotIn}
 use Rattle.values.specs.Word.{biased, signed}
 use Rattle.values.proofs.Laws.Word.{biased-signed, signed-in32}
@@ -24,6 +24,7 @@ use Rattle.sheet.specs.Held.{operandAt, slotOf}
 use Rattle.walker.specs.declared.Due.{Due}
 use Rattle.walker.specs.declared.Regs.{Regs}
 use Rattle.walker.specs.Frame.{form, again, the, treeItems}
+use Rattle.walker.specs.Site.{growAt}
 use Rattle.walker.specs.Path.{World, Saved}
 use Rattle.walker.specs.Stands.{Binds, bodyOf}
 use Rattle.walker.specs.Sim.{In, Down}
@@ -32,33 +33,33 @@ use Rattle.walker.specs.Registers.{formulaDue, dueRegs}
 use Rattle.walker.specs.Binding.{Local, Middle, binderSlot, binderNode, Alters}
 use Rattle.walker.specs.States.{undoTodo, nextTodo}
 use Rattle.walker.proofs.Here.{code-here, operand-here, end-here, local-operand, body-here}
-use Rattle.walker.proofs.Slots.{saved-here}
+use Rattle.walker.proofs.Slots.{saved-here, alter}
 use Rattle.walker.proofs.Heads.{at-form, form-tree}
 use Rattle.walker.proofs.Pushes.{Replaces, replaces, replaces-kept, formula-job, rest-onto, cons-again}
-use Rattle.walker.proofs.Onto.{down-undo, down-range}
+use Rattle.walker.proofs.Onto.{down-bound, down-range}
 
 -- ---- the slot of the quantifier's local
 
 module _ {c : World} {o : Bytes} {w : Words} {r : Regs} (i : In c o w r) (h l : ℕ) (small : l < maxLocals) (is : operandAt w (suc h) ≡ l) where
-  slot-is : binderSlot w h ≡ slotOf (local l)
+  pub slot-is : binderSlot w h ≡ slotOf (local l)
   slot-is = rw (add-one h, is)
 
   -- the slot s in the place of the one that the quantifier's node saves
-  pub bound : {w' : Words} {n : Node} {todo current last flag value : ℕ} (s : Slot) → n ≡ binderNode w r h todo current last →
+  unfoldable pub bound : {w' : Words} {n : Node} {todo current last flag value : ℕ} (s : Slot) → n ≡ binderNode w r h todo current last →
       Alters w w' (r .depth) n flag value → SlotIn (c .declared) (local l) s → Saved flag value s →
       Replaces (c .declared) w w' (r .depth) (binderNode w r h todo current last) (i .α) (local l) s
   bound {w'} {flag = flag} {value = value} s e g good new =
       replaces (c .declared) (i .α) (local l) s (subst (λ m. Alters w w' (r .depth) m flag value) e g) slot-is small
-      (subst (λ z. Saved (getD w z 0) (getD w (z + 1) 0) (i .α (local l))) (sym slot-is) (saved-here w (i .α) (i .path .holds) (local l) small)) good new
+      (subst (λ z. Saved (getD w z 0) (getD w (z + 1) 0) (i .α (local l))) (sym slot-is) (saved-here w (i .α) (i .path .holds) (local l) small)) refl good new
       (omega (arith, i .path .size))
 
 -- ---- the steps
 
 -- `ex`: the local starts without a value
-pub ex-down : {w w' : Words} {r : Regs} {d : Due} {n : Node} → Entered w r exCode → n ≡ binderNode w r (r .due .head) undoTodo 0 0 → Alters w w' (r .depth) n 0 0 →
+pub ex-down : {w w' : Words} {r : Regs} {d : Due} {n : Node} → Entered w r exCode → n ≡ binderNode w r (r .due .head) undoTodo 0 0 → Alters w w' (r .depth) n 0 (r .depth + 1) →
     d ≡ formulaDue w' (r .due .head + 2) (r .due .rest) →
     (c : World) (o : Bytes) → In c o w r → Down c o w' (dueRegs r (r .depth + 1) d (r .inner) (r .bad))
-unfolding grow treeItems
+unfolding growAt treeItems bound replaces alter
 ex-down {w} {w'} {r} x e g k c o i =
     let a = at-form i (x .formula) (x .code) in
     let b = a .under in
@@ -67,7 +68,7 @@ ex-down {w} {w'} {r} x e g k c o i =
     let m = bound i (r .due .head) (b .l) (b .small) is empty e g tt refl in
     let a′ = replaces-kept m in
     let two : r .due .head + 2 ≡ suc (suc (r .due .head)) = omega arith in
-    down-undo i (local (b .l)) empty m refl (the (form (b .body) ∷ a .is)) (form-tree i a ∙ rw (b .is))
+    down-bound i (b .l) empty m refl refl (λ _. add-one (r .depth)) (the (form (b .body) ∷ a .is)) (form-tree i a ∙ rw (b .is))
     (rw (k, two)
     (formula-job c w' (r .depth + 1) (suc (suc (r .due .head))) (r .due .rest) (b .body) (a .is) (λ j z. a′ .tokens j z ∙ i .path .tokens j z) near (b .under)
     (rest-onto i (a .is) (r .depth + 1) a′ (omega arith) (a .rest))))
@@ -104,7 +105,7 @@ module _ {w w' : Words} {r : Regs} {d : Due} {n : Node} {value last b : ℕ} whe
       let good : T (in32 v) = subst (λ z. T (in32 z)) at (signed-in32 value fits) in
       let s = bound i h l (q .small) (local-operand (c .tables) w (i .path .tokens) q) (full v) e g good (refl, word-of value v at) in
       let a = replaces-kept s in
-      down-undo i (local l) (full v) s refl (the (form F ∷ again l F m (v +ℤ pos 1) ∷ is)) tree
+      down-bound i l (full v) s refl refl (λ none. contradiction cc) (the (form F ∷ again l F m (v +ℤ pos 1) ∷ is)) tree
       (rw (k, eb, body-here (c .tables) w (i .path .tokens) q)
       (formula-job c w' (r .depth + 1) (bodyOf (c .tables) h) (r .depth + 1) F (again l F m (v +ℤ pos 1) ∷ is) (λ j z. a .tokens j z ∙ i .path .tokens j z) (q .inside)
       (q .body) (cons-again i s l F m (v +ℤ pos 1) is (sym (code-here (c .tables) w (i .path .tokens) (omega arith)) ∙ x .code) q left rest)))

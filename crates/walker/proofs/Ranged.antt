@@ -3,7 +3,6 @@
 use Prim.Native.Nat.{ℕ, suc, _+_, _-_, _≤_, _<_}
 use native.Mathlib.Omega.{arith}
 use mathlib.Core.Path.{_≡_, refl, sym, _∙_, ap, subst}
-use mathlib.Core.Bool.{Bool}
 use mathlib.Core.List.{List}
 use lib.IntN.{ℤ, pos, _+ℤ_}
 use Rattle.specification.specs.Bytes.{Bytes}
@@ -11,7 +10,7 @@ use Rattle.specification.specs.Lines.{Declared}
 use Rattle.specification.specs.Ast.{Term, Formula}
 use Rattle.specification.specs.Arithmetic.{count}
 use Rattle.specification.specs.Value.{Valuation, pairOf, side}
-use Rattle.specification.specs.Tree.{Rest, bounded, grow}
+use Rattle.specification.specs.Tree.{bounded}
 use Rattle.specification.proofs.Laws.Value.{sane-val}
 use Rattle.values.specs.Word.{signed}
 use Rattle.values.proofs.Laws.Word.{signed-count, biased-word}
@@ -21,7 +20,8 @@ use Rattle.sheet.specs.Held.{endAt}
 use Rattle.terms.specs.declared.Sides.{Sides}
 use Rattle.terms.specs.Results.{Valued, valueTag}
 use Rattle.walker.specs.declared.Regs.{Regs}
-use Rattle.walker.specs.Frame.{Item, treeItems, innerIn}
+use Rattle.walker.specs.Frame.{Item, treeItems, siteIn}
+use Rattle.walker.specs.Site.{Site, RestAt, growAt}
 use Rattle.walker.specs.Path.{World, Pend}
 use Rattle.walker.specs.Stands.{Binds, bodyOf, LeftAfter}
 use Rattle.walker.specs.Sim.{tree, In}
@@ -66,11 +66,11 @@ module _ (low high : ℕ) (x y : ℤ) (b : Bounds low high x y) where
 -- its code n, its formula, and the tree that its first value and their number lead to
 pub record Quantifier (n : ℕ) : Type 0 where
   pub make : ℕ → ℕ → Term → Term → Formula → Formula
-  pub over : Declared → Bool → ℕ → Formula → Rest → ℤ → ℕ → Rest
+  pub over : Declared → ℕ → Formula → RestAt → ℤ → ℕ → RestAt
   pub says : (D : Declared) (t : Words) (h : ℕ) (F : Formula) → Says D t h n F → Ranges D t h (make h) F
   pub grows :
-      (D : Declared) (m : Bool) (tok l : ℕ) (a b : Term) (F : Formula) (k : Rest) (α : Valuation) →
-      grow D m (make tok l a b F) k α ≡ bounded tok (pairOf (side D α a) (side D α b)) (λ x y. over D m l F k x (count x y)) α
+      (D : Declared) (tok l : ℕ) (a b : Term) (F : Formula) (k : RestAt) (s : Site) (α : Valuation) →
+      growAt D (make tok l a b F) k s α ≡ bounded tok (pairOf (side D α a) (side D α b)) (λ x y. over D l F k x (count x y) s) α
 
 module _ {n : ℕ} (Q : Quantifier n) {w : Words} {r : Regs} (x : Entered w r n) where
   abbrev pub quantifier : (c : World) (o : Bytes) (i : In c o w r) → Ranges (c .declared) (c .tables) (r .due .head) (Q .make (r .due .head)) (at-form i (x .formula) (x .code) .F)
@@ -81,15 +81,15 @@ module _ {n : ℕ} (Q : Quantifier n) {w : Words} {r : Regs} (x : Entered w r n)
       tree c (i .fr) (i .x) (i .α) ≡
       bounded (r .due .head) (pairOf (side (c .declared) (i .α) (quantifier c o i .low)) (side (c .declared) (i .α) (quantifier c o i .high)))
       (λ y z.
-      Q .over (c .declared) (innerIn (i .fr)) (quantifier c o i .l) (quantifier c o i .body) (λ β. treeItems (c .declared) (innerIn (i .fr)) (at-form i (x .formula) (x .code) .is) β) y
-      (count y z))
+      Q .over (c .declared) (quantifier c o i .l) (quantifier c o i .body) (λ t β. treeItems (c .declared) (at-form i (x .formula) (x .code) .is) t β) y (count y z)
+      (siteIn (i .fr)))
       (i .α)
   grown c o i =
       let a = at-form i (x .formula) (x .code) in
       let q = quantifier c o i in
-      let k : Rest = λ β. treeItems (c .declared) (innerIn (i .fr)) (a .is) β in
-      form-tree i a ∙ ap (λ F. grow (c .declared) (innerIn (i .fr)) F k (i .α)) (q .is) ∙
-      Q .grows (c .declared) (innerIn (i .fr)) (r .due .head) (q .l) (q .low) (q .high) (q .body) k (i .α)
+      let k : RestAt = λ t β. treeItems (c .declared) (a .is) t β in
+      form-tree i a ∙ ap (λ F. growAt (c .declared) F k (siteIn (i .fr)) (i .α)) (q .is) ∙
+      Q .grows (c .declared) (r .due .head) (q .l) (q .low) (q .high) (q .body) k (siteIn (i .fr)) (i .α)
 
   unfoldable pub range-terms : Terms w r (r .due .head + 2) (bodyOf w (r .due .head))
   range-terms = record {
@@ -114,7 +114,7 @@ module _ {n : ℕ} (Q : Quantifier n) {w : Words} {r : Regs} (x : Entered w r n)
       pub body : Formula
       pub binds : Binds (c .declared) (c .tables) (r .due .head) local body
       pub rest : Pend c w' (r .depth) (r .due .rest) is
-      pub grown : tree c (i .fr) (i .x) (i .α) ≡ Q .over (c .declared) (innerIn (i .fr)) local body (λ β. treeItems (c .declared) (innerIn (i .fr)) is β) y (count y z) (i .α)
+      pub grown : tree c (i .fr) (i .x) (i .α) ≡ Q .over (c .declared) local body (λ t β. treeItems (c .declared) is t β) y (count y z) (siteIn (i .fr)) (i .α)
 
     pub valuable : (c : World) (o : Bytes) (i : In c o w' r) → Valuable c o i
     unfolding range-terms back in-spare bounded pairOf
@@ -144,7 +144,7 @@ module _ {n : ℕ} (Q : Quantifier n) {w : Words} {r : Regs} (x : Entered w r n)
     -- the first value, and how many are left after it
     pub first-value : s .left ≤ s .right → (c : World) (o : Bytes) (i : In c o w' r) →
         (b : ℕ) × (F : Formula) × (m : ℕ) × (y : ℤ) × (is : List Item)
-        × (tree c (i .fr) (i .x) (i .α) ≡ Q .over (c .declared) (innerIn (i .fr)) b F (λ β. treeItems (c .declared) (innerIn (i .fr)) is β) y (suc m) (i .α))
+        × (tree c (i .fr) (i .x) (i .α) ≡ Q .over (c .declared) b F (λ t β. treeItems (c .declared) is t β) y (suc m) (siteIn (i .fr)) (i .α))
         × Binds (c .declared) (c .tables) (r .due .head) b F
         × LeftAfter (s .left) (s .right) m (y +ℤ pos 1)
         × (signed (s .left) ≡ y)

@@ -1,5 +1,5 @@
 -- Going up: the topmost node is left, with its slot as it was. Assumes nothing.
-use Prim.Native.Nat.{ℕ, _+_, _*_, _-_, _<_}
+use Prim.Native.Nat.{ℕ, suc, _+_, _*_, _-_, _<_}
 use native.Mathlib.Omega.{arith}
 use mathlib.Core.Path.{_≡_, refl, sym, _∙_, ap, subst}
 use mathlib.Core.List.{List, [], _∷_}
@@ -10,22 +10,24 @@ use Rattle.specification.specs.Bytes.{Bytes}
 use Rattle.specification.specs.Ast.{Formula}
 use Rattle.specification.specs.Place.{Place, local, put}
 use Rattle.specification.specs.Value.{Slot, full, Valuation}
+use Rattle.specification.proofs.Laws.Place.{put-other}
 use Rattle.specification.specs.Run.{going}
 use Rattle.specification.specs.Outcome.{resultOf}
 use Rattle.tables.specs.Layout.{pathAt}
-use Rattle.tables.specs.Node.{todoAt, slotAt, hadAt, oldAt, currentAt, lastAt}
+use Rattle.tables.specs.Node.{todoAt, slotAt, hadAt, oldAt, currentAt, lastAt, innerAt}
 use Rattle.tables.specs.Kept.{Kept}
 use Rattle.sheet.specs.Tables.{Words}
 use Rattle.sheet.specs.Held.{Holds}
 use Rattle.walker.specs.declared.Regs.{Regs}
 use Rattle.walker.specs.Walk.{sonsFrom}
-use Rattle.walker.specs.Frame.{Item, Frame, pass, other, undo, range, asks, here, below, len}
-use Rattle.walker.specs.Path.{World, bit, Saved, Changed, Path}
+use Rattle.walker.specs.Frame.{Item, Frame, pass, other, bound, given, range, asks, here, below, len, siteIn}
+use Rattle.walker.specs.Site.{boundSite}
+use Rattle.walker.specs.Path.{World, Saved, Marks, Changed, Path}
 use Rattle.walker.specs.Sim.{yes, no, Up, Yes, Sim, over, up, won}
 use Rattle.walker.specs.Registers.{popRegs, stopRegs}
 use Rattle.walker.specs.Loop.{Topped, Rising, Rose, Exhausted, Leaves, Restores}
 use Rattle.walker.specs.States.{upMode, wonMode, otherTodo, undoTodo, nextTodo, judgeTodo, doneEnd}
-use Rattle.walker.proofs.Slots.{in-table, Altered, alter, holds-back}
+use Rattle.walker.proofs.Slots.{in-table, Altered, alter, holds-back, altered-marks}
 use Rattle.walker.proofs.Whole.{altered-kept, path-pop}
 use Rattle.walker.proofs.Tops.{top-index, top-undo, top-range}
 
@@ -47,37 +49,47 @@ module _ {w : Words} {r : Regs} (u : Rising w r) (some : 0 < r .depth) where
       (todoAt w (r .depth - 1) ≡ otherTodo → r .mode ≡ upMode → ⊥) → Leaves w r
   leaves n2 n3 n4 n1 = record { at = u; some = some; back = λ c α fr P. go c α fr P }
     where
-      go : (c : World) (α : Valuation) (fr : List Frame) → Path c w (r .depth) α fr → (s : Exhausted c r fr) × (below (s .top) ≡ here (s .top))
+      go : (c : World) (α : Valuation) (fr : List Frame) → Path c w (r .depth) α fr → (s : Exhausted c r fr) × (below (s .top) ≡ here (s .top)) × (siteIn fr .inner ≡ siteIn (s .under) .inner) × (siteIn fr .marks ≡ siteIn (s .under) .marks)
       go c α [] P = let deep = P .deep in absurd (omega arith)
       go c α (pass β ∷ fr) P =
-          (record { top = pass β; under = fr; parts = refl; same-inner = refl; same-no = λ m. refl; same-yes = refl }, refl)
+          (record { top = pass β; under = fr; parts = refl; same-no = λ m. refl; same-yes = refl }, refl, refl, refl)
       go c α (other G is β ∷ fr) P = (
         record {
           top = other G is β;
           under = fr;
           parts = refl;
-          same-inner = refl;
           same-no = λ m. absurd (n1 (ap (todoAt w) (top-index P) ∙ P .stack .0 .0) m);
           same-yes = refl;
         },
         refl,
+        refl,
+        refl,
       )
-      go c α (undo p s β ∷ fr) P = absurd (n2 (ap (todoAt w) (top-index P) ∙ P .stack .0 .0))
+      go c α (bound l s β ∷ fr) P = absurd (n2 (ap (todoAt w) (top-index P) ∙ P .stack .0 .0))
+      go c α (given p v β ∷ fr) P = absurd (n2 (ap (todoAt w) (top-index P) ∙ P .stack .0 .0))
       go c α (range l x i n F is β ∷ fr) P = absurd (n3 (ap (todoAt w) (top-index P) ∙ P .stack .0 .0))
       go c α (asks tok q is β e ∷ fr) P = absurd (n4 (ap (todoAt w) (top-index P) ∙ P .stack .0 .0))
 
   -- a slot is to be put back
   abbrev Backed : World → List Frame → Type 0
   Backed c fr =
-      (s : Exhausted c r fr) × (p : Place) × (v : Slot) × (below (s .top) ≡ put (here (s .top)) p v) × Changed w (len (s .under)) p (here (s .top))
+      (s : Exhausted c r fr) × (p : Place) × (v : Slot)
+      × (below (s .top) ≡ put (here (s .top)) p v)
+      × Changed w (len (s .under)) p (siteIn (s .under)) (here (s .top))
+      × ((q : Place) → ¬ (q ≡ p) → siteIn fr .marks q ≡ siteIn (s .under) .marks q)
+
+  bound-marks : (l : ℕ) (fr : List Frame) (q : Place) → ¬ (q ≡ local l) → boundSite l (siteIn fr) .marks q ≡ siteIn fr .marks q
+  bound-marks l fr q n = put-other (siteIn fr .marks) (local l) (suc (siteIn fr .depth)) q n
 
   pub undo-restores : todoAt w (r .depth - 1) ≡ undoTodo → Restores w r
   undo-restores t = record {
     at = u;
     some = some;
     back = λ c α fr P. top-undo (Backed c) some t
-        (λ p s β fr P.
-        (record { top = undo p s β; under = fr; parts = refl; same-inner = refl; same-no = λ m. refl; same-yes = refl }, p, s, refl, P .stack .0 .1)) fr P;
+        (λ l s β fr P.
+        (record { top = bound l s β; under = fr; parts = refl; same-no = λ m. refl; same-yes = refl }, local l, s, refl, P .stack .0 .1, bound-marks l fr))
+        (λ p v β fr P.
+        (record { top = given p v β; under = fr; parts = refl; same-no = λ m. refl; same-yes = refl }, p, full v, refl, P .stack .0 .1, λ q n. refl)) fr P;
   }
 
   -- no value is left
@@ -98,8 +110,7 @@ module _ {w : Words} {r : Regs} (u : Rising w r) (some : 0 < r .depth) where
             top = range l x i n F is β;
             under = fr;
             parts = refl;
-            same-inner = refl;
-            same-no = λ m.
+              same-no = λ m.
                 let h : ¬ (currentAt w (len fr) < lastAt w (len fr)) = rw e at (last m) in
                 none-left c l x i n F is β fr (omega (arith, a .count, h));
             same-yes = refl;
@@ -108,6 +119,7 @@ module _ {w : Words} {r : Regs} (u : Rising w r) (some : 0 < r .depth) where
           full (x +ℤ pos i),
           refl,
           P .stack .0 .1,
+          bound-marks l fr,
         )) fr P;
   }
 
@@ -118,61 +130,74 @@ module _ {c : World} {w : Words} {r : Regs} {α : Valuation} {fr : List Frame} (
   parted : Path c w (r .depth) α (x .top ∷ x .under)
   parted = subst (Path c w (r .depth) α) (x .parts) P
 
-  popped : {w' : Words} → Kept (len (x .under)) w w' → Holds w' (here (x .top)) → Path c w' (r .depth - 1) (here (x .top)) (x .under)
-  popped k h = path-pop parted k h
+  popped : {w' : Words} → Kept (len (x .under)) w w' → Holds w' (here (x .top)) → Marks w' (here (x .top)) (siteIn (x .under) .marks) →
+      Path c w' (r .depth - 1) (here (x .top)) (x .under)
+  popped k h m = path-pop parted k h m
 
-module _ {c : World} {o : Bytes} {w w' : Words} {r : Regs} where
-  leave-up : (u : Up c o w r) (x : Exhausted c r (u .fr)) → r .mode ≡ upMode → Kept (len (x .under)) w w' → Holds w' (here (x .top)) → Sim c o w' (popRegs r)
-  leave-up u x m k h =
+-- words and a register with which the frame on top can be left
+record Leavable (c : World) (w w' : Words) (r : Regs) (fr : List Frame) (inner : ℕ) : Type 0 where
+  gone : Exhausted c r fr
+  kept : Kept (len (gone .under)) w w'
+  holds : Holds w' (here (gone .top))
+  marks : Marks w' (here (gone .top)) (siteIn (gone .under) .marks)
+  register : r .inner ≡ siteIn fr .inner → inner ≡ siteIn (gone .under) .inner
+
+module _ {c : World} {o : Bytes} {w w' : Words} {r : Regs} {inner : ℕ} where
+  leave-up : (u : Up c o w r) → Leavable c w w' r (u .fr) inner → r .mode ≡ upMode → Sim c o w' (popRegs r inner)
+  leave-up u l m =
+      let x = l .gone in
       up m
       (record {
         fr = x .under;
         α = here (x .top);
         e = u .e;
         b = u .b;
-        path = popped (u .path) x k h;
-        inner = u .inner ∙ ap bit (x .same-inner);
+        path = popped (u .path) x (l .kept) (l .holds) (l .marks);
+        inner = l .register (u .inner);
         bad = u .bad;
         out = u .out;
         count = u .count;
         result = ap (λ f. f (u .e) (r .tallies) (u .b)) (sym (x .same-no m)) ∙ u .result;
       })
 
-  leave-yes : (u : Yes c o w r) (x : Exhausted c r (u .fr)) → r .mode ≡ wonMode → Kept (len (x .under)) w w' → Holds w' (here (x .top)) → Sim c o w' (popRegs r)
-  leave-yes u x m k h =
+  leave-yes : (u : Yes c o w r) → Leavable c w w' r (u .fr) inner → r .mode ≡ wonMode → Sim c o w' (popRegs r inner)
+  leave-yes u l m =
+      let x = l .gone in
       won m
       (record {
         fr = x .under;
         α = here (x .top);
         b = u .b;
-        path = popped (u .path) x k h;
+        path = popped (u .path) x (l .kept) (l .holds) (l .marks);
         out = u .out;
         count = u .count;
         result = ap (λ f. f (r .tallies) (u .b)) (sym (x .same-yes)) ∙ u .result;
       })
 
--- words where the frame on top can be left
-record Leavable (c : World) (w w' : Words) (r : Regs) (fr : List Frame) : Type 0 where
-  gone : Exhausted c r fr
-  kept : Kept (len (gone .under)) w w'
-  holds : Holds w' (here (gone .top))
-
-rose : {w w' : Words} {r : Regs} → 0 < r .depth → ((c : World) (α : Valuation) (fr : List Frame) → Path c w (r .depth) α fr → Leavable c w w' r fr) →
-    Rose w w' r (popRegs r)
+rose : {w w' : Words} {r : Regs} {inner : ℕ} → 0 < r .depth → ((c : World) (α : Valuation) (fr : List Frame) → Path c w (r .depth) α fr → Leavable c w w' r fr inner) →
+    Rose w w' r (popRegs r inner)
 rose some f = record {
-  ups = λ c o m u. let s = f c (u .α) (u .fr) (u .path) in leave-up u (s .gone) m (s .kept) (s .holds);
-  yes = λ c o m u. let s = f c (u .α) (u .fr) (u .path) in leave-yes u (s .gone) m (s .kept) (s .holds);
+  ups = λ c o m u. leave-up u (f c (u .α) (u .fr) (u .path)) m;
+  yes = λ c o m u. leave-yes u (f c (u .α) (u .fr) (u .path)) m;
   nodes = refl;
   falls = omega arith;
+  modes = inl refl;
 }
 
 kept-same : (n : ℕ) (w : Words) → Kept n w w
 kept-same n w = record { tokens = λ j h. refl; firsts = λ j h k. refl; nodes = record { same = λ j h k. refl }; size = refl }
 
-pub left : {w : Words} {r : Regs} → Leaves w r → Rose w w r (popRegs r)
+pub left : {w : Words} {r : Regs} → Leaves w r → Rose w w r (popRegs r (r .inner))
 left {w} x = rose (x .some) (λ c α fr P.
     let s = x .back c α fr P in
-    record { gone = s .0; kept = kept-same (len (s .0 .under)) w; holds = subst (Holds w) (parted P (s .0) .chain .0 ∙ s .1) (P .holds) })
+    let e = parted P (s .0) .chain .0 ∙ s .1 in
+    record {
+      gone = s .0;
+      kept = kept-same (len (s .0 .under)) w;
+      holds = subst (Holds w) e (P .holds);
+      marks = rw (e, s .3) at (P .marks);
+      register = λ h. h ∙ s .2;
+    })
 
 module _ {w : Words} {r : Regs} (x : Restores w r) where
   -- the slot's two words are there
@@ -185,20 +210,25 @@ module _ {w : Words} {r : Regs} (x : Restores w r) where
       let z = in-table (s .1) (h .inside) in
       rw e (omega (arith, h .slot, z .high))
 
-  pub restored : {w' : Words} {i had old : ℕ} → i ≡ slotAt w (r .depth - 1) → had ≡ hadAt w (r .depth - 1) → old ≡ oldAt w (r .depth - 1) →
-      w' ≡ set (set w i had) (i + 1) old → Rose w w' r (popRegs r)
-  restored {w'} {i} {had} {old} ei eh eo words = rose (x .some) (λ c α fr P.
+  pub restored : {w' : Words} {i had old inner : ℕ} → i ≡ slotAt w (r .depth - 1) → had ≡ hadAt w (r .depth - 1) → old ≡ oldAt w (r .depth - 1) →
+      inner ≡ innerAt w (r .depth - 1) → w' ≡ set (set w i had) (i + 1) old → Rose w w' r (popRegs r inner)
+  unfolding alter
+  restored {w'} {i} {had} {old} ei eh eo en words = rose (x .some) (λ c α fr P.
       let s = x .back c α fr P in
       let p = s .1 in
       let β = here (s .0 .top) in
       let h = s .4 in
       let e : r .depth - 1 ≡ len (s .0 .under) = top-index (parted P (s .0)) in
+      let under = parted P (s .0) .chain .0 ∙ s .3 in
       let saved : Saved had old (β p) = rw (eh, eo, e) (h .saved) in
       let a : Altered w w' p (β p) = alter p (β p) had old (ei ∙ ap (slotAt w) e ∙ h .slot) (h .inside) (omega (arith, P .size)) saved words in
       record {
         gone = s .0;
         kept = altered-kept (len (s .0 .under)) (h .inside) a;
-        holds = holds-back a (h .inside) β (s .2) refl (subst (Holds w) (parted P (s .0) .chain .0 ∙ s .3) (P .holds));
+        holds = holds-back a (h .inside) β (s .2) refl (subst (Holds w) under (P .holds));
+        marks = altered-marks a (h .inside) (put β p (s .2)) β (siteIn fr .marks) (siteIn (s .0 .under) .marks) (subst (λ γ. Marks w γ (siteIn fr .marks)) under (P .marks))
+            (λ q n. sym (put-other β p (s .2) q n)) (λ q n. sym (s .5 q n)) (λ none. rw e at eo ∙ h .mark none);
+        register = λ _. rw e at en ∙ h .inner;
       })
 
 -- ---- the path has no node
@@ -219,7 +249,7 @@ module _ {c : World} {o : Bytes} {w : Words} {r : Regs} (none : r .depth ≡ 0) 
       go (f ∷ fr) e q = absurd (omega arith)
 
 pub finished : {w : Words} {r : Regs} → Rising w r → r .depth ≡ 0 → Rose w w r (stopRegs r doneEnd)
-finished {w} {r} u none = record { ups = λ c o m. over-up none; yes = λ c o m. over-yes none; nodes = refl; falls = go (u .mode) }
+finished {w} {r} u none = record { ups = λ c o m. over-up none; yes = λ c o m. over-yes none; nodes = refl; falls = go (u .mode); modes = inr (omega arith) }
   where
     go : (r .mode ≡ upMode) ⊎ (r .mode ≡ wonMode) → 2 * r .depth + 0 < 2 * r .depth + r .mode
     go (inl e) = omega arith

@@ -5,7 +5,6 @@ use native.Mathlib.Numerals.{add-one}
 use mathlib.Core.Path.{_≡_, _∙_}
 use mathlib.Core.List.{[], _∷_}
 use Rattle.specification.specs.Bytes.{Bytes}
-use Rattle.specification.specs.Tree.{grow}
 use Rattle.tables.specs.Node.{Marked, Linked}
 use Rattle.tables.specs.Codes.{trueCode, andCode, orCode}
 use Rattle.tables.specs.Layout.{maxTokens}
@@ -14,6 +13,7 @@ use Rattle.sheet.specs.Tables.{Words}
 use Rattle.walker.specs.declared.Due.{Due}
 use Rattle.walker.specs.declared.Regs.{Regs}
 use Rattle.walker.specs.Frame.{form, again, What, the, success, failure, error, treeItems}
+use Rattle.walker.specs.Site.{growAt}
 use Rattle.walker.specs.Path.{World, Job}
 use Rattle.walker.specs.Sim.{Down, In}
 use Rattle.walker.specs.Steps.{Leads, Listed, Entered, GoesOn, OneLeaf}
@@ -54,7 +54,7 @@ module _ {w w' : Words} {r : Regs} (g : Marked w w' (r .depth) noTodo) where
 
 -- `true`
 pub true-goes : {w : Words} {r : Regs} → Entered w r trueCode → GoesOn w r
-unfolding grow
+unfolding growAt
 true-goes x = record {
   at = x .at;
   son = λ c o i. let a = at-form i (x .formula) (x .code) in (a .is, form-tree i a ∙ rw (a .under), a .rest);
@@ -74,7 +74,7 @@ or-near x = omega (arith, at-form (x .at .ins) (x .formula) (x .code) .under .ne
 -- `and`: the node is the list's next cell
 pub and-down : {w w' : Words} {r : Regs} {d : Due} → Entered w r andCode → Linked w w' (r .depth) (r .due .head) (r .due .rest) noTodo → d ≡ formulaDue w' (r .due .head + 1) (r .depth + 1) →
     (c : World) (o : Bytes) → In c o w r → Down c o w' (dueRegs r (r .depth + 1) d (r .inner) (r .bad))
-unfolding grow treeItems
+unfolding growAt treeItems
 and-down {w' = w'} {r = r} x g k c o i =
     let a = at-form i (x .formula) (x .code) in
     let b = a .under in
@@ -87,7 +87,7 @@ and-down {w' = w'} {r = r} x g k c o i =
 -- `or`: its second part is left for later
 pub or-down : {w w' : Words} {r : Regs} {d : Due} → Entered w r orCode → Linked w w' (r .depth) (r .due .head) (r .due .rest) otherTodo → d ≡ formulaDue w' (r .due .head + 1) (r .due .rest) →
     (c : World) (o : Bytes) → In c o w r → Down c o w' (dueRegs r (r .depth + 1) d (r .inner) (r .bad))
-unfolding grow treeItems
+unfolding growAt treeItems
 or-down {w' = w'} {r = r} x g k c o i =
     let a = at-form i (x .formula) (x .code) in
     let b = a .under in

@@ -12,7 +12,7 @@ use Rattle.tables.specs.Layout.{cellsAt, firstsAt, pathAt}
 use Rattle.tables.specs.Kept.{SameSlots}
 use Rattle.sheet.specs.Tables.{Words}
 use Rattle.sheet.specs.Held.{SlotAt, slotOf, Holds}
-use Rattle.walker.specs.Path.{Saved, InTable}
+use Rattle.walker.specs.Path.{Saved, InTable, Marks}
 
 -- ---- a slot for each place
 
@@ -60,11 +60,19 @@ holds-keep {w} {w'} {α} u h = holds-all w' α (λ p q.
     slot-keep w w' (slotOf p) (α p) (u .same (slotOf p) (z .low) (omega (arith, z .high))) (u .same (suc (slotOf p)) (omega (arith, z .low)) (omega (arith, z .high)))
     (slot-held w α h p q))
 
+pub marks-keep : {w w' : Words} {α : Valuation} {m : Place → ℕ} → SameSlots w w' → Marks w α m → Marks w' α m
+marks-keep u h p q e =
+    let z = in-table p q in
+    u .same (slotOf p + 1) (omega (arith, z .low)) (omega (arith, z .high)) ∙ h p q e
+
 -- ---- words with the slot s at p, and every other word as it was
 
 pub record Altered (w w' : Words) (p : Place) (s : Slot) : Type 0 where
   pub others : (j : ℕ) → ¬ (j ≡ slotOf p) → ¬ (j ≡ slotOf p + 1) → getD w' j 0 ≡ getD w j 0
   pub now : SlotAt w' (slotOf p) s
+  -- the slot's second word
+  pub word : ℕ
+  pub second : getD w' (slotOf p + 1) 0 ≡ word
   pub size : length w' ≡ length w
 
 module _ {w w' : Words} {p : Place} {s : Slot} (a : Altered w w' p s) (h : InTable p) where
@@ -94,13 +102,25 @@ module _ {w w' : Words} {p : Place} {s : Slot} (a : Altered w w' p s) (h : InTab
   pub holds-back : (α : Valuation) (s′ : Slot) → α p ≡ s → Holds w (put α p s′) → Holds w' α
   holds-back α s′ e x = altered-holds (put α p s′) α x (λ q n. sym (put-other α p s′ q n)) e
 
+  -- marks that are the same elsewhere, where p's is the second word
+  pub altered-marks : (α β : Valuation) (m n : Place → ℕ) → Marks w α m → ((q : Place) → ¬ (q ≡ p) → β q ≡ α q) → ((q : Place) → ¬ (q ≡ p) → n q ≡ m q) →
+      (β p ≡ empty → a .word ≡ n p) → Marks w' β n
+  altered-marks α β m n x off same on q k = go (place-dec q p)
+    where
+      go : Dec (q ≡ p) → β q ≡ empty → getD w' (slotOf q + 1) 0 ≡ n q
+      go (yes e) none = rw e (a .second ∙ on (rw e at none))
+      go (no f) none =
+          let at0 : ¬ (slotOf q + 1 ≡ slotOf p) = λ e. slots-apart q p f k h 1 0 (omega arith) (omega arith) (omega arith) in
+          let at1 : ¬ (slotOf q + 1 ≡ slotOf p + 1) = λ e. slots-apart q p f k h 1 1 (omega arith) (omega arith) (omega arith) in
+          a .others (slotOf q + 1) at0 at1 ∙ x q k (sym (off q f) ∙ none) ∙ sym (same q f)
+
 -- ---- how the code alters a slot
 
-slot-of-saved : (w : Words) (i had old : ℕ) (s : Slot) → Saved had old s → getD w i 0 ≡ had → getD w (i + 1) 0 ≡ old → SlotAt w i s
+pub slot-of-saved : (w : Words) (i had old : ℕ) (s : Slot) → Saved had old s → getD w i 0 ≡ had → getD w (i + 1) 0 ≡ old → SlotAt w i s
 slot-of-saved w i had old empty q e f = e ∙ q
 slot-of-saved w i had old (full z) q e f = (e ∙ q .0, rw add-one at (f ∙ q .1))
 
-pub alter : {w w' : Words} {i : ℕ} (p : Place) (s : Slot) (had old : ℕ) → i ≡ slotOf p → InTable p → pathAt ≤ length w → Saved had old s →
+unfoldable pub alter : {w w' : Words} {i : ℕ} (p : Place) (s : Slot) (had old : ℕ) → i ≡ slotOf p → InTable p → pathAt ≤ length w → Saved had old s →
     w' ≡ set (set w i had) (i + 1) old → Altered w w' p s
 alter {w} {w'} {i} p s had old e h z q words =
     let k = in-table p h in
@@ -112,5 +132,7 @@ alter {w} {w'} {i} p s had old e h z q words =
     record {
       others = λ j m n. rw (words, getD-set-other w1 (i + 1) j old 0 (λ x. n (omega arith)), getD-set-other w i j had 0 (λ x. m (omega arith)));
       now = slot-of-saved w' (slotOf p) had old s q at0 at1;
+      word = old;
+      second = at1;
       size = rw (words, length-set, length-set);
     }

@@ -1,6 +1,7 @@
 -- The start and the end of the walk. Assumes nothing.
 use Prim.Native.Nat.{ℕ, _+_, _<_}
 use native.Mathlib.Omega.{arith}
+use native.Mathlib.Numerals.{add-one}
 use mathlib.Core.Path.{_≡_, refl, sym, ap, _∙_}
 use mathlib.Core.Bool.{false}
 use mathlib.Core.List.{[], _∷_, _++_}
@@ -9,7 +10,8 @@ use Rattle.specification.specs.declared.End.{End}
 use Rattle.specification.specs.declared.Outcome.the-variants.{Ran}
 use Rattle.specification.specs.Bytes.{Bytes}
 use Rattle.specification.specs.Sheet.{Sheet}
-use Rattle.specification.specs.Tree.{treeOf}
+use Rattle.specification.specs.Place.{cell, local}
+use Rattle.specification.specs.Run.{conditions, tallies, going}
 use Rattle.specification.specs.Outcome.{start, runOf, outputAfter}
 use Rattle.specification.specs.Report.{endFrom}
 use Rattle.specification.proofs.Laws.Start.{start-valid}
@@ -17,14 +19,16 @@ use Rattle.tables.specs.Layout.{maxTokens}
 use Rattle.sheet.specs.Tables.{Words}
 use Rattle.walker.specs.declared.Regs.{Regs}
 use Rattle.walker.specs.declared.Task.{Task}
-use Rattle.walker.specs.Frame.{form, the, treeItems}
-use Rattle.walker.specs.Path.{World}
+use Rattle.walker.specs.Walk.{walk}
+use Rattle.walker.specs.Frame.{form, the}
+use Rattle.walker.specs.Path.{World, Marks}
 use Rattle.walker.specs.Sim.{Down, Sim, over}
 use Rattle.walker.specs.Loop.{Fixed}
 use Rattle.walker.specs.Walked.{Ready, startRegs, Finished, Walked}
 use Rattle.walker.specs.States.{overMode}
 use Rattle.walker.proofs.Here.{formula-ends}
 use Rattle.walker.proofs.Walk.{walk-run}
+use Rattle.walker.proofs.Sited.{root-sited}
 use Rattle.walker.proofs.Moves.{sim-over}
 
 -- ---- the start
@@ -42,7 +46,6 @@ module _ {w : Words} {o : Bytes} {t : Task} (s : Sheet) (a : Ready w t s) where
   world-fixed = record { setting = refl; scalar-count = a .scalar-count; array-count = a .array-count }
 
   pub start-down : t .setting .budget < 4294967296 → Down (worldOf w o t s) o w (startRegs w (t .formula))
-  unfolding treeOf treeItems
   start-down fits = record {
     x = the (form (s .formula) ∷ []);
     fr = [];
@@ -61,6 +64,7 @@ module _ {w : Words} {o : Bytes} {t : Task} (s : Sheet) (a : Ready w t s) where
       stack = tt;
       chain = tt;
       holds = a .holds;
+      marks = unmarked;
       valid = start-valid (s .declared) (s .given) (a .well .values);
     };
     inner = refl;
@@ -68,8 +72,13 @@ module _ {w : Words} {o : Bytes} {t : Task} (s : Sheet) (a : Ready w t s) where
     job = (refl, start-small s a, a .formula, refl);
     out = record { count = refl; inside = omega arith; bytes = refl };
     count = record { fits = fits; budget = omega arith; leaves = omega arith };
-    result = sym (walk-run s (t .setting) (length o));
+    result = ap (λ T. walk (conditions (s .declared) (t .setting) (length o)) false 1 T (λ t w. going t w) (λ e t w. going t w) false (tallies 0 0 0 0) [])
+        (root-sited (s .declared) (s .formula) (a .well .formula) (start (s .given))) ∙ sym (walk-run s (t .setting) (length o));
   }
+    where
+      unmarked : Marks w (start (s .given)) (λ p. 0)
+      unmarked (cell c) h e = rw add-one (a .unmarked .cells c h e)
+      unmarked (local l) h e = rw add-one (a .unmarked .locals l h e)
 
 -- ---- the end
 

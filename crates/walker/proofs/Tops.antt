@@ -11,7 +11,7 @@ use Rattle.specification.specs.Place.{Place}
 use Rattle.specification.specs.Value.{Slot, Valuation}
 use Rattle.tables.specs.Node.{todoAt}
 use Rattle.sheet.specs.Tables.{Words}
-use Rattle.walker.specs.Frame.{Item, Question, Frame, pass, other, undo, range, asks, len}
+use Rattle.walker.specs.Frame.{Item, Question, Frame, pass, other, bound, given, range, asks, len}
 use Rattle.walker.specs.Path.{World, Path}
 use Rattle.walker.specs.States.{otherTodo, undoTodo, nextTodo, judgeTodo}
 
@@ -33,19 +33,22 @@ module _ {c : World} {w : Words} {d : ℕ} {α : Valuation} (Q : List Frame → 
   top-other h k [] P = nothing P
   top-other h k (pass β ∷ fr) P = wrong 0 1 P (P .stack .0) h (λ z. omega arith)
   top-other h k (other G is β ∷ fr) P = k G is β fr P
-  top-other h k (undo p s β ∷ fr) P = wrong 2 1 P (P .stack .0 .0) h (λ z. omega arith)
+  top-other h k (bound l s β ∷ fr) P = wrong 2 1 P (P .stack .0 .0) h (λ z. omega arith)
+  top-other h k (given p v β ∷ fr) P = wrong 2 1 P (P .stack .0 .0) h (λ z. omega arith)
   top-other h k (range l x i n F is β ∷ fr) P = wrong 3 1 P (P .stack .0 .0) h (λ z. omega arith)
   top-other h k (asks tok q is β e ∷ fr) P = wrong 4 1 P (P .stack .0 .0) h (λ z. omega arith)
 
   pub top-undo : todoAt w (d - 1) ≡ undoTodo →
-      ((p : Place) (s : Slot) (β : Valuation) (fr : List Frame) → Path c w d α (undo p s β ∷ fr) → Q (undo p s β ∷ fr)) →
+      ((l : ℕ) (s : Slot) (β : Valuation) (fr : List Frame) → Path c w d α (bound l s β ∷ fr) → Q (bound l s β ∷ fr)) →
+      ((p : Place) (v : ℤ) (β : Valuation) (fr : List Frame) → Path c w d α (given p v β ∷ fr) → Q (given p v β ∷ fr)) →
       (fr : List Frame) → Path c w d α fr → Q fr
-  top-undo h k [] P = nothing P
-  top-undo h k (pass β ∷ fr) P = wrong 0 2 P (P .stack .0) h (λ z. omega arith)
-  top-undo h k (other G is β ∷ fr) P = wrong 1 2 P (P .stack .0 .0) h (λ z. omega arith)
-  top-undo h k (undo p s β ∷ fr) P = k p s β fr P
-  top-undo h k (range l x i n F is β ∷ fr) P = wrong 3 2 P (P .stack .0 .0) h (λ z. omega arith)
-  top-undo h k (asks tok q is β e ∷ fr) P = wrong 4 2 P (P .stack .0 .0) h (λ z. omega arith)
+  top-undo h k j [] P = nothing P
+  top-undo h k j (pass β ∷ fr) P = wrong 0 2 P (P .stack .0) h (λ z. omega arith)
+  top-undo h k j (other G is β ∷ fr) P = wrong 1 2 P (P .stack .0 .0) h (λ z. omega arith)
+  top-undo h k j (bound l s β ∷ fr) P = k l s β fr P
+  top-undo h k j (given p v β ∷ fr) P = j p v β fr P
+  top-undo h k j (range l x i n F is β ∷ fr) P = wrong 3 2 P (P .stack .0 .0) h (λ z. omega arith)
+  top-undo h k j (asks tok q is β e ∷ fr) P = wrong 4 2 P (P .stack .0 .0) h (λ z. omega arith)
 
   pub top-range : todoAt w (d - 1) ≡ nextTodo →
       ((l : ℕ) (x : ℤ) (i n : ℕ) (F : Formula) (is : List Item) (β : Valuation) (fr : List Frame) →
@@ -54,7 +57,8 @@ module _ {c : World} {w : Words} {d : ℕ} {α : Valuation} (Q : List Frame → 
   top-range h k [] P = nothing P
   top-range h k (pass β ∷ fr) P = wrong 0 3 P (P .stack .0) h (λ z. omega arith)
   top-range h k (other G is β ∷ fr) P = wrong 1 3 P (P .stack .0 .0) h (λ z. omega arith)
-  top-range h k (undo p s β ∷ fr) P = wrong 2 3 P (P .stack .0 .0) h (λ z. omega arith)
+  top-range h k (bound l s β ∷ fr) P = wrong 2 3 P (P .stack .0 .0) h (λ z. omega arith)
+  top-range h k (given p v β ∷ fr) P = wrong 2 3 P (P .stack .0 .0) h (λ z. omega arith)
   top-range h k (range l x i n F is β ∷ fr) P = k l x i n F is β fr P
   top-range h k (asks tok q is β e ∷ fr) P = wrong 4 3 P (P .stack .0 .0) h (λ z. omega arith)
 
@@ -64,6 +68,7 @@ module _ {c : World} {w : Words} {d : ℕ} {α : Valuation} (Q : List Frame → 
   top-asks h k [] P = nothing P
   top-asks h k (pass β ∷ fr) P = wrong 0 4 P (P .stack .0) h (λ z. omega arith)
   top-asks h k (other G is β ∷ fr) P = wrong 1 4 P (P .stack .0 .0) h (λ z. omega arith)
-  top-asks h k (undo p s β ∷ fr) P = wrong 2 4 P (P .stack .0 .0) h (λ z. omega arith)
+  top-asks h k (bound l s β ∷ fr) P = wrong 2 4 P (P .stack .0 .0) h (λ z. omega arith)
+  top-asks h k (given p v β ∷ fr) P = wrong 2 4 P (P .stack .0 .0) h (λ z. omega arith)
   top-asks h k (range l x i n F is β ∷ fr) P = wrong 3 4 P (P .stack .0 .0) h (λ z. omega arith)
   top-asks h k (asks tok q is β e ∷ fr) P = k tok q is β e fr P

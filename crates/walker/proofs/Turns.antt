@@ -5,6 +5,7 @@ use native.Mathlib.Omega.{arith}
 use native.Mathlib.Numerals.{add-one}
 use mathlib.Core.Path.{_≡_, refl, sym, _∙_, ap, subst}
 use mathlib.Core.Bool.{Bool}
+use mathlib.Core.Logic.{inr}
 use mathlib.Core.List.{List, _∷_}
 use lib.ListN.{set}
 use lib.Seq.{getD-set-same}
@@ -20,7 +21,7 @@ use Rattle.sheet.specs.Held.{endAt, Holds}
 use Rattle.walker.specs.declared.Regs.{Regs}
 use Rattle.walker.specs.declared.Due.{Due}
 use Rattle.walker.specs.Walk.{walk}
-use Rattle.walker.specs.Frame.{Item, form, What, the, Frame, pass, here, below, len, innerIn}
+use Rattle.walker.specs.Frame.{Item, form, What, the, Frame, pass, here, below, len, innerIn, siteIn}
 use Rattle.walker.specs.Path.{World, conditionsOf, Pend, Job, bit, Path, Output, Count}
 use Rattle.walker.specs.Sim.{yes, no, tree, Down, Up, Yes, down}
 use Rattle.walker.specs.Registers.{formulaDue, dueRegs}
@@ -28,7 +29,7 @@ use Rattle.walker.specs.Loop.{Topped, Rose}
 use Rattle.walker.specs.States.{upMode, wonMode, otherTodo}
 use Rattle.walker.proofs.Keep.{pend-onto}
 use Rattle.walker.proofs.Here.{code-here, end-here}
-use Rattle.walker.proofs.Slots.{holds-keep}
+use Rattle.walker.proofs.Slots.{holds-keep, marks-keep}
 use Rattle.walker.proofs.Whole.{path-top}
 use Rattle.walker.proofs.Tops.{top-index, top-other}
 
@@ -41,7 +42,7 @@ Gives c r g fr e b T =
     ≡ c .result
 
 pub son-due : {c : World} {o : Bytes} {w : Words} (r : Regs) {g : Frame} {fr : List Frame} (e : Bool) (b : Bytes) (x : What) {d : Due} {inner bad : ℕ} →
-    Path c w (r .depth) (below g) (g ∷ fr) → inner ≡ bit (innerIn (g ∷ fr)) → bad ≡ bit e → Job c w (r .depth) d x → Output c o (r .written) b →
+    Path c w (r .depth) (below g) (g ∷ fr) → inner ≡ siteIn (g ∷ fr) .inner → bad ≡ bit e → Job c w (r .depth) d x → Output c o (r .written) b →
     Count c (r .tallies) → Gives c r g fr e b (tree c (g ∷ fr) x (below g)) → Down c o w (dueRegs r (r .depth) d inner bad)
 son-due {c} r {g} {fr} e b x P i a j o n q = record {
   x = x;
@@ -67,13 +68,13 @@ module _ {w w' : Words} {r q : Regs} {d d′ : Due} {inner bad : ℕ} (e : q ≡
   pub rose-up : r .mode ≡ upMode → ((c : World) (o : Bytes) → Up c o w r → Down c o w' (dueRegs r (r .depth) d′ inner bad)) → Rose w w' r q
   rose-up m f =
       rw (e, e′)
-      (record { ups = λ c o h u. down refl (f c o u); yes = λ c o h u. absurd (omega arith); nodes = refl; falls = omega arith })
+      (record { ups = λ c o h u. down refl (f c o u); yes = λ c o h u. absurd (omega arith); nodes = refl; falls = omega arith; modes = inr (omega arith) })
 
   -- a step up, after an inner tree has succeeded
   pub rose-yes : r .mode ≡ wonMode → ((c : World) (o : Bytes) → Yes c o w r → Down c o w' (dueRegs r (r .depth) d′ inner bad)) → Rose w w' r q
   rose-yes m f =
       rw (e, e′)
-      (record { ups = λ c o h u. absurd (omega arith); yes = λ c o h u. down refl (f c o u); nodes = refl; falls = omega arith })
+      (record { ups = λ c o h u. absurd (omega arith); yes = λ c o h u. down refl (f c o u); nodes = refl; falls = omega arith; modes = inr (omega arith) })
 
 module _ {c : World} {w w' : Words} {d : ℕ} {α : Valuation} {f : Frame} {fr : List Frame} (P : Path c w d α (f ∷ fr)) (k : Kept (len fr) w w') where
   -- the rest of the node's list
@@ -89,12 +90,14 @@ module _ {c : World} {w w' : Words} {d : ℕ} {α : Valuation} {f : Frame} {fr :
   pub turned-kept : Kept (len fr) w w'
   turned-kept = let deep = P .deep in word-kept (len fr) (todoWord (d - 1)) 0 (omega arith) e
 
-  pub turned : below f ≡ here f → Path c w' d (here f) (pass (here f) ∷ fr)
-  turned q =
+  pub turned : below f ≡ here f → siteIn (f ∷ fr) .marks ≡ siteIn fr .marks → Path c w' d (here f) (pass (here f) ∷ fr)
+  turned q m =
       let at : w' ≡ set w (todoWord (len fr)) 0 = rw (top-index P) at e in
       let deep = P .deep in
+      let same = word-slots (todoWord (d - 1)) 0 (omega arith) e in
       path-top P turned-kept (pass (here f)) refl (rw at (getD-set-same w (todoWord (len fr)) 0 0 (omega (arith, P .size, P .inside))))
-      (holds-keep (word-slots (todoWord (d - 1)) 0 (omega arith) e) (subst (Holds w) (P .chain .0 ∙ q) (P .holds))) (P .chain .1)
+      (holds-keep same (subst (Holds w) (P .chain .0 ∙ q) (P .holds)))
+      (marks-keep same (rw (P .chain .0 ∙ q, m) at (P .marks))) (P .chain .1)
 
 -- the second son of an `or`
 pub other-small : {w : Words} {r : Regs} → Topped w r otherTodo → suc (headAt w (r .depth - 1)) < maxTokens
@@ -116,13 +119,13 @@ pub other-up : {c : World} {o : Bytes} {w w' : Words} {r : Regs} {h n p : ℕ} �
     Down c o w' (dueRegs r (r .depth) (formulaDue w n p) (r .inner) (r .bad))
 other-up {c} {o} {w} {w'} {r} {h} {n} {p} some t eh en ep ew u =
     top-other
-    (λ fr. r .inner ≡ bit (innerIn fr) → no c fr (u .e) (r .tallies) (u .b) ≡ c .result → Down c o w' (dueRegs r (r .depth) (formulaDue w n p) (r .inner) (r .bad)))
+    (λ fr. r .inner ≡ siteIn fr .inner → no c fr (u .e) (r .tallies) (u .b) ≡ c .result → Down c o w' (dueRegs r (r .depth) (formulaDue w n p) (r .inner) (r .bad)))
     some t
     (λ G is β fr P i q.
     let k = turned-kept P ew in
     let a = P .stack .0 in
     let eh′ : h ≡ headAt w (len fr) = eh ∙ ap (headAt w) (top-index P) in
     let at : n ≡ endAt (c .tables) (suc (headAt w (len fr))) = en ∙ rw (add-one, eh′) (end-here (c .tables) w (P .tokens) (a .1)) in
-    son-due r (u .e) (u .b) (the (form G ∷ is)) (turned P ew refl) i (u .bad)
+    son-due r (u .e) (u .b) (the (form G ∷ is)) (turned P ew refl refl) i (u .bad)
     (code-here (c .tables) w (P .tokens) (rw at (a .2)), rw at (a .2), rw at (a .3), rest-under P k is ep (a .4)) (u .out) (u .count) q)
     (u .fr) (u .path) (u .inner) (u .result)

@@ -10,8 +10,8 @@ use Rattle.tables.specs.Layout.{firstSlot}
 use Rattle.tables.specs.Kept.{Kept}
 use Rattle.sheet.specs.Tables.{Words}
 use Rattle.sheet.specs.Held.{Holds}
-use Rattle.walker.specs.Frame.{Frame, here, below, len, innerIn}
-use Rattle.walker.specs.Path.{World, InTable, FrameAt, Stack, Chain, Path}
+use Rattle.walker.specs.Frame.{Frame, here, below, len, siteIn}
+use Rattle.walker.specs.Path.{World, InTable, Marks, FrameAt, Stack, Chain, Path}
 use Rattle.walker.proofs.Keep.{stack-keep}
 use Rattle.walker.proofs.Slots.{in-table, Altered}
 
@@ -31,8 +31,8 @@ altered-kept {w} {w'} {p} n h a =
 module _ {c : World} {w w' : Words} {d : ℕ} {α : Valuation} {fr : List Frame} (P : Path c w d α fr) where
   -- other frames in the words w'
   with-frames : {n d' : ℕ} (β : Valuation) (fr′ : List Frame) → Kept n w w' → d' ≡ len fr′ → d' ≤ c .setting .path → Stack c w' fr′ → Chain (c .declared) β fr′ →
-      Holds w' β → Valid (c .declared) β → Path c w' d' β fr′
-  with-frames β fr′ k e i s q h v = record {
+      Holds w' β → Marks w' β (siteIn fr′ .marks) → Valid (c .declared) β → Path c w' d' β fr′
+  with-frames β fr′ k e i s q h m v = record {
     size = rw (k .size) (P .size);
     limit = P .limit;
     tokens = λ j a. k .tokens j a ∙ P .tokens j a;
@@ -44,32 +44,34 @@ module _ {c : World} {w w' : Words} {d : ℕ} {α : Valuation} {fr : List Frame}
     stack = s;
     chain = q;
     holds = h;
+    marks = m;
     valid = v;
   }
 
   -- the same path
-  pub path-kept : Kept d w w' → Holds w' α → Path c w' d α fr
-  path-kept k h =
-      with-frames α fr k (P .deep) (P .inside) (stack-keep c w w' fr (rw (P .deep) at (k .nodes)) (P .stack)) (P .chain) h (P .valid)
+  pub path-kept : Kept d w w' → Holds w' α → Marks w' α (siteIn fr .marks) → Path c w' d α fr
+  path-kept k h m =
+      with-frames α fr k (P .deep) (P .inside) (stack-keep c w w' fr (rw (P .deep) at (k .nodes)) (P .stack)) (P .chain) h m (P .valid)
 
   -- a frame more
-  pub path-onto : (f : Frame) → d < c .setting .path → Kept d w w' → here f ≡ α → FrameAt c w' d (innerIn fr) f → Holds w' (below f) → Valid (c .declared) (below f) →
-      Path c w' (d + 1) (below f) (f ∷ fr)
-  path-onto f room k e q h v =
+  pub path-onto : (f : Frame) → d < c .setting .path → Kept d w w' → here f ≡ α → FrameAt c w' d (siteIn fr) f → Holds w' (below f) → Marks w' (below f) (siteIn (f ∷ fr) .marks) →
+      Valid (c .declared) (below f) → Path c w' (d + 1) (below f) (f ∷ fr)
+  path-onto f room k e q h m v =
       let deep = P .deep in
       with-frames (below f) (f ∷ fr) k (omega arith) (omega arith)
-      (subst (λ n. FrameAt c w' n (innerIn fr) f) deep q, stack-keep c w w' fr (rw deep at (k .nodes)) (P .stack))
-      (refl, rw e (P .valid), rw e (P .chain)) h v
+      (subst (λ n. FrameAt c w' n (siteIn fr) f) deep q, stack-keep c w w' fr (rw deep at (k .nodes)) (P .stack))
+      (refl, rw e (P .valid), rw e (P .chain)) h m v
 
 module _ {c : World} {w w' : Words} {d : ℕ} {α : Valuation} {f : Frame} {fr : List Frame} (P : Path c w d α (f ∷ fr)) (k : Kept (len fr) w w') where
   -- another frame on top
-  pub path-top : (g : Frame) → here g ≡ here f → FrameAt c w' (len fr) (innerIn fr) g → Holds w' (below g) → Valid (c .declared) (below g) → Path c w' d (below g) (g ∷ fr)
-  path-top g e q h v =
+  pub path-top : (g : Frame) → here g ≡ here f → FrameAt c w' (len fr) (siteIn fr) g → Holds w' (below g) → Marks w' (below g) (siteIn (g ∷ fr) .marks) →
+      Valid (c .declared) (below g) → Path c w' d (below g) (g ∷ fr)
+  path-top g e q h m v =
       with-frames P (below g) (g ∷ fr) k (P .deep) (P .inside) (q, stack-keep c w w' fr (k .nodes) (P .stack .1))
-      (refl, rw e (P .chain .1), rw e (P .chain .2)) h v
+      (refl, rw e (P .chain .1), rw e (P .chain .2)) h m v
 
   -- the topmost frame is left
-  pub path-pop : Holds w' (here f) → Path c w' (d - 1) (here f) fr
-  path-pop h =
-      with-frames P (here f) fr k (omega (arith, P .deep)) (omega (arith, P .inside)) (stack-keep c w w' fr (k .nodes) (P .stack .1)) (P .chain .2) h
+  pub path-pop : Holds w' (here f) → Marks w' (here f) (siteIn fr .marks) → Path c w' (d - 1) (here f) fr
+  path-pop h m =
+      with-frames P (here f) fr k (omega (arith, P .deep)) (omega (arith, P .inside)) (stack-keep c w w' fr (k .nodes) (P .stack .1)) (P .chain .2) h m
       (P .chain .1)

@@ -1,6 +1,7 @@
--- What the contracts of the walk cite: the walk with continuations, and how the work words hold it.
+-- What the contracts of the walk cite: the walk with continuations, the tree as it knows it, and how the work words hold it.
 pub mod States
 pub mod Walk
+pub mod Site
 pub mod Frame
 pub mod Stands
 pub mod Path

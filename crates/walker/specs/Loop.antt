@@ -2,7 +2,6 @@
 use Prim.Native.Nat.{ℕ, _+_, _*_, _-_, _≤_, _<_}
 use mathlib.Core.Path.{_≡_}
 use mathlib.Core.Logic.{_⊎_}
-use mathlib.Core.Bool.{Bool, true, false}
 use mathlib.Core.List.{List, _∷_}
 use lib.ListN.{length}
 use Rattle.specification.specs.declared.End.the-variants.{Path}
@@ -14,12 +13,12 @@ use Rattle.tables.specs.Node.{todoAt}
 use Rattle.sheet.specs.Tables.{Words}
 use Rattle.walker.specs.declared.Regs.{Regs}
 use Rattle.walker.specs.declared.Task.{Task}
-use Rattle.walker.specs.Frame.{Frame, here, below, len, innerIn}
+use Rattle.walker.specs.Frame.{Frame, here, below, len, siteIn}
 use Rattle.walker.specs.Path as paths
 use Rattle.walker.specs.Path.{World, Changed}
 use Rattle.walker.specs.Sim.{yes, no, Down, In, Up, Yes, Leaf, Sim}
 use Rattle.walker.specs.Steps.{Visited}
-use Rattle.walker.specs.States.{overMode, downMode, upMode, wonMode, blockMode, successJob}
+use Rattle.walker.specs.States.{downMode, upMode, wonMode, blockMode, successJob}
 
 -- ---- going up
 
@@ -36,10 +35,6 @@ pub record Topped (w : Words) (r : Regs) (u : ℕ) : Type 0 where
 abbrev pub Ups : ℕ → Type 0
 Ups mode = (mode ≡ upMode) ⊎ (mode ≡ wonMode)
 
-abbrev pub IsUp : ℕ → Bool → Type 0
-IsUp mode true = Ups mode
-IsUp mode false = Ups mode → ⊥
-
 -- in some world a path
 pub record Rising (w : Words) (r : Regs) : Type 0 where
   pub c : World
@@ -54,13 +49,14 @@ pub record Rose (w w' : Words) (r r' : Regs) : Type 0 where
   pub yes : (c : World) (o : Bytes) → r .mode ≡ wonMode → Yes c o w r → Sim c o w' r'
   pub nodes : r' .tallies .nodes ≡ r .tallies .nodes
   pub falls : 2 * r' .depth + r' .mode < 2 * r .depth + r .mode
+  -- the mode stays, or a visit is due or the walk over
+  pub modes : (r' .mode ≡ r .mode) ⊎ (r' .mode ≤ downMode)
 
 -- the topmost frame, and that nothing is left to do there
 pub record Exhausted (c : World) (r : Regs) (fr : List Frame) : Type 0 where
   pub top : Frame
   pub under : List Frame
   pub parts : fr ≡ top ∷ under
-  pub same-inner : innerIn fr ≡ innerIn under
   pub same-no : r .mode ≡ upMode → no c fr ≡ no c under
   pub same-yes : yes c fr ≡ yes c under
 
@@ -70,7 +66,7 @@ pub record Leaves (w : Words) (r : Regs) : Type 0 where
   pub some : 0 < r .depth
   pub back :
       (c : World) (α : Valuation) (fr : List Frame) → paths.Path c w (r .depth) α fr →
-      (s : Exhausted c r fr) × (below (s .top) ≡ here (s .top))
+      (s : Exhausted c r fr) × (below (s .top) ≡ here (s .top)) × (siteIn fr .inner ≡ siteIn (s .under) .inner) × (siteIn fr .marks ≡ siteIn (s .under) .marks)
 
 -- it changed a slot
 pub record Restores (w : Words) (r : Regs) : Type 0 where
@@ -78,7 +74,10 @@ pub record Restores (w : Words) (r : Regs) : Type 0 where
   pub some : 0 < r .depth
   pub back :
       (c : World) (α : Valuation) (fr : List Frame) → paths.Path c w (r .depth) α fr →
-      (s : Exhausted c r fr) × (p : Place) × (v : Slot) × (below (s .top) ≡ put (here (s .top)) p v) × Changed w (len (s .under)) p (here (s .top))
+      (s : Exhausted c r fr) × (p : Place) × (v : Slot)
+      × (below (s .top) ≡ put (here (s .top)) p v)
+      × Changed w (len (s .under)) p (siteIn (s .under)) (here (s .top))
+      × ((q : Place) → ¬ (q ≡ p) → siteIn fr .marks q ≡ siteIn (s .under) .marks q)
 
 -- ---- leaves and blocks
 
@@ -109,6 +108,7 @@ pub record Blocked (w : Words) (o o' : Bytes) (r r' : Regs) (t : Task) : Type 0 
   pub sim : (c : World) → Fixed c t → Leaf c o w r → Sim c o' w r'
   pub nodes : r' .tallies .nodes ≡ r .tallies .nodes
   pub falls : 2 * r' .depth + r' .mode ≤ 2 * r .depth + upMode
+  pub modes : r' .mode ≤ upMode
   pub size : length o' ≡ length o
 
 -- ---- a step
@@ -130,35 +130,23 @@ pub record Arrived (w w' : Words) (r r' : Regs) (path budget : ℕ) : Type 0 whe
   pub sim : (c : World) (o : Bytes) → c .setting .path ≡ path → c .setting .budget ≡ budget → Down c o w r → Sim c o w' r'
   pub falls : measure budget r' < measure budget r
 
--- ---- runs of steps in one direction
+-- ---- steps up
 
 -- in some world the invariant holds
-pub record Goes (w : Words) (r : Regs) (path budget : ℕ) : Type 0 where
-  pub c : World
-  pub o : Bytes
-  pub path-is : c .setting .path ≡ path
-  pub budget-is : c .setting .budget ≡ budget
-  pub sim : Sim c o w r
-
--- no visit is due any more
-pub record Went (w w' : Words) (r r' : Regs) (path budget : ℕ) : Type 0 where
-  pub sim : (c : World) (o : Bytes) → c .setting .path ≡ path → c .setting .budget ≡ budget → Sim c o w r → Sim c o w' r'
-  pub falls : (r' ≡ r) ⊎ (measure budget r' < measure budget r)
-  pub stops : r' .mode ≡ downMode → ⊥
-
-pub record Climbs (w : Words) (r : Regs) : Type 0 where
+pub record Climbs (w : Words) (r : Regs) (mode : ℕ) : Type 0 where
   pub c : World
   pub o : Bytes
   pub sim : Sim c o w r
+  pub way : Ups mode
 
--- no step up is due any more
-pub record Climbed (w w' : Words) (r r' : Regs) : Type 0 where
+-- no step up is due in that mode any more
+pub record Climbed (w w' : Words) (r r' : Regs) (mode : ℕ) : Type 0 where
   pub sim : (c : World) (o : Bytes) → Sim c o w r → Sim c o w' r'
   pub nodes : r' .tallies .nodes ≡ r .tallies .nodes
-  pub falls : (r' ≡ r) ⊎ (2 * r' .depth + r' .mode < 2 * r .depth + r .mode)
-  pub stops : Ups (r' .mode) → ⊥
+  pub falls : (r' ≡ r) ⊎ ((2 * r' .depth + r' .mode < 2 * r .depth + r .mode) × (r' .mode ≤ downMode))
+  pub stops : r' .mode ≡ mode → ⊥
 
--- ---- down, a block, and up again
+-- ---- a visit, a block, and up again
 
 -- in some world of this task the invariant holds
 pub record Runs (w : Words) (o : Bytes) (r : Regs) (t : Task) : Type 0 where
@@ -170,13 +158,13 @@ pub record Runs (w : Words) (o : Bytes) (r : Regs) (t : Task) : Type 0 where
 pub record Settled (w : Words) (o o' : Bytes) (r r' : Regs) (t : Task) : Type 0 where
   pub sim : (c : World) → Fixed c t → Sim c o w r → Sim c o' w r'
   pub nodes : r' .tallies .nodes ≡ r .tallies .nodes
-  pub falls : ((r' ≡ r) × (r .mode ≡ blockMode → ⊥)) ⊎ (2 * r' .depth + r' .mode < 2 * r .depth + r .mode)
+  pub falls : ((r' ≡ r) × (r .mode ≡ blockMode → ⊥)) ⊎ ((2 * r' .depth + r' .mode < 2 * r .depth + r .mode) × (r' .mode ≤ upMode))
   pub size : length o' ≡ length o
 
--- the walk is not over
+-- a visit is due
 pub record Live (w : Words) (o : Bytes) (r : Regs) (t : Task) : Type 0 where
   pub runs : Runs w o r t
-  pub on : r .mode ≡ overMode → ⊥
+  pub on : r .mode ≡ downMode
 
 -- the memory and the registers at one moment
 pub record Snapshot : Type 0 where
@@ -190,4 +178,6 @@ snapshot w o r = record { words = w; output = o; regs = r }
 pub record Moved (a b : Snapshot) (t : Task) : Type 0 where
   pub sim : (c : World) → Fixed c t → Sim c (a .output) (a .words) (a .regs) → Sim c (b .output) (b .words) (b .regs)
   pub falls : measure (t .setting .budget) (b .regs) < measure (t .setting .budget) (a .regs)
+  -- a visit is due again, or the walk is over
+  pub modes : b .regs .mode ≤ downMode
   pub size : length (b .output) ≡ length (a .output)

@@ -4,7 +4,7 @@ use Prim.Native.Nat.{ℕ, suc, _+_, _≤_, _<_}
 use mathlib.Core.Path.{_≡_}
 use mathlib.Core.Bool.{Bool, true, false}
 use mathlib.Core.List.{List, [], _∷_, _++_}
-use lib.ListN.{length, drop}
+use lib.ListN.{length, drop, getD}
 use lib.IntN.{ℤ, pos, _+ℤ_}
 use Rattle.specification.specs.declared.Setting.{Setting}
 use Rattle.specification.specs.declared.Tallies.{Tallies}
@@ -24,7 +24,8 @@ use Rattle.sheet.specs.Tables.{Words}
 use Rattle.sheet.specs.Held.{codeAt, endAt, slotOf, Holds, ArraysAt}
 use Rattle.walker.specs.declared.Due.{Due}
 use Rattle.walker.specs.Stands.{Stands, Binds, LeftAfter}
-use Rattle.walker.specs.Frame.{Item, form, again, What, the, success, failure, error, Question, denying, implying, Frame, pass, other, undo, range, asks, here, below, len, innerIn}
+use Rattle.walker.specs.Frame.{Item, form, again, What, the, success, failure, error, Question, denying, implying, Frame, pass, other, bound, given, range, asks, here, below, len, siteIn}
+use Rattle.walker.specs.Site.{Site}
 use Rattle.walker.specs.States.{emptyJob, againJob, successJob, failureJob, errorJob, noTodo, otherTodo, undoTodo, nextTodo, judgeTodo}
 
 -- ---- what a run is about: the tables and the output at entry, the sheet's declarations, the setting, and the run's result
@@ -96,11 +97,17 @@ abbrev pub InTable : Place → Type 0
 InTable (cell c) = c < maxCells
 InTable (local l) = l < maxLocals
 
--- node i changed p, and keeps what α had there
-pub record Changed (w : Words) (i : ℕ) (p : Place) (α : Valuation) : Type 0 where
+-- the second word of each slot without a value is the place's mark
+abbrev pub Marks : Words → Valuation → (Place → ℕ) → Type 0
+Marks w α m = (p : Place) → InTable p → α p ≡ empty → getD w (slotOf p + 1) 0 ≡ m p
+
+-- node i at a site changed p, and keeps what α had there, the mark with it, and the register
+pub record Changed (w : Words) (i : ℕ) (p : Place) (u : Site) (α : Valuation) : Type 0 where
   pub slot : slotAt w i ≡ slotOf p
   pub inside : InTable p
   pub saved : Saved (hadAt w i) (oldAt w i) (α p)
+  pub mark : α p ≡ empty → oldAt w i ≡ u .marks p
+  pub inner : innerAt w i ≡ u .inner
 
 -- the question of the node whose token is h
 abbrev pub Asks : World → ℕ → Question → Type 0
@@ -111,35 +118,36 @@ Asks c h (implying G) =
     × (endAt (c .tables) (suc h) < maxTokens)
     × Stands (c .declared) (c .tables) (endAt (c .tables) (suc h)) G
 
--- node i; m says whether it stands in an inner tree
-abbrev pub FrameAt : World → Words → ℕ → Bool → Frame → Type 0
-FrameAt c w i m (pass α) = todoAt w i ≡ noTodo
-FrameAt c w i m (other G is α) =
+-- node i, at a site
+abbrev pub FrameAt : World → Words → ℕ → Site → Frame → Type 0
+FrameAt c w i u (pass α) = todoAt w i ≡ noTodo
+FrameAt c w i u (other G is α) =
     (todoAt w i ≡ otherTodo)
     × (suc (headAt w i) < maxTokens)
     × (endAt (c .tables) (suc (headAt w i)) < maxTokens)
     × Stands (c .declared) (c .tables) (endAt (c .tables) (suc (headAt w i))) G
     × Pend c w i (restAt w i) is
-FrameAt c w i m (undo p s α) = (todoAt w i ≡ undoTodo) × Changed w i p α
-FrameAt c w i m (range l x j n F is α) =
+FrameAt c w i u (bound l s α) = (todoAt w i ≡ undoTodo) × Changed w i (local l) u α
+FrameAt c w i u (given p v α) = (todoAt w i ≡ undoTodo) × Changed w i p u α
+FrameAt c w i u (range l x j n F is α) =
     (todoAt w i ≡ nextTodo)
-    × Changed w i (local l) α
+    × Changed w i (local l) u α
     × Binds (c .declared) (c .tables) (headAt w i) l F
     × LeftAfter (currentAt w i) (lastAt w i) n (x +ℤ pos (suc j))
     × (signed (currentAt w i) ≡ x +ℤ pos j)
     × Pend c w i (restAt w i) is
-FrameAt c w i m (asks tok q is α e) =
+FrameAt c w i u (asks tok q is α e) =
     (todoAt w i ≡ judgeTodo)
     × (headAt w i ≡ tok)
     × (tok < maxTokens)
     × Asks c tok q
-    × (innerAt w i ≡ bit m)
+    × (innerAt w i ≡ u .inner)
     × (badAt w i ≡ bit e)
     × Pend c w i (restAt w i) is
 
 abbrev pub Stack : World → Words → List Frame → Type 0
 Stack c w [] = Unit {0}
-Stack c w (f ∷ fr) = FrameAt c w (len fr) (innerIn fr) f × Stack c w fr
+Stack c w (f ∷ fr) = FrameAt c w (len fr) (siteIn fr) f × Stack c w fr
 
 -- α is the valuation below the topmost frame, and so on down
 abbrev pub Chain : Declared → Valuation → List Frame → Type 0
@@ -161,6 +169,7 @@ pub record Path (c : World) (w : Words) (d : ℕ) (α : Valuation) (fr : List Fr
   pub stack : Stack c w fr
   pub chain : Chain (c .declared) α fr
   pub holds : Holds w α
+  pub marks : Marks w α (siteIn fr .marks)
   pub valid : Valid (c .declared) α
 
 -- the output o holds the n bytes b written, and beyond them what it held

@@ -29,10 +29,10 @@ abbrev pub dueRegs : Regs → ℕ → Due → ℕ → ℕ → Regs
 dueRegs r depth d inner bad =
     record { mode = downMode; depth = depth; due = d; inner = inner; bad = bad; end = r .end; tallies = r .tallies; written = r .written }
 
--- the topmost node is left
-abbrev pub popRegs : Regs → Regs
-popRegs r =
-    record { mode = r .mode; depth = r .depth - 1; due = r .due; inner = r .inner; bad = r .bad; end = r .end; tallies = r .tallies; written = r .written }
+-- the topmost node is left, and `inner` is as it was there
+abbrev pub popRegs : Regs → ℕ → Regs
+popRegs r inner =
+    record { mode = r .mode; depth = r .depth - 1; due = r .due; inner = inner; bad = r .bad; end = r .end; tallies = r .tallies; written = r .written }
 
 -- another mode, with the flag and the tallies that a leaf makes
 abbrev pub leafRegs : Regs → ℕ → ℕ → Tallies → ℕ → Regs

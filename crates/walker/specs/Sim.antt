@@ -14,7 +14,8 @@ use Rattle.sheet.specs.Tables.{Words}
 use Rattle.walker.specs.declared.Due.{Due}
 use Rattle.walker.specs.declared.Regs.{Regs}
 use Rattle.walker.specs.Walk as walks
-use Rattle.walker.specs.Frame.{What, the, treeWhat, Frame, innerIn, resumeYes, resume}
+use Rattle.walker.specs.Frame.{What, the, treeWhat, Frame, innerIn, siteIn, resumeYes, resume}
+use Rattle.walker.specs.Site.{sonSite}
 use Rattle.walker.specs.Path.{World, conditionsOf, Job, bit, Path, Output, Count}
 use Rattle.walker.specs.States.{overMode, downMode, upMode, wonMode, blockMode, successJob, errorJob}
 
@@ -28,7 +29,11 @@ module _ (c : World) where
   no fr = resume (conditionsOf c) fr
 
   abbrev pub tree : List Frame → What → Valuation → Tree
-  tree fr x α = treeWhat (c .declared) (innerIn fr) x α
+  tree fr x α = treeWhat (c .declared) x (siteIn fr) α
+
+  -- of a son of the node there
+  abbrev pub son : List Frame → What → Valuation → Tree
+  son fr x α = treeWhat (c .declared) x (sonSite (siteIn fr)) α
 
 -- about to visit a node or leaf
 pub record Down (c : World) (o : Bytes) (w : Words) (r : Regs) : Type 0 where
@@ -38,7 +43,7 @@ pub record Down (c : World) (o : Bytes) (w : Words) (r : Regs) : Type 0 where
   pub e : Bool
   pub b : Bytes
   pub path : Path c w (r .depth) α fr
-  pub inner : r .inner ≡ bit (innerIn fr)
+  pub inner : r .inner ≡ siteIn fr .inner
   pub bad : r .bad ≡ bit e
   pub job : Job c w (r .depth) (r .due) x
   pub out : Output c o (r .written) b
@@ -55,7 +60,7 @@ pub record In (c : World) (o : Bytes) (w : Words) (r : Regs) : Type 0 where
   pub e : Bool
   pub b : Bytes
   pub path : Path c w (r .depth) α fr
-  pub inner : r .inner ≡ bit (innerIn fr)
+  pub inner : r .inner ≡ siteIn fr .inner
   pub bad : r .bad ≡ bit e
   pub job : Job c w (r .depth) (r .due) x
   pub out : Output c o (r .written) b
@@ -73,7 +78,7 @@ pub record Up (c : World) (o : Bytes) (w : Words) (r : Regs) : Type 0 where
   pub e : Bool
   pub b : Bytes
   pub path : Path c w (r .depth) α fr
-  pub inner : r .inner ≡ bit (innerIn fr)
+  pub inner : r .inner ≡ siteIn fr .inner
   pub bad : r .bad ≡ bit e
   pub out : Output c o (r .written) b
   pub count : Count c (r .tallies)
@@ -103,8 +108,7 @@ pub record Leaf (c : World) (o : Bytes) (w : Words) (r : Regs) : Type 0 where
   pub e : Bool
   pub b : Bytes
   pub path : Path c w (r .depth) α fr
-  pub main : innerIn fr ≡ false
-  pub inner : r .inner ≡ 0
+  pub inner : r .inner ≡ siteIn fr .inner
   pub bad : r .bad ≡ bit e
   pub block : BlockOf (r .due) α v
   pub out : Output c o (r .written) b

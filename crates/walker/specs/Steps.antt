@@ -3,20 +3,18 @@
 use Prim.Native.Nat.{ℕ, suc, _+_, _*_, _≤_, _<_}
 use mathlib.Core.Path.{_≡_}
 use mathlib.Core.Bool.{Bool, true, false}
-use mathlib.Core.Logic.{_⊎_}
 use mathlib.Core.List.{List, _∷_}
-use lib.ListN.{length, getD}
-use lib.Dec.{T}
+use lib.ListN.{length}
+use lib.Dec.{T, ltb}
 use lib.IntN.{ℤ, pos, _+ℤ_}
-use Rattle.specification.specs.Bytes.{Bytes}
-use Rattle.specification.specs.Number.{in32}
+use Rattle.specification.specs.Bytes.{Bytes, pick}
 use Rattle.specification.specs.Ast.{Rel, Formula}
 use Rattle.specification.specs.Arithmetic.{test, noValue}
 use Rattle.specification.specs.Place.{Place, local, put}
 use Rattle.specification.specs.Value.{empty, full, allowed}
-use Rattle.specification.specs.Tree.{step, fan, check, assign}
+use Rattle.specification.specs.Tree.{step, fan, check}
 use Rattle.values.specs.Word.{biased, signed}
-use Rattle.tables.specs.Layout.{cellSlot, nodeSlot, localsAt, firstsAt}
+use Rattle.tables.specs.Layout.{nodeSlot}
 use Rattle.tables.specs.Kept.{SameTokens}
 use Rattle.tables.specs.Codes.{someCode, allCode, firstFormula, lastFormula}
 use Rattle.sheet.specs.Tables.{Words}
@@ -26,11 +24,12 @@ use Rattle.terms.specs.declared.Sides.{Sides}
 use Rattle.terms.specs.Results.{valueTag, bareTag}
 use Rattle.walker.specs.declared.Due.{Due}
 use Rattle.walker.specs.declared.Regs.{Regs}
-use Rattle.walker.specs.Frame.{Item, form, again, What, the, treeItems, innerIn}
+use Rattle.walker.specs.Frame.{Item, form, again, What, the, treeItems, siteIn}
+use Rattle.walker.specs.Site.{boundSite, givenSite}
 use Rattle.walker.specs.Path.{World, Pend, Job, InTable}
 use Rattle.walker.specs.Stands.{Binds, LeftAfter}
-use Rattle.walker.specs.Sim.{tree, In, Sim}
-use Rattle.walker.specs.States.{successJob, blockMode}
+use Rattle.walker.specs.Sim.{tree, son, In, Sim}
+use Rattle.walker.specs.States.{successJob, blockMode, givenTree}
 
 -- ---- lists
 
@@ -72,41 +71,22 @@ pub record GoesOn (w : Words) (r : Regs) : Type 0 where
   pub at : Visited w r
   pub son :
       (c : World) (o : Bytes) (i : In c o w r) →
-      (is : List Item) × (tree c (i .fr) (i .x) (i .α) ≡ step (treeItems (c .declared) (innerIn (i .fr)) is (i .α))) × Pend c w (r .depth) (r .due .rest) is
+      (is : List Item) × (tree c (i .fr) (i .x) (i .α) ≡ step (son c (i .fr) (the is) (i .α))) × Pend c w (r .depth) (r .due .rest) is
 
 -- the node's one son is a leaf
 pub record OneLeaf (w : Words) (r : Regs) (d : Due) : Type 0 where
   pub at : Visited w r
   pub son :
       (c : World) (o : Bytes) (i : In c o w r) →
-      (x : What) × (tree c (i .fr) (i .x) (i .α) ≡ step (tree c (i .fr) x (i .α))) × Job c w (suc (r .depth)) d x × (successJob ≤ d .job)
+      (x : What) × (tree c (i .fr) (i .x) (i .α) ≡ step (son c (i .fr) x (i .α))) × Job c w (suc (r .depth)) d x × (successJob ≤ d .job)
 
--- the node's one son is what an `eq` makes of the value and the bare place whose slot begins with the word `slot`
+-- the node's one son is the rest, with the value for the place whose slot begins with the word `slot`
 pub record Assigns (w : Words) (r : Regs) (slot value : ℕ) : Type 0 where
   pub at : Visited w r
   pub son :
       (c : World) (o : Bytes) (i : In c o w r) →
       (is : List Item) × (p : Place) × (v : ℤ)
-      × (tree c (i .fr) (i .x) (i .α) ≡ step (assign (c .declared) (innerIn (i .fr)) (r .due .head) p v (λ β. treeItems (c .declared) (innerIn (i .fr)) is β) (i .α)))
-      × Pend c w (r .depth) (r .due .rest) is
-      × (slot ≡ slotOf p)
-      × (value ≡ biased v)
-      × InTable p
-      × (i .α p ≡ empty)
-      × T (in32 v)
-
--- whether the place of a slot may be assigned: in an inner tree no array element is, and array 0 begins after the scalars
-abbrev pub Assignable : Words → ℕ → ℕ → Bool → Type 0
-Assignable w inner slot true = (inner ≡ 0) ⊎ (slot < cellSlot (getD w firstsAt 0)) ⊎ (localsAt ≤ slot)
-Assignable w inner slot false = (inner ≡ 0 → ⊥) × (cellSlot (getD w firstsAt 0) ≤ slot) × (slot < localsAt)
-
--- the same where the place may be assigned
-pub record Sets (w : Words) (r : Regs) (slot value : ℕ) : Type 0 where
-  pub at : Visited w r
-  pub son :
-      (c : World) (o : Bytes) (i : In c o w r) →
-      (is : List Item) × (p : Place) × (v : ℤ)
-      × (tree c (i .fr) (i .x) (i .α) ≡ step (treeItems (c .declared) (innerIn (i .fr)) is (put (i .α) p (full v))))
+      × (tree c (i .fr) (i .x) (i .α) ≡ step (treeItems (c .declared) is (givenSite p (siteIn (i .fr))) (put (i .α) p (full v))))
       × Pend c w (r .depth) (r .due .rest) is
       × (slot ≡ slotOf p)
       × (value ≡ biased v)
@@ -114,13 +94,17 @@ pub record Sets (w : Words) (r : Regs) (slot value : ℕ) : Type 0 where
       × (i .α p ≡ empty)
       × T (allowed (c .declared) p v)
 
+-- the register `inner` once the place has got a value whose mark is the word `mark`
+abbrev pub afterGiven : ℕ → ℕ → ℕ
+afterGiven mark inner = pick (ltb mark inner) givenTree inner
+
 -- the node's one son is the rest where a test holds, else a failure leaf
 pub record Tested (w : Words) (r : Regs) (holds : Bool) : Type 0 where
   pub at : Visited w r
   pub son :
       (c : World) (o : Bytes) (i : In c o w r) →
       (is : List Item)
-      × (tree c (i .fr) (i .x) (i .α) ≡ step (check holds (λ β. treeItems (c .declared) (innerIn (i .fr)) is β) (i .α)))
+      × (tree c (i .fr) (i .x) (i .α) ≡ step (check holds (λ β. son c (i .fr) (the is) β) (i .α)))
       × Pend c w (r .depth) (r .due .rest) is
 
 -- a `some` from the word `low` up to the word `high`
@@ -129,7 +113,7 @@ pub record Opens (w : Words) (r : Regs) (low high : ℕ) : Type 0 where
   pub sons :
       (c : World) (o : Bytes) (i : In c o w r) →
       (l : ℕ) × (F : Formula) × (n : ℕ) × (x : ℤ) × (is : List Item)
-      × (tree c (i .fr) (i .x) (i .α) ≡ fan x (suc n) (λ j. treeItems (c .declared) (innerIn (i .fr)) (form F ∷ is) (put (i .α) (local l) (full (x +ℤ pos j)))))
+      × (tree c (i .fr) (i .x) (i .α) ≡ fan x (suc n) (λ j. treeItems (c .declared) (form F ∷ is) (boundSite l (siteIn (i .fr))) (put (i .α) (local l) (full (x +ℤ pos j)))))
       × Binds (c .declared) (c .tables) (r .due .head) l F
       × LeftAfter low high n (x +ℤ pos 1)
       × (signed low ≡ x)
@@ -142,7 +126,7 @@ pub record Rounds (w : Words) (r : Regs) (h value last : ℕ) : Type 0 where
   pub son :
       (c : World) (o : Bytes) (i : In c o w r) →
       (l : ℕ) × (F : Formula) × (n : ℕ) × (v : ℤ) × (is : List Item)
-      × (tree c (i .fr) (i .x) (i .α) ≡ step (treeItems (c .declared) (innerIn (i .fr)) (form F ∷ again l F n (v +ℤ pos 1) ∷ is) (put (i .α) (local l) (full v))))
+      × (tree c (i .fr) (i .x) (i .α) ≡ step (treeItems (c .declared) (form F ∷ again l F n (v +ℤ pos 1) ∷ is) (boundSite l (siteIn (i .fr))) (put (i .α) (local l) (full v))))
       × Binds (c .declared) (c .tables) h l F
       × LeftAfter value last n (v +ℤ pos 1)
       × (signed value ≡ v)

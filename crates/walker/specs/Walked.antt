@@ -12,18 +12,19 @@ use Rattle.specification.specs.Outcome.{ran, resultOf, start, runOf, outcome, o
 use Rattle.specification.specs.Report.{endFrom}
 use Rattle.tables.specs.Layout.{nodeSlot, maxPath}
 use Rattle.sheet.specs.Tables.{Words}
-use Rattle.sheet.specs.Held.{Holds, ArraysAt}
+use Rattle.sheet.specs.Held.{Holds, Unmarked, ArraysAt}
 use Rattle.walker.specs.declared.Regs.{Regs}
 use Rattle.walker.specs.declared.Task.{Task}
 use Rattle.walker.specs.Stands.{Stands}
 use Rattle.walker.specs.Registers.{formulaDue}
-use Rattle.walker.specs.States.{downMode, doneEnd}
+use Rattle.walker.specs.States.{downMode, doneEnd, mainTree}
 
 -- the work words hold the sheet's tables, with room for the path
 pub record Ready (w : Words) (t : Task) (s : Sheet) : Type 0 where
   pub well : WellFormed s
   pub formula : Stands (s .declared) w (t .formula) (s .formula)
   pub holds : Holds w (start (s .given))
+  pub unmarked : Unmarked w (start (s .given))
   pub firsts : ArraysAt w (s .declared)
   pub scalar-count : t .scalars ≡ s .declared .scalars
   pub array-count : t .arrays ≡ length (s .declared .arrays)
@@ -40,7 +41,7 @@ startRegs w formula = record {
   mode = downMode;
   depth = 0;
   due = formulaDue w formula 0;
-  inner = 0;
+  inner = mainTree;
   bad = 0;
   end = doneEnd;
   tallies = tallies 0 0 0 0;

@@ -1,35 +1,44 @@
 // Entering a node whose first formula is an atom.
-ghost use Prim.Native.Nat.{_≤_, _<_};
-ghost use lib.ListN.{length, getD};
-ghost use Rattle.tables.specs.Layout.{maxCells, firstsAt};
+ghost use mathlib.Core.Path.{_≡_};
+ghost use Prim.Native.Nat.{_≤_};
 ghost use Rattle.tables.specs.Codes.{eqCode, neCode, geCode};
-ghost use Rattle.walker.specs.Steps.{Entered, Stepped, Assignable, Assigns, Sets, Tested, BothValues, KindOf, FaultOf, Compares};
+ghost use Rattle.walker.specs.Steps.{Entered, Stepped, Assigns, afterGiven, Tested, BothValues, KindOf, FaultOf, Compares};
 use crate::Regs;
 use crate::changes;
 use crate::dues;
+use crate::inner;
 use crate::registers;
 use crate::sons;
 use crate::todos;
 use tables::codes;
 use tables::nodes::Node;
-use tables::slots;
 use terms::Sides;
 use terms::kinds;
 use terms::tags;
 
-// The value goes into the empty slot, then the rest.
-fn set(w: &mut [u32], r: Regs, slot: u32, value: u32) -> Regs
-    requires { ⌜ Sets (now w) r slot value ⌝ }
+// The register `inner` once a place has got a value: in an inner tree a lower mark tells of a place outside.
+fn after_given(mark: u32, inner: u32) -> u32
+    ensures { λ n. ⌜ n ≡ afterGiven mark inner ⌝ }
+{
+    if mark < inner {
+        return inner::GIVEN;
+    }
+    inner
+}
+
+// An `eq` with a bare side: the value goes into the empty slot, then the rest.
+fn assign(w: &mut [u32], r: Regs, slot: u32, value: u32) -> Regs
+    requires { ⌜ Assigns (now w) r slot value ⌝ }
     ensures { λ q. ⌜ Stepped (now (w .entry)) (now (w .exit)) r q ⌝ }
 {
-    let old = tables::word(w, slot + 1);
+    let mark = tables::word(w, slot + 1);
     let n = Node {
         head: r.due.head,
         rest: r.due.rest,
         todo: todos::UNDO,
         slot,
         had: 0,
-        old,
+        old: mark,
         current: 0,
         last: 0,
         inner: r.inner,
@@ -37,33 +46,7 @@ fn set(w: &mut [u32], r: Regs, slot: u32, value: u32) -> Regs
     };
     changes::alter(w, r.depth, n, 1, value);
     let d = dues::list_at(w, r.due.rest);
-    registers::due(r, r.depth + 1, d, r.inner, r.bad)
-}
-
-// Whether the slot may be assigned: in an inner tree no array element is.
-fn assignable(w: &[u32], inner: u32, slot: u32) -> bool
-    requires { ⌜ (firstsAt < length (now w)) × (getD (now w) firstsAt 0 ≤ maxCells) ⌝ }
-    ensures { λ b. ⌜ Assignable (now (w .entry)) inner slot b ⌝ }
-{
-    if inner == 0 {
-        return true;
-    }
-    // the first element's slot: array 0 begins after the scalars
-    if slot < slots::CELLS + slots::WORDS * tables::first_cell(w, 0) {
-        return true;
-    }
-    slots::LOCALS <= slot
-}
-
-// An `eq` with a bare side.
-fn assign(w: &mut [u32], r: Regs, slot: u32, value: u32) -> Regs
-    requires { ⌜ Assigns (now w) r slot value ⌝ }
-    ensures { λ q. ⌜ Stepped (now (w .entry)) (now (w .exit)) r q ⌝ }
-{
-    if assignable(w, r.inner, slot) {
-        return set(w, r, slot, value);
-    }
-    sons::err(w, r, kinds::NO_VALUE)
+    registers::due(r, r.depth + 1, d, after_given(mark, r.inner), r.bad)
 }
 
 fn check(w: &mut [u32], r: Regs, holds: bool) -> Regs

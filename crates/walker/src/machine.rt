@@ -4,7 +4,7 @@ ghost use Prim.Native.Nat.{_<_};
 ghost use lib.ListN.{length};
 ghost use Rattle.tables.specs.Layout.{tokenSlot};
 ghost use Rattle.walker.specs.Steps.{Visited, Stepped};
-ghost use Rattle.walker.specs.Loop.{AtLeaf, LeafDone, VisitDue, Arrived, BlockDue, Blocked, Goes, Went, IsUp, Climbs, Climbed, Runs, Settled, Live, snapshot, Moved};
+ghost use Rattle.walker.specs.Loop.{AtLeaf, LeafDone, VisitDue, Arrived, BlockDue, Blocked, Climbs, Climbed, Runs, Settled, Live, snapshot, Moved};
 ghost use Rattle.walker.specs.Walked.{Readied, startRegs, Finished, Walked};
 ghost use Rattle.walker.specs.Blocks.{HeadDue, headDue, passedRegs};
 use crate::Regs;
@@ -31,7 +31,7 @@ fn at_leaf(r: Regs) -> Regs
     ensures { λ q. ⌜ LeafDone r q ⌝ }
 {
     let t = r.tallies;
-    if r.inner == 1 {
+    if r.inner != inner::MAIN {
         if r.due.job == jobs::SUCCESS {
             return registers::leaf(r, modes::WON, r.bad, t, r.written);
         }
@@ -136,35 +136,13 @@ fn block(w: &[u32], out: &mut [u8], r: Regs, task: Task) -> Regs
     }
 }
 
-// Visits, one below the other, until a leaf is done or the walk is over.
-fn descend(w: &mut [u32], r: Regs, path: u32, budget: u32) -> Regs
-    requires { ⌜ Goes (now w) r path budget ⌝ }
-    ensures { λ q. ⌜ Went (now (w .entry)) (now (w .exit)) r q path budget ⌝ }
+// Steps up in one of the two modes, until a visit is due or the walk is over.
+fn climb(w: &mut [u32], r: Regs, mode: u32) -> Regs
+    requires { ⌜ Climbs (now w) r mode ⌝ }
+    ensures { λ q. ⌜ Climbed (now (w .entry)) (now (w .exit)) r q mode ⌝ }
 {
     let mut q = r;
-    while q.mode == modes::DOWN {
-        q = visit(w, q, path, budget);
-    }
-    q
-}
-
-// Whether a step up is due: a son is finished, or an inner tree has succeeded.
-fn is_up(mode: u32) -> bool
-    ensures { λ b. ⌜ IsUp mode b ⌝ }
-{
-    if mode == modes::UP {
-        return true;
-    }
-    mode == modes::WON
-}
-
-// Steps up, until a visit is due or the walk is over.
-fn climb(w: &mut [u32], r: Regs) -> Regs
-    requires { ⌜ Climbs (now w) r ⌝ }
-    ensures { λ q. ⌜ Climbed (now (w .entry)) (now (w .exit)) r q ⌝ }
-{
-    let mut q = r;
-    while is_up(q.mode) {
+    while q.mode == mode {
         q = rise::ascend(w, q);
     }
     q
@@ -181,14 +159,15 @@ fn settle(w: &[u32], out: &mut [u8], r: Regs, task: Task) -> Regs
     r
 }
 
-// Down to a leaf, its block, and up again.
+// One visit; up, if an inner tree has succeeded; the block, if one is due; and up, if a son is finished.
 fn step(w: &mut [u32], out: &mut [u8], r: Regs, task: Task) -> Regs
     requires { ⌜ Live (now w) (now out) r task ⌝ }
     ensures { λ q. ⌜ Moved (snapshot (now (w .entry)) (now (out .entry)) r) (snapshot (now (w .exit)) (now (out .exit)) q) task ⌝ }
 {
-    let d = descend(w, r, task.setting.path, task.setting.budget);
-    let s = settle(w, out, d, task);
-    climb(w, s)
+    let d = visit(w, r, task.setting.path, task.setting.budget);
+    let c = climb(w, d, modes::WON);
+    let s = settle(w, out, c, task);
+    climb(w, s, modes::UP)
 }
 
 // The walk from the formula's first token, before its first visit.
@@ -207,7 +186,7 @@ fn start(w: &[u32], formula: u32) -> Regs
         mode: modes::DOWN,
         depth: 0,
         due: d,
-        inner: 0,
+        inner: inner::MAIN,
         bad: 0,
         end: registers::DONE,
         tallies: t,
@@ -220,7 +199,7 @@ fn walk(w: &mut [u32], out: &mut [u8], task: Task) -> Regs
     ensures { λ r. ⌜ Finished (now (w .entry)) (now (w .exit)) (now (out .entry)) (now (out .exit)) task r ⌝ }
 {
     let mut r = start(w, task.formula);
-    while r.mode != modes::OVER {
+    while r.mode == modes::DOWN {
         r = step(w, out, r, task);
     }
     r

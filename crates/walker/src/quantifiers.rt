@@ -62,13 +62,13 @@ fn bounds(w: &mut [u32], h: u32) -> Sides
     terms::evaluation::sides(w, h + AFTER_LOCAL, e)
 }
 
-// `ex`: its formula, the local without a value, then the rest.
+// `ex`: its formula, the local without a value, then the rest. The slot keeps where it was bound: one more than this node's depth.
 pub(crate) fn enter_ex(w: &mut [u32], r: Regs) -> Regs
     requires { ⌜ Entered (now w) r exCode ⌝ }
     ensures { λ q. ⌜ Stepped (now (w .entry)) (now (w .exit)) r q ⌝ }
 {
     let n = binder(w, r, r.due.head, todos::UNDO, 0, 0);
-    changes::alter(w, r.depth, n, 0, 0);
+    changes::alter(w, r.depth, n, 0, r.depth + 1);
     let d = dues::formula(w, r.due.head + AFTER_LOCAL, r.due.rest);
     registers::due(r, r.depth + 1, d, r.inner, r.bad)
 }

@@ -1,13 +1,17 @@
 -- `connectives::enter_empty` meets its contract.
 use borrow.Author.Needs.{needs}
+use Rattle.walker.proofs.Enters.{empty-success, empty-given}
 use Rattle.walker.proofs.connectives.enter_empty.Statement.{statement}
 use Rattle.walker.proofs.connectives.enter_empty.Tie as tie
 
-plain-due-requires : tie.Need-plain-due-requires
-plain-due-requires c κs = search needs
+error-due-requires : tie.Need-error-due-requires
+error-due-requires c κs = search needs
 
 to-leaf-requires : tie.Need-to-leaf-requires
-to-leaf-requires c κs = rw (c .before .plain-due .ensures) (c .before .before .before .pre)
+to-leaf-requires c κs =
+    let start = c .before .before .before .before .before in
+    let x = (start .pre) in
+    rw (c .before .error-due .ensures) (empty-given (x .0) (x .1) (c .before .before .if1 .taken))
 
 same-length : tie.Need-same-length
 same-length c = search needs
@@ -15,11 +19,22 @@ same-length c = search needs
 returns : tie.Need-returns
 returns c = search needs
 
+plain-due-requires : tie.Need-plain-due-requires
+plain-due-requires c κs = search needs
+
+to-leaf-requires-2 : tie.Need-to-leaf-requires-2
+to-leaf-requires-2 c κs =
+    let start = c .before .before .before .before .before in
+    let x = (start .pre) in
+    rw (c .before .plain-due .ensures) (empty-success (x .0) (x .1) (c .before .before .if1 .left))
+
+same-length-2 : tie.Need-same-length-2
+same-length-2 c = search needs
+
+returns-2 : tie.Need-returns-2
+returns-2 c = search needs
+
 pub enter-empty-spec : {M : Type 1} → statement M
 enter-empty-spec =
     tie.close
-    (tie.spec
-    plain-due-requires
-    to-leaf-requires
-    same-length
-    returns)
+    (tie.spec error-due-requires to-leaf-requires same-length returns plain-due-requires to-leaf-requires-2 same-length-2 returns-2)

@@ -3,14 +3,14 @@ use borrow.Author.Needs.{needs}
 use native.Mathlib.Omega.{arith}
 use mathlib.Core.Logic.{⊎-elim, inl, inr}
 use Rattle.tables.specs.Codes.{trueCode, andCode, orCode, eqCode, exCode, someCode, allCode}
-use Rattle.walker.proofs.Enters.{empty-leaf, entered, entered-inner, leaf-due, leaf-stepped, entered-compare}
+use Rattle.walker.proofs.Enters.{entered, entered-inner, leaf-due, leaf-stepped, entered-compare}
 use Rattle.walker.proofs.machine.enter.Statement.{statement}
 use Rattle.walker.proofs.machine.enter.Tie as tie
 
 enter-empty-requires : tie.Need-enter-empty-requires
 enter-empty-requires c κs =
     let start = c .before .before .before in
-    empty-leaf (start .pre) (c .before .match .keys1)
+    (start .pre, c .before .match .keys1)
 
 enter-true-requires : tie.Need-enter-true-requires
 enter-true-requires c κs =

@@ -20,9 +20,13 @@ had-of-requires c κs = search needs
 old-of-requires : tie.Need-old-of-requires
 old-of-requires c κs = search needs
 
+inner-of-requires : tie.Need-inner-of-requires
+inner-of-requires c κs = search needs
+
 set-slot-requires : tie.Need-set-slot-requires
 set-slot-requires c κs =
-    let at-slot-of = c .before .before .before .before .before in
+    let at-had-of = c .before .before .before .before .before in
+    let at-slot-of = at-had-of .before .before in
     let start = at-slot-of .before .before .before .before in
     let x = (start .pre) in
     omega (arith, (at-slot-of .slot-of .ensures), slot-there x, x .at .path .size)
@@ -36,11 +40,12 @@ same-length c = search needs
 returns : tie.Need-returns
 returns c =
     let at-set-slot = c .before .before .before in
-    let at-old-of = at-set-slot .before .before in
+    let at-inner-of = at-set-slot .before .before in
+    let at-old-of = at-inner-of .before .before in
     let at-had-of = at-old-of .before .before in
     let at-slot-of = at-had-of .before .before in
     let start = at-slot-of .before .before .before .before in
-    rw (c .pop .ensures) (restored (start .pre) (at-slot-of .slot-of .ensures) (at-had-of .had-of .ensures) (at-old-of .old-of .ensures) (at-set-slot .set-slot .ensures))
+    rw (c .pop .ensures) (restored (start .pre) (at-slot-of .slot-of .ensures) (at-had-of .had-of .ensures) (at-old-of .old-of .ensures) (at-inner-of .inner-of .ensures) (at-set-slot .set-slot .ensures))
 
 pub restore-spec : {M : Type 1} → statement M
 restore-spec =
@@ -51,6 +56,7 @@ restore-spec =
     cast-i
     had-of-requires
     old-of-requires
+    inner-of-requires
     set-slot-requires
     pop-requires
     same-length

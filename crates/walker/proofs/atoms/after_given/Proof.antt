@@ -1,0 +1,13 @@
+-- `atoms::after_given` meets its contract.
+use borrow.Author.Tests.{lt-ltb, le-ltb}
+use Rattle.walker.proofs.atoms.after_given.Statement.{statement}
+use Rattle.walker.proofs.atoms.after_given.Tie as tie
+
+returns : tie.Need-returns
+returns c = rw (lt-ltb _ _ (c .if1 .taken))
+
+returns-2 : tie.Need-returns-2
+returns-2 c = rw (le-ltb _ _ (c .if1 .left))
+
+pub after-given-spec : {M : Type 1} → statement M
+after-given-spec = tie.close (tie.spec returns returns-2)
