@@ -123,6 +123,7 @@ module _ (b : Bytes) (S : Setting) (n : ℕ) (limit : S .path ≤ longestPath) (
             good = record { scope = nowhere; locals = λ l x. absurd x; ok = well .formula; shallow = read-shallow b s r e };
           };
           holds = held .values;
+          unmarked = held .unmarked;
           firsts = held .arrays;
           scalar-count = p;
           array-count = q;
