@@ -1,7 +1,7 @@
 -- The layout of the work words: where each table begins, how many entries it may have, and the words of each entry.
 --
 --   tokens     4 words each: code, operand, the token after its subtree, spare
---   cells      2 words each, a slot: whether it has a value, and the value's word
+--   cells      2 words each, a slot: whether it has a value, and the value's word; without a value its mark (the walker's specs/Site.antt)
 --   locals     2 words each, the same
 --   firsts     the first cell of each array, and the end of the cells after the last
 --   dues       3 words each: what is due while a formula is read; afterwards the results of terms that are being valued

@@ -36,7 +36,7 @@ currentWord d = nodeSlot d + 6
 abbrev pub lastWord : ℕ → ℕ
 lastWord d = nodeSlot d + 7
 
--- whether the node stands in an inner tree, and whether that tree has had an error leaf
+-- the walk's register `inner` at the node, and whether the tree there has had an error leaf
 abbrev pub innerWord : ℕ → ℕ
 innerWord d = nodeSlot d + 8
 

@@ -6,8 +6,8 @@ ghost use Rattle.tables.specs.Layout.{nodeSlot, nodeEnd};
 ghost use Rattle.tables.specs.Node.{todoWord, currentWord, headAt, restAt, todoAt, slotAt, hadAt, oldAt, currentAt, lastAt, innerAt, badAt, Marked, Linked, Pushed};
 
 // A node: the token of its first formula and the pointer to the rest of its list; what is left to do there; the slot that it changed and the
-// two words it held; the present and the last value of a quantifier's local; whether it stands in an inner tree, and whether that tree has
-// had an error leaf.
+// two words it held; the present and the last value of a quantifier's local; the walk's register `inner` there, and whether
+// its tree has had an error leaf.
 pub struct Node {
     pub head: u32,
     pub rest: u32,

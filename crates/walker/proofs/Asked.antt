@@ -16,13 +16,14 @@ use Rattle.tables.proofs.Laws.Kept.{marked-kept}
 use Rattle.sheet.specs.Tables.{Words}
 use Rattle.walker.specs.declared.Due.{Due}
 use Rattle.walker.specs.declared.Regs.{Regs}
-use Rattle.walker.specs.Frame.{Item, form, the, treeItems, siteIn, Question, denying, implying, sonOf}
+use Rattle.walker.specs.Frame.{Item, form, treeItems, siteIn, Question, denying, implying, sonOf}
 use Rattle.walker.specs.Site.{sonSite, innerSite, growAt}
 use Rattle.walker.specs.Path.{World, Pend, Asks}
 use Rattle.walker.specs.Stands.{Stands}
 use Rattle.walker.specs.Sim.{tree, In, Down}
 use Rattle.walker.specs.Steps.{Visited, Entered}
 use Rattle.walker.specs.Registers.{formulaDue, dueRegs}
+use Rattle.walker.specs.States.{innerRoot}
 use Rattle.walker.proofs.Heads.{at-form, form-tree}
 use Rattle.walker.proofs.Pushes.{formula-job}
 use Rattle.walker.proofs.Onto.{askNode, down-asks}
@@ -86,7 +87,7 @@ questions (inl x) = record { at = x .at; all = imp-asks x }
 questions (inr x) = record { at = x .at; all = not-asks x }
 
 pub asks-down : {w w' : Words} {r : Regs} {d : Due} (x : Questions w r) → Pushed w w' (r .depth) (askNode r) → d ≡ formulaDue w' (r .due .head + 1) 0 →
-    (c : World) (o : Bytes) → In c o w r → Down c o w' (dueRegs r (r .depth + 1) d (r .depth + 2) 0)
+    (c : World) (o : Bytes) → In c o w r → Down c o w' (dueRegs r (r .depth + 1) d (r .depth + innerRoot) 0)
 unfolding enquire
 asks-down {w' = w'} {r = r} x g k c o i =
     let q = x .all c o i in

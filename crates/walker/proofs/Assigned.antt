@@ -13,9 +13,10 @@ use Rattle.walker.specs.declared.Due.{Due}
 use Rattle.walker.specs.declared.Regs.{Regs}
 use Rattle.walker.specs.Frame as frames
 use Rattle.walker.specs.Frame.{the}
+use Rattle.walker.specs.Site.{afterGiven}
 use Rattle.walker.specs.Path.{World}
 use Rattle.walker.specs.Sim.{In, Down}
-use Rattle.walker.specs.Steps.{Leads, Listed, GoesOn, OneLeaf, Assigns, afterGiven, Tested}
+use Rattle.walker.specs.Steps.{Leads, Listed, GoesOn, OneLeaf, Assigns, Tested}
 use Rattle.walker.specs.Registers.{dueOf, dueRegs}
 use Rattle.walker.specs.Binding.{Alters}
 use Rattle.walker.specs.States.{failureJob, undoTodo}
@@ -35,8 +36,8 @@ test-false x e = record { at = x .at; son = λ c o i. let q = x .son c o i in (f
 -- ---- an assignment
 
 -- the node that an assignment makes
-abbrev setNode : Words → Regs → ℕ → Node
-setNode w r slot = record {
+abbrev assignNode : Words → Regs → ℕ → Node
+assignNode w r slot = record {
   head = r .due .head;
   rest = r .due .rest;
   todo = undoTodo;
@@ -49,24 +50,24 @@ setNode w r slot = record {
   bad = r .bad;
 }
 
-module _ {w w' : Words} {r : Regs} {slot value : ℕ} (x : Assigns w r slot value) (g : Alters w w' (r .depth) (setNode w r slot) 1 value) where
-  set-replaces : (c : World) (o : Bytes) (i : In c o w r) → let q = x .son c o i in Replaces (c .declared) w w' (r .depth) (setNode w r slot) (i .α) (q .1) (full (q .2))
-  set-replaces c o i =
+module _ {w w' : Words} {r : Regs} {slot value : ℕ} (x : Assigns w r slot value) (g : Alters w w' (r .depth) (assignNode w r slot) 1 value) where
+  assign-replaces : (c : World) (o : Bytes) (i : In c o w r) → let q = x .son c o i in Replaces (c .declared) w w' (r .depth) (assignNode w r slot) (i .α) (q .1) (full (q .2))
+  assign-replaces c o i =
       let (is, p, v, tree, rest, place, word, inside, none, good) = x .son c o i in
       replaces (c .declared) (i .α) p (full v) g place inside (rw none refl) refl good (refl, word) (omega (arith, i .path .size))
 
-  pub set-leads : Leads w' (r .due .rest)
-  set-leads =
+  pub assign-leads : Leads w' (r .due .rest)
+  assign-leads =
       let c = x .at .c in
       let o = x .at .o in
       let i = x .at .ins in
-      rest-leads i (x .son c o i .0) (replaces-kept (set-replaces c o i)) (x .son c o i .4)
+      rest-leads i (x .son c o i .0) (replaces-kept (assign-replaces c o i)) (x .son c o i .4)
 
-  pub set-down : {d : Due} {inner : ℕ} → Listed w' (r .due .rest) d → inner ≡ afterGiven (getD w (slot + 1) 0) (r .inner) →
+  pub assign-down : {d : Due} {inner : ℕ} → Listed w' (r .due .rest) d → inner ≡ afterGiven (getD w (slot + 1) 0) (r .inner) →
       (c : World) (o : Bytes) → In c o w r → Down c o w' (dueRegs r (r .depth + 1) d inner (r .bad))
-  set-down f n c o i =
+  assign-down f n c o i =
       let q = x .son c o i in
-      let m = set-replaces c o i in
+      let m = assign-replaces c o i in
       let k = replaces-kept m in
       down-given i (q .1) (q .2) m refl refl (the (q .0)) (q .3)
       (f c (r .depth + 1) (q .0) (λ j h. k .tokens j h ∙ i .path .tokens j h) (rest-onto i (q .0) (r .depth + 1) k (omega arith) (q .4)))

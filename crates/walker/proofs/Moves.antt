@@ -8,7 +8,6 @@ use Rattle.specification.specs.Bytes.{Bytes}
 use Rattle.sheet.specs.Tables.{Words}
 use Rattle.walker.specs.declared.Regs.{Regs}
 use Rattle.walker.specs.declared.Task.{Task}
-use Rattle.walker.specs.Frame.{the}
 use Rattle.walker.specs.Path.{World}
 use Rattle.walker.specs.Sim.{Down, Leaf, Over, Sim, over, down, up, won, block}
 use Rattle.walker.specs.Loop.{Ups, Rising, Rose, Fixed, BlockDue, Blocked, VisitDue, Arrived, Climbs, Climbed, Runs, Settled, Live, snapshot, Moved}

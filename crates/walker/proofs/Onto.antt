@@ -4,7 +4,7 @@ use Prim.Native.Nat.{ℕ, suc, _+_, _<_}
 use native.Mathlib.Omega.{arith}
 use native.Mathlib.Numerals.{add-one}
 use mathlib.Core.Path.{_≡_, refl, sym, _∙_, ap}
-use mathlib.Core.Bool.{Bool, true, false}
+use mathlib.Core.Bool.{Bool, false}
 use mathlib.Core.List.{List, [], _∷_}
 use lib.IntN.{ℤ, pos, _+ℤ_}
 use Rattle.specification.specs.Bytes.{Bytes}
@@ -25,14 +25,14 @@ use Rattle.walker.specs.declared.Due.{Due}
 use Rattle.walker.specs.declared.Regs.{Regs}
 use Rattle.walker.specs.Walk.{sonsFrom, within, walk}
 use Rattle.walker.specs.Frame.{Item, form, What, the, treeItems, treeWhat, Question, sonOf, Frame, pass, other, bound, given, range, asks, here, below, innerIn, siteIn}
-use Rattle.walker.specs.Site.{sonSite, boundSite, innerSite, givenSite, innerAfter}
+use Rattle.walker.specs.Site.{sonSite, boundSite, innerSite, givenSite}
 use Rattle.walker.specs.Path.{World, conditionsOf, Pend, Job, bit, Changed, Asks, FrameAt, Path}
 use Rattle.walker.specs.Stands.{Stands, Binds, LeftAfter}
 use Rattle.walker.specs.Sim.{tree, son, yes, no, Down, In, down}
 use Rattle.walker.specs.Steps.{Stepped}
 use Rattle.walker.specs.Registers.{dueRegs}
 use Rattle.walker.specs.Binding.{binderNode}
-use Rattle.walker.specs.States.{noTodo, otherTodo, undoTodo, nextTodo, judgeTodo}
+use Rattle.walker.specs.States.{innerRoot, noTodo, otherTodo, undoTodo, nextTodo, judgeTodo}
 use Rattle.walker.proofs.Walk.{within-ask}
 use Rattle.walker.proofs.Registered.{site-depth}
 use Rattle.walker.proofs.Keep.{frame-keep}
@@ -114,7 +114,7 @@ module _ {c : World} {o : Bytes} {w : Words} {r : Regs} (i : In c o w r) where
   bound-mark l s mark none =
       mark none ∙ ap suc (sym at-depth) ∙ sym (put-same (siteIn (i .fr) .marks) (local l) (suc (siteIn (i .fr) .depth)))
 
-  inner-number : r .depth + 2 ≡ innerSite (siteIn (i .fr)) .inner
+  inner-number : r .depth + innerRoot ≡ innerSite (siteIn (i .fr)) .inner
   inner-number = omega (arith, at-depth)
 
   -- nothing is left to do
@@ -138,7 +138,7 @@ module _ {c : World} {o : Bytes} {w : Words} {r : Regs} (i : In c o w r) where
   -- a place that is given a value
   pub down-given : {w' : Words} {n : Node} (p : Place) (v : ℤ) → Replaces (c .declared) w w' (r .depth) n (i .α) p (full v) → n .todo ≡ undoTodo → n .inner ≡ r .inner → (x : What) →
       tree c (i .fr) (i .x) (i .α) ≡ step (treeWhat (c .declared) x (givenSite p (siteIn (i .fr))) (put (i .α) p (full v))) → {d : Due} → Job c w' (r .depth + 1) d x →
-      {inner : ℕ} → inner ≡ innerAfter p (siteIn (i .fr)) → Down c o w' (dueRegs r (r .depth + 1) d inner (r .bad))
+      {inner : ℕ} → inner ≡ siteIn (given p v (i .α) ∷ i .fr) .inner → Down c o w' (dueRegs r (r .depth + 1) d inner (r .bad))
   unfolding within
   down-given p v a t kept x e j n =
       onto (given p v (i .α)) x (i .e)
@@ -185,7 +185,7 @@ module _ {c : World} {o : Bytes} {w : Words} {r : Regs} (i : In c o w r) where
       (let I = treeItems (c .declared) (form F ∷ []) (innerSite (siteIn (i .fr))) (i .α) in
       tree c (i .fr) (i .x) (i .α) ≡ ask I (sonOf (c .declared) (r .due .head) q is (verdict I) (sonSite (siteIn (i .fr))) (i .α))) →
       r .due .head < maxTokens → Asks c (r .due .head) q → Pend c w (r .depth) (r .due .rest) is → {d : Due} → Job c w' (r .depth + 1) d (the (form F ∷ [])) →
-      Down c o w' (dueRegs r (r .depth + 1) d (r .depth + 2) 0)
+      Down c o w' (dueRegs r (r .depth + 1) d (r .depth + innerRoot) 0)
   down-asks g F q is e small a p j =
       let m = innerIn (i .fr) in
       let after : Verdict → Tree = λ v. sonOf (c .declared) (r .due .head) q is v (sonSite (siteIn (i .fr))) (i .α) in

@@ -110,7 +110,7 @@ module _ {w : Words} {r : Regs} (u : Rising w r) (some : 0 < r .depth) where
             top = range l x i n F is β;
             under = fr;
             parts = refl;
-              same-no = λ m.
+            same-no = λ m.
                 let h : ¬ (currentAt w (len fr) < lastAt w (len fr)) = rw e at (last m) in
                 none-left c l x i n F is β fr (omega (arith, a .count, h));
             same-yes = refl;

@@ -22,7 +22,7 @@ use Rattle.walker.specs.declared.Task.{Task}
 use Rattle.walker.specs.Walk.{walk}
 use Rattle.walker.specs.Frame.{form, the}
 use Rattle.walker.specs.Path.{World, Marks}
-use Rattle.walker.specs.Sim.{Down, Sim, over}
+use Rattle.walker.specs.Sim.{Down, Sim}
 use Rattle.walker.specs.Loop.{Fixed}
 use Rattle.walker.specs.Walked.{Ready, startRegs, Finished, Walked}
 use Rattle.walker.specs.States.{overMode}

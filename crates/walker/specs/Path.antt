@@ -5,12 +5,11 @@ use mathlib.Core.Path.{_≡_}
 use mathlib.Core.Bool.{Bool, true, false}
 use mathlib.Core.List.{List, [], _∷_, _++_}
 use lib.ListN.{length, drop, getD}
-use lib.IntN.{ℤ, pos, _+ℤ_}
+use lib.IntN.{pos, _+ℤ_}
 use Rattle.specification.specs.declared.Setting.{Setting}
 use Rattle.specification.specs.declared.Tallies.{Tallies}
 use Rattle.specification.specs.Bytes.{Bytes}
 use Rattle.specification.specs.Lines.{Declared, cells}
-use Rattle.specification.specs.Ast.{and, or}
 use Rattle.specification.specs.Place.{Place, cell, local}
 use Rattle.specification.specs.Value.{Slot, empty, full, Valuation}
 use Rattle.specification.specs.WellFormed.{Valid}

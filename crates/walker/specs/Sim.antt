@@ -2,7 +2,7 @@
 -- Assumes nothing.
 use Prim.Native.Nat.{suc, _+_, _<_}
 use mathlib.Core.Path.{_≡_}
-use mathlib.Core.Bool.{Bool, false}
+use mathlib.Core.Bool.{Bool}
 use mathlib.Core.List.{List}
 use Rattle.specification.specs.Bytes.{Bytes}
 use Rattle.specification.specs.Value.{Valuation}
@@ -14,7 +14,7 @@ use Rattle.sheet.specs.Tables.{Words}
 use Rattle.walker.specs.declared.Due.{Due}
 use Rattle.walker.specs.declared.Regs.{Regs}
 use Rattle.walker.specs.Walk as walks
-use Rattle.walker.specs.Frame.{What, the, treeWhat, Frame, innerIn, siteIn, resumeYes, resume}
+use Rattle.walker.specs.Frame.{What, treeWhat, Frame, innerIn, siteIn, resumeYes, resume}
 use Rattle.walker.specs.Site.{sonSite}
 use Rattle.walker.specs.Path.{World, conditionsOf, Job, bit, Path, Output, Count}
 use Rattle.walker.specs.States.{overMode, downMode, upMode, wonMode, blockMode, successJob, errorJob}

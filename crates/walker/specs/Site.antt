@@ -41,12 +41,13 @@ boundSite l s = site (suc (s .depth)) (s .inner) (put (s .marks) (local l) (suc 
 abbrev pub innerSite : Site → Site
 innerSite s = site (suc (s .depth)) (suc (suc (s .depth))) (s .marks)
 
--- the register once the place has got a value: in an inner tree it tells of a place outside
-abbrev pub innerAfter : Place → Site → ℕ
-innerAfter p s = pick (ltb (s .marks p) (s .inner)) givenTree (s .inner)
+-- the register once a place with this mark has got a value: in an inner tree it tells of a place outside
+abbrev pub afterGiven : ℕ → ℕ → ℕ
+afterGiven mark inner = pick (ltb mark inner) givenTree inner
 
+-- below an `eq` that gave the place a value
 abbrev pub givenSite : Place → Site → Site
-givenSite p s = site (suc (s .depth)) (innerAfter p s) (s .marks)
+givenSite p s = site (suc (s .depth)) (afterGiven (s .marks p) (s .inner)) (s .marks)
 
 -- ---- the tree from a site
 

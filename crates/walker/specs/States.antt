@@ -56,14 +56,17 @@ nextTodo = 3
 abbrev pub judgeTodo : ℕ
 judgeTodo = 4
 
--- ---- the register `inner`: in the main tree; in an inner tree that has given a value to a place outside. From 2 on: in one that has not,
--- and two more than the depth of the node that asks
+-- ---- the register `inner`: in the main tree; in an inner tree that has given a value to a place outside; in one that has not, so much more
+-- than the depth of the node that asks
 
 abbrev pub mainTree : ℕ
 mainTree = 0
 
 abbrev pub givenTree : ℕ
 givenTree = 1
+
+abbrev pub innerRoot : ℕ
+innerRoot = 2
 
 -- ---- which tally grows
 

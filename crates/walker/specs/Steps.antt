@@ -1,13 +1,13 @@
 -- The contracts of the walk's functions. A requires holds some world for safety; an ensures goes from the invariant before to the invariant
 -- after, in every world. Assumes nothing.
-use Prim.Native.Nat.{ℕ, suc, _+_, _*_, _≤_, _<_}
+use Prim.Native.Nat.{ℕ, suc, _+_, _*_, _≤_}
 use mathlib.Core.Path.{_≡_}
 use mathlib.Core.Bool.{Bool, true, false}
 use mathlib.Core.List.{List, _∷_}
 use lib.ListN.{length}
-use lib.Dec.{T, ltb}
+use lib.Dec.{T}
 use lib.IntN.{ℤ, pos, _+ℤ_}
-use Rattle.specification.specs.Bytes.{Bytes, pick}
+use Rattle.specification.specs.Bytes.{Bytes}
 use Rattle.specification.specs.Ast.{Rel, Formula}
 use Rattle.specification.specs.Arithmetic.{test, noValue}
 use Rattle.specification.specs.Place.{Place, local, put}
@@ -29,7 +29,7 @@ use Rattle.walker.specs.Site.{boundSite, givenSite}
 use Rattle.walker.specs.Path.{World, Pend, Job, InTable}
 use Rattle.walker.specs.Stands.{Binds, LeftAfter}
 use Rattle.walker.specs.Sim.{tree, son, In, Sim}
-use Rattle.walker.specs.States.{successJob, blockMode, givenTree}
+use Rattle.walker.specs.States.{successJob, blockMode}
 
 -- ---- lists
 
@@ -93,10 +93,6 @@ pub record Assigns (w : Words) (r : Regs) (slot value : ℕ) : Type 0 where
       × InTable p
       × (i .α p ≡ empty)
       × T (allowed (c .declared) p v)
-
--- the register `inner` once the place has got a value whose mark is the word `mark`
-abbrev pub afterGiven : ℕ → ℕ → ℕ
-afterGiven mark inner = pick (ltb mark inner) givenTree inner
 
 -- the node's one son is the rest where a test holds, else a failure leaf
 pub record Tested (w : Words) (r : Regs) (holds : Bool) : Type 0 where

@@ -1,8 +1,7 @@
 // Entering a node whose first formula is an atom.
-ghost use mathlib.Core.Path.{_≡_};
 ghost use Prim.Native.Nat.{_≤_};
 ghost use Rattle.tables.specs.Codes.{eqCode, neCode, geCode};
-ghost use Rattle.walker.specs.Steps.{Entered, Stepped, Assigns, afterGiven, Tested, BothValues, KindOf, FaultOf, Compares};
+ghost use Rattle.walker.specs.Steps.{Entered, Stepped, Assigns, Tested, BothValues, KindOf, FaultOf, Compares};
 use crate::Regs;
 use crate::changes;
 use crate::dues;
@@ -15,16 +14,6 @@ use tables::nodes::Node;
 use terms::Sides;
 use terms::kinds;
 use terms::tags;
-
-// The register `inner` once a place has got a value: in an inner tree a lower mark tells of a place outside.
-fn after_given(mark: u32, inner: u32) -> u32
-    ensures { λ n. ⌜ n ≡ afterGiven mark inner ⌝ }
-{
-    if mark < inner {
-        return inner::GIVEN;
-    }
-    inner
-}
 
 // An `eq` with a bare side: the value goes into the empty slot, then the rest.
 fn assign(w: &mut [u32], r: Regs, slot: u32, value: u32) -> Regs
@@ -46,7 +35,7 @@ fn assign(w: &mut [u32], r: Regs, slot: u32, value: u32) -> Regs
     };
     changes::alter(w, r.depth, n, 1, value);
     let d = dues::list_at(w, r.due.rest);
-    registers::due(r, r.depth + 1, d, after_given(mark, r.inner), r.bad)
+    registers::due(r, r.depth + 1, d, inner::after_given(mark, r.inner), r.bad)
 }
 
 fn check(w: &mut [u32], r: Regs, holds: bool) -> Regs

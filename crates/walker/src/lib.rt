@@ -29,8 +29,9 @@ pub(crate) struct Due {
     pub job: u32,
     pub rest: u32,
 }
-// The registers. `mode`: one of modes.rt; `depth`: how many nodes the path has; `inner`: one of inner.rt, or in an inner tree that has given
-// no value to a place outside two more than the depth of the node that asks for it; `bad`: whether the present tree has had an error leaf; `end`: how the walk ended, by its number (the specification's `endNumber`); `written`: the bytes written.
+// The registers. `mode`: one of modes.rt; `depth`: how many nodes the path has; `inner`: the present tree and what it has given to places
+// outside (inner.rt); `bad`: whether it has had an error leaf; `end`: how the walk ended, by its number (the specification's `endNumber`);
+// `written`: the bytes written.
 pub(crate) struct Regs {
     pub mode: u32,
     pub depth: u32,

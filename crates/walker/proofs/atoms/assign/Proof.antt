@@ -4,7 +4,7 @@ use native.Mathlib.Omega.{arith}
 use Rattle.walker.proofs.Heads.{shallow}
 use Rattle.walker.proofs.Pushes.{alters-size}
 use Rattle.walker.proofs.Onto.{stepped}
-use Rattle.walker.proofs.Assigned.{set-leads, set-down, assigns-placed}
+use Rattle.walker.proofs.Assigned.{assign-leads, assign-down, assigns-placed}
 use Rattle.walker.proofs.atoms.assign.Statement.{statement}
 use Rattle.walker.proofs.atoms.assign.Tie as tie
 
@@ -27,7 +27,7 @@ list-at-requires c κs =
     let at-alter = c .before .before .before in
     let at-word = at-alter .before .before in
     let start = at-word .before .before .before in
-    set-leads (start .pre) (rw (at-word .word .ensures) at (at-alter .alter .ensures))
+    assign-leads (start .pre) (rw (at-word .word .ensures) at (at-alter .alter .ensures))
 
 add-due : tie.Need-add-due
 add-due c =
@@ -54,7 +54,7 @@ returns c =
     let at-word = at-alter .before .before in
     let start = at-word .before .before .before in
     let mark = (at-word .word .ensures) in
-    stepped (c .due .ensures) (set-down (start .pre) (rw mark at (at-alter .alter .ensures)) (at-list-at .list-at .ensures) (rw mark at (c .before .after-given .ensures)))
+    stepped (c .due .ensures) (assign-down (start .pre) (rw mark at (at-alter .alter .ensures)) (at-list-at .list-at .ensures) (rw mark at (c .before .after-given .ensures)))
 
 pub assign-spec : {M : Type 1} → statement M
 assign-spec =

@@ -1,5 +1,4 @@
 -- `machine::climb` meets its contract: each step up keeps the invariant and falls.
-use borrow.Author.Needs.{needs}
 use Prim.Native.Nat.{_+_, _*_}
 use mathlib.Core.Path.{_≡_, refl, _∙_}
 use lib.ListN.{length}

@@ -1,7 +1,7 @@
--- `atoms::after_given` meets its contract.
+-- `inner::after_given` meets its contract.
 use borrow.Author.Tests.{lt-ltb, le-ltb}
-use Rattle.walker.proofs.atoms.after_given.Statement.{statement}
-use Rattle.walker.proofs.atoms.after_given.Tie as tie
+use Rattle.walker.proofs.inner.after_given.Statement.{statement}
+use Rattle.walker.proofs.inner.after_given.Tie as tie
 
 returns : tie.Need-returns
 returns c = rw (lt-ltb _ _ (c .if1 .taken))
