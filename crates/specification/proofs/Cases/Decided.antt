@@ -123,6 +123,8 @@ inners =
     single "not and eq v0 0 eq v0 1" "answer=1\nend=done\nnodes=7\nanswers=1\nerrors=0\nfails=0\n"
     ∷ single "and not and eq v0 0 eq v0 1 eq v0 2" "answer=1\nv0=2\nend=done\nnodes=9\nanswers=1\nerrors=0\nfails=0\n"
     ∷ single "imp or eq v0 0 true eq v0 1" "answer=1\nv0=1\nend=done\nnodes=11\nanswers=1\nerrors=0\nfails=0\n"
+    ∷ single "imp and eq v0 0 eq v0 1 eq v0 2" "answer=1\nend=done\nnodes=7\nanswers=1\nerrors=0\nfails=0\n"
+    ∷ single "imp eq v0 0 true" "error=1\nkind=6\nat=0\nend=done\nnodes=5\nanswers=0\nerrors=1\nfails=0\n"
     ∷ boxed (sheetOf "3" "0" "" "and eq v0 5 not eq v2 2") "error=1\nkind=6\nat=4\nv0=5\nend=done\nnodes=7\nanswers=0\nerrors=1\nfails=0\n"
     -- a success that gives a value before and after one that gives none
     ∷ single "not or eq v0 0 eq 1 1" "end=done\nnodes=9\nanswers=0\nerrors=0\nfails=1\n"
