@@ -61,7 +61,7 @@ module _ (D : Declared) (F : Formula) (S : Scope) (c : Covers D S) (o : Ok D S F
 
   module _ (v : Valid D α) where
     -- each success leaf gave nothing, so F is true in each environment that agrees with α
-    pub success-proves : Sound D F → Every (λ β. Proves D S F α) (innerTree D F α)
+    success-proves : Sound D F → Every (λ β. Proves D S F α) (innerTree D F α)
     unfolding Every doneInside
     success-proves sF =
         sF S c o (doneInside D F α) α v (λ β. Proves D S F α) (λ β x vb pr.

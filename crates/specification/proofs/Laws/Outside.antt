@@ -138,7 +138,7 @@ under S F j l n h b =
 
 module _ (D : Declared) where
   -- a local bound around F is not bound in it
-  pub binds-fresh : (S : Scope) (F : Formula) (l : ℕ) → Ok D S F → T (binds F l) → T (not (S l))
+  binds-fresh : (S : Scope) (F : Formula) (l : ℕ) → Ok D S F → T (binds F l) → T (not (S l))
   unfolding binds Ok
   binds-fresh S truth l o b = absurd b
   binds-fresh S (and F G) l o b = ⊎-elim (binds-fresh S F l (o .0)) (binds-fresh S G l (o .1)) (or-yes (binds F l) (binds G l) b)

@@ -4,13 +4,12 @@ use Rattle.specification.specs.Lines.{Declared}
 use Rattle.specification.specs.Ast.{Formula, truth, and, or, imp, neg, eq, compare, ex, some, all}
 use Rattle.specification.specs.Value.{Valuation}
 use Rattle.specification.specs.WellFormed.{Scope, Ok, Valid}
-use Rattle.specification.specs.Tree.{fails, verdict}
-use Rattle.specification.proofs.Laws.Scope.{Every}
+use Rattle.specification.specs.Tree.{succeeds, fails, verdict}
 use Rattle.specification.proofs.Laws.Outside.{Covers}
 use Rattle.specification.proofs.Laws.Correct.{Proves, Sound, Complete, truth-sound, truth-complete, and-sound, and-complete, or-sound, or-complete}
 use Rattle.specification.proofs.Laws.Atoms.{eq-sound, eq-complete, compare-sound, compare-complete}
 use Rattle.specification.proofs.Laws.Quantifiers.{ex-sound, ex-complete, some-sound, some-complete, all-sound, all-complete}
-use Rattle.specification.proofs.Laws.Negation.{innerTree, Refutes, success-proves, fails-refutes, neg-sound, neg-complete, imp-sound, imp-complete}
+use Rattle.specification.proofs.Laws.Negation.{innerTree, Refutes, succeeds-proves, fails-refutes, neg-sound, neg-complete, imp-sound, imp-complete}
 
 pub laws : (D : Declared) (F : Formula) → Sound D F × Complete D F
 laws D truth = (truth-sound D, truth-complete D)
@@ -34,8 +33,8 @@ laws D (all tok l a b F) = let (sF, cF) = laws D F in (all-sound D tok l a b F s
 
 module _ (D : Declared) (F : Formula) (S : Scope) (c : Covers D S) (o : Ok D S F) (α : Valuation) (v : Valid D α) where
   -- a success leaf, which gave nothing, makes F true in each environment that agrees with the valuation
-  pub inner-success-true : Every (λ β. Proves D S F α) (innerTree D F α)
-  inner-success-true = success-proves D F S c o α v ((laws D F) .0)
+  pub inner-success-true : verdict (innerTree D F α) ≡ succeeds → Proves D S F α
+  inner-success-true = succeeds-proves D F S c o α v ((laws D F) .0)
 
   -- failure leaves only means that F is true in none
   pub inner-failures-false : verdict (innerTree D F α) ≡ fails → Refutes D S F α
