@@ -9,12 +9,23 @@ use Rattle.specification.specs.Value.{Valuation}
 use Rattle.tables.specs.Layout.{nodeSlot, nodeEnd}
 use Rattle.tables.specs.Kept.{SameNodes}
 use Rattle.tables.proofs.Laws.Kept.{fewer-nodes}
-use Rattle.tables.specs.Node.{headAt, restAt, restWord, todoWord, slotWord, hadWord, oldWord, currentWord, lastWord, innerWord, badWord}
+use Rattle.tables.specs.Node.{headAt, restAt, slotAt, hadAt, oldAt, innerAt, restWord, todoWord, slotWord, hadWord, oldWord, currentWord, lastWord, innerWord, badWord}
 use Rattle.sheet.specs.Tables.{Words}
 use Rattle.walker.specs.declared.Due.{Due}
 use Rattle.walker.specs.Frame.{Item, form, again, What, the, success, failure, error, Frame, pass, other, bound, given, range, asks, len, siteIn}
 use Rattle.walker.specs.Site.{Site}
 use Rattle.walker.specs.Path.{World, Pend, Job, Changed, FrameAt, Stack}
+
+-- a node whose words for a slot and a register are the same keeps what it kept
+pub changed-words : {w w' : Words} {i : ℕ} {p : Place} {v : Site} {α : Valuation} → slotAt w' i ≡ slotAt w i → hadAt w' i ≡ hadAt w i →
+    oldAt w' i ≡ oldAt w i → innerAt w' i ≡ innerAt w i → Changed w i p v α → Changed w' i p v α
+changed-words slot had old inner q = record {
+  slot = slot ∙ q .slot;
+  inside = q .inside;
+  saved = rw (had, old) (q .saved);
+  mark = λ e. old ∙ q .mark e;
+  inner = inner ∙ q .inner;
+}
 
 -- the words of a node that is kept
 module _ {w w' : Words} (i : ℕ) (u : SameNodes (suc i) w w') where
@@ -24,15 +35,10 @@ module _ {w w' : Words} (i : ℕ) (u : SameNodes (suc i) w w') where
   same-head : headAt w' i ≡ headAt w i
   same-head = u .same (nodeSlot i) (omega arith) (omega arith)
 
-  -- what a node keeps of a slot
-  pub changed-keep : {p : Place} {v : Site} {α : Valuation} → Changed w i p v α → Changed w' i p v α
-  changed-keep q = record {
-    slot = same-word (slotWord i) (omega arith) (omega arith) ∙ q .slot;
-    inside = q .inside;
-    saved = rw (same-word (hadWord i) (omega arith) (omega arith), same-word (oldWord i) (omega arith) (omega arith)) (q .saved);
-    mark = λ e. same-word (oldWord i) (omega arith) (omega arith) ∙ q .mark e;
-    inner = same-word (innerWord i) (omega arith) (omega arith) ∙ q .inner;
-  }
+  changed-keep : {p : Place} {v : Site} {α : Valuation} → Changed w i p v α → Changed w' i p v α
+  changed-keep =
+      changed-words (same-word (slotWord i) (omega arith) (omega arith)) (same-word (hadWord i) (omega arith) (omega arith))
+      (same-word (oldWord i) (omega arith) (omega arith)) (same-word (innerWord i) (omega arith) (omega arith))
 
 module _ (c : World) (w : Words) where
   -- a pointer below n is one below m

@@ -10,6 +10,7 @@ use Rattle.walker.specs.declared.Regs.{Regs}
 use Rattle.walker.specs.declared.Task.{Task}
 use Rattle.walker.specs.Path.{World}
 use Rattle.walker.specs.Sim.{Down, Leaf, Over, Sim, over, down, up, won, block}
+use Rattle.walker.specs.Registers.{level}
 use Rattle.walker.specs.Loop.{Ups, Rising, Rose, Fixed, BlockDue, Blocked, VisitDue, Arrived, Climbs, Climbed, Runs, Settled, Live, snapshot, Moved}
 use Rattle.walker.specs.States.{overMode, downMode, blockMode, upMode, wonMode}
 
@@ -69,7 +70,7 @@ module _ {c : World} {o : Bytes} {w : Words} {r : Regs} where
 pub record Climbing (w w' : Words) (r r' : Regs) (mode : ℕ) : Type 0 where
   pub sim : (c : World) (o : Bytes) → Sim c o w r → Sim c o w' r'
   pub nodes : r' .tallies .nodes ≡ r .tallies .nodes
-  pub falls : (r' ≡ r) ⊎ ((2 * r' .depth + r' .mode < 2 * r .depth + r .mode) × ((r' .mode ≡ mode) ⊎ (r' .mode ≤ downMode)))
+  pub falls : (r' ≡ r) ⊎ ((level r' < level r) × ((r' .mode ≡ mode) ⊎ (r' .mode ≤ downMode)))
 
 pub climbing-from : {w : Words} {r : Regs} {mode : ℕ} → Climbing w w r r mode
 climbing-from = record { sim = λ c o s. s; nodes = refl; falls = inl refl }
@@ -85,8 +86,8 @@ module _ {w w1 : Words} {r q : Regs} {mode : ℕ} (g : Climbing w w1 r q mode) w
     falls = less (g .falls) (v .modes);
   }
     where
-      less : (q ≡ r) ⊎ ((2 * q .depth + q .mode < 2 * r .depth + r .mode) × ((q .mode ≡ mode) ⊎ (q .mode ≤ downMode))) → (q' .mode ≡ q .mode) ⊎ (q' .mode ≤ downMode) →
-          (q' ≡ r) ⊎ ((2 * q' .depth + q' .mode < 2 * r .depth + r .mode) × ((q' .mode ≡ mode) ⊎ (q' .mode ≤ downMode)))
+      less : (q ≡ r) ⊎ ((level q < level r) × ((q .mode ≡ mode) ⊎ (q .mode ≤ downMode))) → (q' .mode ≡ q .mode) ⊎ (q' .mode ≤ downMode) →
+          (q' ≡ r) ⊎ ((level q' < level r) × ((q' .mode ≡ mode) ⊎ (q' .mode ≤ downMode)))
       less (inl e) (inl f) = inr (rw e at (v .falls), inl (f ∙ m))
       less (inl e) (inr f) = inr (rw e at (v .falls), inr f)
       less (inr h) (inl f) = inr (omega (arith, v .falls, h .0), inl (f ∙ m))
@@ -95,8 +96,8 @@ module _ {w w1 : Words} {r q : Regs} {mode : ℕ} (g : Climbing w w1 r q mode) w
   pub climbed : (q .mode ≡ mode → ⊥) → Climbed w w1 r q mode
   climbed n = record { sim = g .sim; nodes = g .nodes; falls = go (g .falls); stops = n }
     where
-      go : (q ≡ r) ⊎ ((2 * q .depth + q .mode < 2 * r .depth + r .mode) × ((q .mode ≡ mode) ⊎ (q .mode ≤ downMode))) →
-          (q ≡ r) ⊎ ((2 * q .depth + q .mode < 2 * r .depth + r .mode) × (q .mode ≤ downMode))
+      go : (q ≡ r) ⊎ ((level q < level r) × ((q .mode ≡ mode) ⊎ (q .mode ≤ downMode))) →
+          (q ≡ r) ⊎ ((level q < level r) × (q .mode ≤ downMode))
       go (inl e) = inl e
       go (inr (h, inl e)) = absurd (n e)
       go (inr (h, inr f)) = inr (h, f)
@@ -120,16 +121,11 @@ module _ {w : Words} {o : Bytes} {r : Regs} {t : Task} where
 
 -- ---- all of it
 
--- registers do not rise
-level : Regs → ℕ
-level r = 2 * r .depth + r .mode
-
 module _ {w w' : Words} {r q : Regs} {mode : ℕ} (x : Climbed w w' r q mode) where
   climbed-level : level q ≤ level r
-  unfolding level
   climbed-level = go (x .falls)
     where
-      go : (q ≡ r) ⊎ ((2 * q .depth + q .mode < 2 * r .depth + r .mode) × (q .mode ≤ downMode)) → 2 * q .depth + q .mode ≤ 2 * r .depth + r .mode
+      go : (q ≡ r) ⊎ ((level q < level r) × (q .mode ≤ downMode)) → level q ≤ level r
       go (inl e) = rw e (omega arith)
       go (inr h) = omega (arith, h .0)
 
@@ -137,16 +133,15 @@ module _ {w w' : Words} {r q : Regs} {mode : ℕ} (x : Climbed w w' r q mode) wh
   climbed-modes : (P : ℕ → Type 0) → (q .mode ≤ downMode → P (q .mode)) → (q ≡ r → (r .mode ≡ mode → ⊥) → P (q .mode)) → P (q .mode)
   climbed-modes P low same = go (x .falls)
     where
-      go : (q ≡ r) ⊎ ((2 * q .depth + q .mode < 2 * r .depth + r .mode) × (q .mode ≤ downMode)) → P (q .mode)
+      go : (q ≡ r) ⊎ ((level q < level r) × (q .mode ≤ downMode)) → P (q .mode)
       go (inl e) = same e (λ m. x .stops (ap (λ (z : Regs). z .mode) e ∙ m))
       go (inr h) = low (h .1)
 
 module _ {w : Words} {o o' : Bytes} {r q : Regs} {t : Task} (x : Settled w o o' r q t) where
   settled-level : level q ≤ level r
-  unfolding level
   settled-level = go (x .falls)
     where
-      go : ((q ≡ r) × (r .mode ≡ blockMode → ⊥)) ⊎ ((2 * q .depth + q .mode < 2 * r .depth + r .mode) × (q .mode ≤ upMode)) → 2 * q .depth + q .mode ≤ 2 * r .depth + r .mode
+      go : ((q ≡ r) × (r .mode ≡ blockMode → ⊥)) ⊎ ((level q < level r) × (q .mode ≤ upMode)) → level q ≤ level r
       go (inl e) = rw (e .0) (omega arith)
       go (inr h) = omega (arith, h .0)
 
@@ -186,7 +181,6 @@ module _ {t : Task} where
           settled-climbs = let u = climbed-runs in record { c = u .c; o = o'; sim = z .sim (u .c) (u .fixed) (u .sim); way = inl refl }
 
           pub moved : {w' : Words} {q : Regs} → Climbed w2 w' s q upMode → Moved (snapshot w o r) (snapshot w' o' q) t
-          unfolding level
           moved {q = q} v = record {
             sim = λ c f m. v .sim c o' (z .sim c f (y .sim c o (visited-sim c f m)));
             falls = omega (arith, x .falls, y .nodes, z .nodes, v .nodes, climbed-level y, settled-level z, climbed-level v);
@@ -201,7 +195,7 @@ module _ {t : Task} where
                   let same = ap (λ (z : Regs). z .mode) i in
                   omega arith
 
-              middle : ((s ≡ e) × (e .mode ≡ blockMode → ⊥)) ⊎ ((2 * s .depth + s .mode < 2 * e .depth + e .mode) × (s .mode ≤ upMode)) → (s .mode ≡ upMode → ⊥) → s .mode ≤ downMode
+              middle : ((s ≡ e) × (e .mode ≡ blockMode → ⊥)) ⊎ ((level s < level e) × (s .mode ≤ upMode)) → (s .mode ≡ upMode → ⊥) → s .mode ≤ downMode
               middle (inl (i, n)) m =
                   let same = ap (λ (z : Regs). z .mode) i in
                   let k : e .mode ≡ upMode → ⊥ = λ h. m (same ∙ h) in

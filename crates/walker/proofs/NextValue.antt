@@ -33,7 +33,7 @@ use Rattle.walker.specs.Sim.{no, Down, Up}
 use Rattle.walker.specs.Registers.{formulaDue, dueRegs}
 use Rattle.walker.specs.Loop.{Topped}
 use Rattle.walker.specs.States.{nextTodo}
-use Rattle.walker.proofs.Keep.{pend-keep}
+use Rattle.walker.proofs.Keep.{changed-words, pend-keep}
 use Rattle.walker.proofs.Here.{code-here, end-here, body-here}
 use Rattle.walker.proofs.Slots.{in-table, Altered, alter, holds-keep, holds-again, marks-keep, altered-marks}
 use Rattle.walker.proofs.Whole.{altered-kept, path-top}
@@ -130,8 +130,8 @@ module _ {c : World} {w w' : Words} {r : Regs} {h p : ℕ} (g : Follows w w' r h
   altered =
       let a = P .stack .0 in
       let ch = a .1 in
-      alter (local l) (full (x +ℤ pos (suc i))) 1 (g .v) (g .slot ∙ ap (slotAt w) (top-index P) ∙ ch .slot) (ch .inside)
-      (omega (arith, current-kept .size, P .size)) (refl, value-is ∙ next-word x i (a .3) more-here) (g .words)
+      alter (g .first) (local l) 1 (g .v) (g .slot ∙ ap (slotAt w) (top-index P) ∙ ch .slot) (ch .inside) (omega (arith, current-kept .size, P .size))
+      (g .words) (full (x +ℤ pos (suc i))) (refl, value-is ∙ next-word x i (a .3) more-here)
 
   next-kept : Kept (len fr) w w'
   next-kept = kept-both current-kept (altered-kept (len fr) (P .stack .0 .1 .inside) altered)
@@ -153,10 +153,10 @@ module _ {c : World} {w w' : Words} {r : Regs} {h p : ℕ} (g : Follows w w' r h
 
   next-frame : FrameAt c w' (len fr) (siteIn fr) (range l x (suc i) m F is β)
   next-frame =
-      let a = P .stack .0 in
-      let ch = a .1 in (
+      let a = P .stack .0 in (
         same-word (todoWord (len fr)) (omega arith) (λ y. omega arith) ∙ a .0,
-        record { slot = same-word (slotWord (len fr)) (omega arith) (λ y. omega arith) ∙ ch .slot; inside = ch .inside; saved = rw (same-word (hadWord (len fr)) (omega arith) (λ y. omega arith), same-word (oldWord (len fr)) (omega arith) (λ y. omega arith)) (ch .saved); mark = λ e. same-word (oldWord (len fr)) (omega arith) (λ y. omega arith) ∙ ch .mark e; inner = same-word (innerWord (len fr)) (omega arith) (λ y. omega arith) ∙ ch .inner },
+        changed-words (same-word (slotWord (len fr)) (omega arith) (λ y. omega arith)) (same-word (hadWord (len fr)) (omega arith) (λ y. omega arith))
+            (same-word (oldWord (len fr)) (omega arith) (λ y. omega arith)) (same-word (innerWord (len fr)) (omega arith) (λ y. omega arith)) (a .1),
         rw (same-word (nodeSlot (len fr)) (omega arith) (λ y. omega arith)) (a .2),
         rw (now, same-word (lastWord (len fr)) (omega arith) (λ y. omega arith)) (next-left x i (a .3) more-here m refl),
         rw now (next-value x i (a .3) more-here),

@@ -6,6 +6,7 @@ use native.Mathlib.Numerals.{add-one}
 use mathlib.Core.Path.{_≡_, refl, sym, _∙_, ap}
 use mathlib.Core.Bool.{Bool, false}
 use mathlib.Core.List.{List, [], _∷_}
+use lib.ListN.{getD}
 use lib.IntN.{ℤ, pos, _+ℤ_}
 use Rattle.specification.specs.Bytes.{Bytes}
 use Rattle.specification.specs.Ast.{Formula}
@@ -20,7 +21,7 @@ use Rattle.tables.specs.Node.{Marked, Linked, Pushed}
 use Rattle.tables.specs.Layout.{maxTokens}
 use Rattle.tables.proofs.Laws.Kept.{marked-kept, marked-slots}
 use Rattle.sheet.specs.Tables.{Words}
-use Rattle.sheet.specs.Held.{endAt}
+use Rattle.sheet.specs.Held.{endAt, slotOf}
 use Rattle.walker.specs.declared.Due.{Due}
 use Rattle.walker.specs.declared.Regs.{Regs}
 use Rattle.walker.specs.Walk.{sonsFrom, within, walk}
@@ -34,7 +35,7 @@ use Rattle.walker.specs.Registers.{dueRegs}
 use Rattle.walker.specs.Binding.{binderNode}
 use Rattle.walker.specs.States.{innerRoot, noTodo, otherTodo, undoTodo, nextTodo, judgeTodo}
 use Rattle.walker.proofs.Walk.{within-ask}
-use Rattle.walker.proofs.Registered.{site-depth}
+use Rattle.walker.proofs.Registered.{site-depth, bound-other}
 use Rattle.walker.proofs.Keep.{frame-keep}
 use Rattle.walker.proofs.Slots.{holds-keep, holds-put, marks-keep, altered-marks}
 use Rattle.walker.proofs.Whole.{altered-kept, path-onto}
@@ -82,7 +83,7 @@ module _ {c : World} {o : Bytes} {w : Words} {r : Regs} (i : In c o w r) where
   -- a frame that changes one
   changed : {w' : Words} {n : Node} (p : Place) (s : Slot) (a : Replaces (c .declared) w w' (r .depth) n (i .α) p s) → n .inner ≡ r .inner → (f : Frame) →
       below f ≡ put (i .α) p s → here f ≡ i .α → ((q : Place) → ¬ (q ≡ p) → siteIn (f ∷ i .fr) .marks q ≡ siteIn (i .fr) .marks q) →
-      (s ≡ empty → a .altered .word ≡ siteIn (f ∷ i .fr) .marks p) →
+      (s ≡ empty → getD w' (slotOf p + 1) 0 ≡ siteIn (f ∷ i .fr) .marks p) →
       (Changed (a .mid) (r .depth) p (siteIn (i .fr)) (i .α) → FrameAt c (a .mid) (r .depth) (siteIn (i .fr)) f) →
       Path c w' (r .depth + 1) (below f) (f ∷ i .fr)
   changed {w'} p s a kept f e e′ off mark q =
@@ -103,10 +104,6 @@ module _ {c : World} {o : Bytes} {w : Words} {r : Regs} (i : In c o w r) where
       (put-other (i .α) p s) off (λ none. mark (sym (put-same (i .α) p s) ∙ none))))
       (rw e (valid-put (c .declared) (i .α) p s (i .path .valid) (a .good)))
 
-  -- the marks below a binder
-  bound-other : (l : ℕ) (q : Place) → ¬ (q ≡ local l) → boundSite l (siteIn (i .fr)) .marks q ≡ siteIn (i .fr) .marks q
-  bound-other l q n = put-other (siteIn (i .fr) .marks) (local l) (suc (siteIn (i .fr) .depth)) q n
-
   at-depth : siteIn (i .fr) .depth ≡ r .depth
   at-depth = site-depth (i .fr) ∙ sym (i .path .deep)
 
@@ -125,18 +122,19 @@ module _ {c : World} {o : Bytes} {w : Words} {r : Regs} (i : In c o w r) where
   down-pass g x e j = onto (pass (i .α)) x (i .e) (plain g (pass (i .α)) refl refl refl (g .left)) (i .inner) (i .bad) j (rw add-one (rw e at (i .result)))
 
   -- a local that is bound
-  pub down-bound : {w' : Words} {n : Node} (l : ℕ) (s : Slot) (a : Replaces (c .declared) w w' (r .depth) n (i .α) (local l) s) → n .todo ≡ undoTodo → n .inner ≡ r .inner →
-      (s ≡ empty → a .altered .word ≡ suc (r .depth)) → (x : What) →
+  pub down-bound : {w' : Words} {n : Node} (l : ℕ) (s : Slot) → Replaces (c .declared) w w' (r .depth) n (i .α) (local l) s → n .todo ≡ undoTodo →
+      n .inner ≡ r .inner → (s ≡ empty → getD w' (slotOf (local l) + 1) 0 ≡ suc (r .depth)) → (x : What) →
       tree c (i .fr) (i .x) (i .α) ≡ step (treeWhat (c .declared) x (boundSite l (siteIn (i .fr))) (put (i .α) (local l) s)) → {d : Due} → Job c w' (r .depth + 1) d x →
       Down c o w' (dueRegs r (r .depth + 1) d (r .inner) (r .bad))
   unfolding within
   down-bound l s a t kept mark x e j =
       onto (bound l s (i .α)) x (i .e)
-      (changed (local l) s a kept (bound l s (i .α)) refl refl (bound-other l) (bound-mark l s mark) (λ h. (a .pushed .linked .marked .left ∙ t, h))) (i .inner)
+      (changed (local l) s a kept (bound l s (i .α)) refl refl (bound-other l (siteIn (i .fr))) (bound-mark l s mark) (λ h. (a .pushed .linked .marked .left ∙ t, h))) (i .inner)
       (i .bad) j (rw add-one (rw e at (i .result)))
 
   -- a place that is given a value
-  pub down-given : {w' : Words} {n : Node} (p : Place) (v : ℤ) → Replaces (c .declared) w w' (r .depth) n (i .α) p (full v) → n .todo ≡ undoTodo → n .inner ≡ r .inner → (x : What) →
+  pub down-given : {w' : Words} {n : Node} (p : Place) (v : ℤ) → Replaces (c .declared) w w' (r .depth) n (i .α) p (full v) → n .todo ≡ undoTodo →
+      n .inner ≡ r .inner → (x : What) →
       tree c (i .fr) (i .x) (i .α) ≡ step (treeWhat (c .declared) x (givenSite p (siteIn (i .fr))) (put (i .α) p (full v))) → {d : Due} → Job c w' (r .depth + 1) d x →
       {inner : ℕ} → inner ≡ siteIn (given p v (i .α) ∷ i .fr) .inner → Down c o w' (dueRegs r (r .depth + 1) d inner (r .bad))
   unfolding within
@@ -168,7 +166,7 @@ module _ {c : World} {o : Bytes} {w : Words} {r : Regs} (i : In c o w r) where
   unfolding within sonsFrom
   down-range l x n F is a e bi le lo q j =
       onto (range l x 0 n F is (i .α)) (the (form F ∷ is)) (i .e)
-      (changed (local l) (full (x +ℤ pos 0)) a refl (range l x 0 n F is (i .α)) refl refl (bound-other l) (λ none. contradiction cc) (λ h.
+      (changed (local l) (full (x +ℤ pos 0)) a refl (range l x 0 n F is (i .α)) refl refl (bound-other l (siteIn (i .fr))) (λ none. contradiction cc) (λ h.
       let g = a .pushed in
       let at = g .linked in (
         at .marked .left,

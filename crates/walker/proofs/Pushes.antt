@@ -31,7 +31,7 @@ use Rattle.walker.specs.Registers.{formulaDue}
 use Rattle.walker.specs.Binding.{binderNode, Alters}
 use Rattle.walker.proofs.Here.{code-here}
 use Rattle.walker.proofs.Keep.{pend-keep, pend-onto}
-use Rattle.walker.proofs.Slots.{Altered, alter}
+use Rattle.walker.proofs.Slots.{Altered, second-word, alter}
 use Rattle.walker.proofs.Whole.{altered-kept}
 
 -- the node n goes onto the path, and p has the slot s in place of the one that n saves
@@ -45,7 +45,7 @@ pub record Replaces (D : Declared) (w w' : Words) (d : ℕ) (n : Node) (α : Val
   pub good : SlotIn D p s
   pub altered : Altered mid w' p s
 
-unfoldable pub replaces : {w w' : Words} {d : ℕ} {n : Node} {flag value : ℕ} (D : Declared) (α : Valuation) (p : Place) (s : Slot) → Alters w w' d n flag value → n .slot ≡ slotOf p →
+pub replaces : {w w' : Words} {d : ℕ} {n : Node} {flag value : ℕ} (D : Declared) (α : Valuation) (p : Place) (s : Slot) → Alters w w' d n flag value → n .slot ≡ slotOf p →
     InTable p → Saved (n .had) (n .old) (α p) → n .old ≡ getD w (n .slot + 1) 0 → SlotIn D p s → Saved flag value s → pathAt ≤ length w → Replaces D w w' d n α p s
 replaces {w = w} {flag = flag} {value = value} D α p s g place inside saved mark good new size = record {
   mid = g .mid;
@@ -55,8 +55,13 @@ replaces {w = w} {flag = flag} {value = value} D α p s g place inside saved mar
   saved = saved;
   mark = mark ∙ ap (λ z. getD w (z + 1) 0) place;
   good = good;
-  altered = alter p s flag value place inside (omega (arith, g .pushed .linked .marked .size)) new (g .words);
+  altered = alter (g .mid) p flag value place inside (omega (arith, g .pushed .linked .marked .size)) (g .words) s new;
 }
+
+pub alters-word : {w w' : Words} {d : ℕ} {n : Node} {flag value : ℕ} (p : Place) → Alters w w' d n flag value → n .slot ≡ slotOf p → InTable p →
+    pathAt ≤ length w → getD w' (slotOf p + 1) 0 ≡ value
+alters-word {flag = flag} {value = value} p g place inside size =
+    second-word (g .mid) p flag value place inside (omega (arith, g .pushed .linked .marked .size)) (g .words)
 
 pub alters-size : {w w' : Words} {d : ℕ} {n : Node} {flag value : ℕ} → Alters w w' d n flag value → length w' ≡ length w
 alters-size g = ap length (g .words) ∙ simp length-set (g .pushed .linked .marked .size)

@@ -33,9 +33,9 @@ use Rattle.walker.specs.Registers.{formulaDue, dueRegs}
 use Rattle.walker.specs.Binding.{Local, Middle, binderSlot, binderNode, Alters}
 use Rattle.walker.specs.States.{undoTodo, nextTodo}
 use Rattle.walker.proofs.Here.{code-here, operand-here, end-here, local-operand, body-here}
-use Rattle.walker.proofs.Slots.{saved-here, alter}
+use Rattle.walker.proofs.Slots.{saved-here}
 use Rattle.walker.proofs.Heads.{at-form, form-tree}
-use Rattle.walker.proofs.Pushes.{Replaces, replaces, replaces-kept, formula-job, rest-onto, cons-again}
+use Rattle.walker.proofs.Pushes.{Replaces, replaces, alters-word, replaces-kept, formula-job, rest-onto, cons-again}
 use Rattle.walker.proofs.Onto.{down-bound, down-range}
 
 -- ---- the slot of the quantifier's local
@@ -45,7 +45,7 @@ module _ {c : World} {o : Bytes} {w : Words} {r : Regs} (i : In c o w r) (h l : 
   slot-is = rw (add-one h, is)
 
   -- the slot s in the place of the one that the quantifier's node saves
-  unfoldable pub bound : {w' : Words} {n : Node} {todo current last flag value : ℕ} (s : Slot) → n ≡ binderNode w r h todo current last →
+  bound : {w' : Words} {n : Node} {todo current last flag value : ℕ} (s : Slot) → n ≡ binderNode w r h todo current last →
       Alters w w' (r .depth) n flag value → SlotIn (c .declared) (local l) s → Saved flag value s →
       Replaces (c .declared) w w' (r .depth) (binderNode w r h todo current last) (i .α) (local l) s
   bound {w'} {flag = flag} {value = value} s e g good new =
@@ -59,8 +59,8 @@ module _ {c : World} {o : Bytes} {w : Words} {r : Regs} (i : In c o w r) (h l : 
 pub ex-down : {w w' : Words} {r : Regs} {d : Due} {n : Node} → Entered w r exCode → n ≡ binderNode w r (r .due .head) undoTodo 0 0 → Alters w w' (r .depth) n 0 (r .depth + 1) →
     d ≡ formulaDue w' (r .due .head + 2) (r .due .rest) →
     (c : World) (o : Bytes) → In c o w r → Down c o w' (dueRegs r (r .depth + 1) d (r .inner) (r .bad))
-unfolding growAt treeItems bound replaces alter
-ex-down {w} {w'} {r} x e g k c o i =
+unfolding growAt treeItems
+ex-down {w} {w'} {r} {d} {n} x e g k c o i =
     let a = at-form i (x .formula) (x .code) in
     let b = a .under in
     let near = b .near in
@@ -68,7 +68,9 @@ ex-down {w} {w'} {r} x e g k c o i =
     let m = bound i (r .due .head) (b .l) (b .small) is empty e g tt refl in
     let a′ = replaces-kept m in
     let two : r .due .head + 2 ≡ suc (suc (r .due .head)) = omega arith in
-    down-bound i (b .l) empty m refl refl (λ _. add-one (r .depth)) (the (form (b .body) ∷ a .is)) (form-tree i a ∙ rw (b .is))
+    let place : n .slot ≡ slotOf (local (b .l)) = ap (λ (z : Node). z .slot) e ∙ slot-is i (r .due .head) (b .l) (b .small) is in
+    let mark = alters-word (local (b .l)) g place (b .small) (omega (arith, i .path .size)) in
+    down-bound i (b .l) empty m refl refl (λ _. mark ∙ add-one (r .depth)) (the (form (b .body) ∷ a .is)) (form-tree i a ∙ rw (b .is))
     (rw (k, two)
     (formula-job c w' (r .depth + 1) (suc (suc (r .due .head))) (r .due .rest) (b .body) (a .is) (λ j z. a′ .tokens j z ∙ i .path .tokens j z) near (b .under)
     (rest-onto i (a .is) (r .depth + 1) a′ (omega arith) (a .rest))))

@@ -1,4 +1,5 @@
--- What the register `inner` says of the path: in the main tree it is 0, in an inner tree it is not. Assumes nothing.
+-- The site of a path: how deep it lies, its marks below a binder, and what its register `inner` says of the tree: in the main tree it is 0, in an
+-- inner tree it is not. Assumes nothing.
 use Prim.Native.Nat.{ℕ, suc, _<_}
 use native.Mathlib.Omega.{arith}
 use mathlib.Core.Path.{_≡_, refl, ap}
@@ -7,6 +8,9 @@ use mathlib.Core.List.{List, [], _∷_}
 use lib.Dec.{ltb}
 use borrow.Author.Tests.{le-ltb}
 use Rattle.specification.specs.Bytes.{pick}
+use Rattle.specification.specs.Place.{Place, local}
+use Rattle.specification.proofs.Laws.Place.{put-other}
+use Rattle.walker.specs.Site.{Site, boundSite}
 use Rattle.walker.specs.Frame.{Frame, pass, other, bound, given, range, asks, len, innerIn, siteIn}
 use Rattle.walker.specs.States.{mainTree, givenTree}
 
@@ -19,6 +23,10 @@ site-depth (bound l s α ∷ fr) = ap suc (site-depth fr)
 site-depth (given p v α ∷ fr) = ap suc (site-depth fr)
 site-depth (range l x i n F is α ∷ fr) = ap suc (site-depth fr)
 site-depth (asks tok q is α e ∷ fr) = ap suc (site-depth fr)
+
+-- a binder marks no other place
+pub bound-other : (l : ℕ) (s : Site) (q : Place) → ¬ (q ≡ local l) → boundSite l s .marks q ≡ s .marks q
+bound-other l s q n = put-other (s .marks) (local l) (suc (s .depth)) q n
 
 -- a value given in the main tree is of no account, and in an inner tree the register stays above that of the main tree
 abbrev Tells : Bool → ℕ → Type 0

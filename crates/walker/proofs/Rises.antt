@@ -1,5 +1,5 @@
 -- Going up: the topmost node is left, with its slot as it was. Assumes nothing.
-use Prim.Native.Nat.{ℕ, suc, _+_, _*_, _-_, _<_}
+use Prim.Native.Nat.{ℕ, _+_, _*_, _-_, _<_}
 use native.Mathlib.Omega.{arith}
 use mathlib.Core.Path.{_≡_, refl, sym, _∙_, ap, subst}
 use mathlib.Core.List.{List, [], _∷_}
@@ -21,13 +21,13 @@ use Rattle.sheet.specs.Held.{Holds}
 use Rattle.walker.specs.declared.Regs.{Regs}
 use Rattle.walker.specs.Walk.{sonsFrom}
 use Rattle.walker.specs.Frame.{Item, Frame, pass, other, bound, given, range, asks, here, below, len, siteIn}
-use Rattle.walker.specs.Site.{boundSite}
-use Rattle.walker.specs.Path.{World, Saved, Marks, Changed, Path}
+use Rattle.walker.specs.Path.{World, Saved, Marks, Path}
 use Rattle.walker.specs.Sim.{yes, no, Up, Yes, Sim, over, up, won}
 use Rattle.walker.specs.Registers.{popRegs, stopRegs}
-use Rattle.walker.specs.Loop.{Topped, Rising, Rose, Exhausted, Leaves, Restores}
+use Rattle.walker.specs.Loop.{Topped, Rising, Rose, Exhausted, Untouched, Leaves, Undoable, Restores}
 use Rattle.walker.specs.States.{upMode, wonMode, otherTodo, undoTodo, nextTodo, judgeTodo, doneEnd}
-use Rattle.walker.proofs.Slots.{in-table, Altered, alter, holds-back, altered-marks}
+use Rattle.walker.proofs.Registered.{bound-other}
+use Rattle.walker.proofs.Slots.{in-table, Altered, second-word, alter, holds-back, altered-marks}
 use Rattle.walker.proofs.Whole.{altered-kept, path-pop}
 use Rattle.walker.proofs.Tops.{top-index, top-undo, top-range}
 
@@ -49,7 +49,7 @@ module _ {w : Words} {r : Regs} (u : Rising w r) (some : 0 < r .depth) where
       (todoAt w (r .depth - 1) ≡ otherTodo → r .mode ≡ upMode → ⊥) → Leaves w r
   leaves n2 n3 n4 n1 = record { at = u; some = some; back = λ c α fr P. go c α fr P }
     where
-      go : (c : World) (α : Valuation) (fr : List Frame) → Path c w (r .depth) α fr → (s : Exhausted c r fr) × (below (s .top) ≡ here (s .top)) × (siteIn fr .inner ≡ siteIn (s .under) .inner) × (siteIn fr .marks ≡ siteIn (s .under) .marks)
+      go : (c : World) (α : Valuation) (fr : List Frame) → Path c w (r .depth) α fr → Untouched c r fr
       go c α [] P = let deep = P .deep in absurd (omega arith)
       go c α (pass β ∷ fr) P =
           (record { top = pass β; under = fr; parts = refl; same-no = λ m. refl; same-yes = refl }, refl, refl, refl)
@@ -71,23 +71,13 @@ module _ {w : Words} {r : Regs} (u : Rising w r) (some : 0 < r .depth) where
       go c α (asks tok q is β e ∷ fr) P = absurd (n4 (ap (todoAt w) (top-index P) ∙ P .stack .0 .0))
 
   -- a slot is to be put back
-  abbrev Backed : World → List Frame → Type 0
-  Backed c fr =
-      (s : Exhausted c r fr) × (p : Place) × (v : Slot)
-      × (below (s .top) ≡ put (here (s .top)) p v)
-      × Changed w (len (s .under)) p (siteIn (s .under)) (here (s .top))
-      × ((q : Place) → ¬ (q ≡ p) → siteIn fr .marks q ≡ siteIn (s .under) .marks q)
-
-  bound-marks : (l : ℕ) (fr : List Frame) (q : Place) → ¬ (q ≡ local l) → boundSite l (siteIn fr) .marks q ≡ siteIn fr .marks q
-  bound-marks l fr q n = put-other (siteIn fr .marks) (local l) (suc (siteIn fr .depth)) q n
-
   pub undo-restores : todoAt w (r .depth - 1) ≡ undoTodo → Restores w r
   undo-restores t = record {
     at = u;
     some = some;
-    back = λ c α fr P. top-undo (Backed c) some t
+    back = λ c α fr P. top-undo (Undoable c w r) some t
         (λ l s β fr P.
-        (record { top = bound l s β; under = fr; parts = refl; same-no = λ m. refl; same-yes = refl }, local l, s, refl, P .stack .0 .1, bound-marks l fr))
+        (record { top = bound l s β; under = fr; parts = refl; same-no = λ m. refl; same-yes = refl }, local l, s, refl, P .stack .0 .1, bound-other l (siteIn fr)))
         (λ p v β fr P.
         (record { top = given p v β; under = fr; parts = refl; same-no = λ m. refl; same-yes = refl }, p, full v, refl, P .stack .0 .1, λ q n. refl)) fr P;
   }
@@ -102,7 +92,7 @@ module _ {w : Words} {r : Regs} (u : Rising w r) (some : 0 < r .depth) where
   range-restores t last = record {
     at = u;
     some = some;
-    back = λ c α fr P. top-range (Backed c) some t
+    back = λ c α fr P. top-range (Undoable c w r) some t
         (λ l x i n F is β fr P.
         let e = top-index P in
         let a = P .stack .0 .3 in (
@@ -119,20 +109,16 @@ module _ {w : Words} {r : Regs} (u : Rising w r) (some : 0 < r .depth) where
           full (x +ℤ pos i),
           refl,
           P .stack .0 .1,
-          bound-marks l fr,
+          bound-other l (siteIn fr),
         )) fr P;
   }
 
 -- ---- the node is left
 
-module _ {c : World} {w : Words} {r : Regs} {α : Valuation} {fr : List Frame} (P : Path c w (r .depth) α fr) (x : Exhausted c r fr) where
-  -- the frame on top
-  parted : Path c w (r .depth) α (x .top ∷ x .under)
-  parted = subst (Path c w (r .depth) α) (x .parts) P
-
-  popped : {w' : Words} → Kept (len (x .under)) w w' → Holds w' (here (x .top)) → Marks w' (here (x .top)) (siteIn (x .under) .marks) →
-      Path c w' (r .depth - 1) (here (x .top)) (x .under)
-  popped k h m = path-pop parted k h m
+-- the frame on top
+parted : {c : World} {w : Words} {r : Regs} {α : Valuation} {fr : List Frame} → Path c w (r .depth) α fr → (x : Exhausted c r fr) →
+    Path c w (r .depth) α (x .top ∷ x .under)
+parted {c} {w} {r} {α} P x = subst (Path c w (r .depth) α) (x .parts) P
 
 -- words and a register with which the frame on top can be left
 record Leavable (c : World) (w w' : Words) (r : Regs) (fr : List Frame) (inner : ℕ) : Type 0 where
@@ -152,7 +138,7 @@ module _ {c : World} {o : Bytes} {w w' : Words} {r : Regs} {inner : ℕ} where
         α = here (x .top);
         e = u .e;
         b = u .b;
-        path = popped (u .path) x (l .kept) (l .holds) (l .marks);
+        path = path-pop (parted (u .path) x) (l .kept) (l .holds) (l .marks);
         inner = l .register (u .inner);
         bad = u .bad;
         out = u .out;
@@ -168,14 +154,14 @@ module _ {c : World} {o : Bytes} {w w' : Words} {r : Regs} {inner : ℕ} where
         fr = x .under;
         α = here (x .top);
         b = u .b;
-        path = popped (u .path) x (l .kept) (l .holds) (l .marks);
+        path = path-pop (parted (u .path) x) (l .kept) (l .holds) (l .marks);
         out = u .out;
         count = u .count;
         result = ap (λ f. f (r .tallies) (u .b)) (sym (x .same-yes)) ∙ u .result;
       })
 
-rose : {w w' : Words} {r : Regs} {inner : ℕ} → 0 < r .depth → ((c : World) (α : Valuation) (fr : List Frame) → Path c w (r .depth) α fr → Leavable c w w' r fr inner) →
-    Rose w w' r (popRegs r inner)
+rose : {w w' : Words} {r : Regs} {inner : ℕ} → 0 < r .depth →
+    ((c : World) (α : Valuation) (fr : List Frame) → Path c w (r .depth) α fr → Leavable c w w' r fr inner) → Rose w w' r (popRegs r inner)
 rose some f = record {
   ups = λ c o m u. leave-up u (f c (u .α) (u .fr) (u .path)) m;
   yes = λ c o m u. leave-yes u (f c (u .α) (u .fr) (u .path)) m;
@@ -212,7 +198,6 @@ module _ {w : Words} {r : Regs} (x : Restores w r) where
 
   pub restored : {w' : Words} {i had old inner : ℕ} → i ≡ slotAt w (r .depth - 1) → had ≡ hadAt w (r .depth - 1) → old ≡ oldAt w (r .depth - 1) →
       inner ≡ innerAt w (r .depth - 1) → w' ≡ set (set w i had) (i + 1) old → Rose w w' r (popRegs r inner)
-  unfolding alter
   restored {w'} {i} {had} {old} ei eh eo en words = rose (x .some) (λ c α fr P.
       let s = x .back c α fr P in
       let p = s .1 in
@@ -221,13 +206,15 @@ module _ {w : Words} {r : Regs} (x : Restores w r) where
       let e : r .depth - 1 ≡ len (s .0 .under) = top-index (parted P (s .0)) in
       let under = parted P (s .0) .chain .0 ∙ s .3 in
       let saved : Saved had old (β p) = rw (eh, eo, e) (h .saved) in
-      let a : Altered w w' p (β p) = alter p (β p) had old (ei ∙ ap (slotAt w) e ∙ h .slot) (h .inside) (omega (arith, P .size)) saved words in
+      let place = ei ∙ ap (slotAt w) e ∙ h .slot in
+      let word = second-word w p had old place (h .inside) (omega (arith, P .size)) words in
+      let a : Altered w w' p (β p) = alter w p had old place (h .inside) (omega (arith, P .size)) words (β p) saved in
       record {
         gone = s .0;
         kept = altered-kept (len (s .0 .under)) (h .inside) a;
         holds = holds-back a (h .inside) β (s .2) refl (subst (Holds w) under (P .holds));
-        marks = altered-marks a (h .inside) (put β p (s .2)) β (siteIn fr .marks) (siteIn (s .0 .under) .marks) (subst (λ γ. Marks w γ (siteIn fr .marks)) under (P .marks))
-            (λ q n. sym (put-other β p (s .2) q n)) (λ q n. sym (s .5 q n)) (λ none. rw e at eo ∙ h .mark none);
+        marks = altered-marks a (h .inside) (put β p (s .2)) β (siteIn fr .marks) (siteIn (s .0 .under) .marks)
+            (subst (λ γ. Marks w γ (siteIn fr .marks)) under (P .marks)) (λ q n. sym (put-other β p (s .2) q n)) (λ q n. sym (s .5 q n)) (λ none. word ∙ rw e at eo ∙ h .mark none);
         register = λ _. rw e at en ∙ h .inner;
       })
 

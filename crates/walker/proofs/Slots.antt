@@ -70,9 +70,6 @@ marks-keep u h p q e =
 pub record Altered (w w' : Words) (p : Place) (s : Slot) : Type 0 where
   pub others : (j : ℕ) → ¬ (j ≡ slotOf p) → ¬ (j ≡ slotOf p + 1) → getD w' j 0 ≡ getD w j 0
   pub now : SlotAt w' (slotOf p) s
-  -- the slot's second word
-  pub word : ℕ
-  pub second : getD w' (slotOf p + 1) 0 ≡ word
   pub size : length w' ≡ length w
 
 module _ {w w' : Words} {p : Place} {s : Slot} (a : Altered w w' p s) (h : InTable p) where
@@ -103,12 +100,12 @@ module _ {w w' : Words} {p : Place} {s : Slot} (a : Altered w w' p s) (h : InTab
   holds-back α s′ e x = altered-holds (put α p s′) α x (λ q n. sym (put-other α p s′ q n)) e
 
   -- marks that are the same elsewhere, where p's is the second word
-  pub altered-marks : (α β : Valuation) (m n : Place → ℕ) → Marks w α m → ((q : Place) → ¬ (q ≡ p) → β q ≡ α q) → ((q : Place) → ¬ (q ≡ p) → n q ≡ m q) →
-      (β p ≡ empty → a .word ≡ n p) → Marks w' β n
+  pub altered-marks : (α β : Valuation) (m n : Place → ℕ) → Marks w α m → ((q : Place) → ¬ (q ≡ p) → β q ≡ α q) →
+      ((q : Place) → ¬ (q ≡ p) → n q ≡ m q) → (β p ≡ empty → getD w' (slotOf p + 1) 0 ≡ n p) → Marks w' β n
   altered-marks α β m n x off same on q k = go (place-dec q p)
     where
       go : Dec (q ≡ p) → β q ≡ empty → getD w' (slotOf q + 1) 0 ≡ n q
-      go (yes e) none = rw e (a .second ∙ on (rw e at none))
+      go (yes e) none = rw e (on (rw e at none))
       go (no f) none =
           let at0 : ¬ (slotOf q + 1 ≡ slotOf p) = λ e. slots-apart q p f k h 1 0 (omega arith) (omega arith) (omega arith) in
           let at1 : ¬ (slotOf q + 1 ≡ slotOf p + 1) = λ e. slots-apart q p f k h 1 1 (omega arith) (omega arith) (omega arith) in
@@ -120,19 +117,22 @@ pub slot-of-saved : (w : Words) (i had old : ℕ) (s : Slot) → Saved had old s
 slot-of-saved w i had old empty q e f = e ∙ q
 slot-of-saved w i had old (full z) q e f = (e ∙ q .0, rw add-one at (f ∙ q .1))
 
-unfoldable pub alter : {w w' : Words} {i : ℕ} (p : Place) (s : Slot) (had old : ℕ) → i ≡ slotOf p → InTable p → pathAt ≤ length w → Saved had old s →
-    w' ≡ set (set w i had) (i + 1) old → Altered w w' p s
-alter {w} {w'} {i} p s had old e h z q words =
-    let k = in-table p h in
-    let w1 : Words = set w i had in
-    let size1 : length w1 ≡ length w = length-set w i had in
-    let at0 : getD w' (slotOf p) 0 ≡ had =
-    rw (← e, words, getD-set-other w1 (i + 1) i old 0 (λ x. omega arith)) (getD-set-same w i had 0 (omega (arith, k .high))) in
-    let at1 : getD w' (slotOf p + 1) 0 ≡ old = rw (← e, words) (getD-set-same w1 (i + 1) old 0 (omega (arith, k .high))) in
-    record {
-      others = λ j m n. rw (words, getD-set-other w1 (i + 1) j old 0 (λ x. n (omega arith)), getD-set-other w i j had 0 (λ x. m (omega arith)));
-      now = slot-of-saved w' (slotOf p) had old s q at0 at1;
-      word = old;
-      second = at1;
-      size = rw (words, length-set, length-set);
-    }
+module _ (w : Words) {w' : Words} {i : ℕ} (p : Place) (had old : ℕ) (e : i ≡ slotOf p) (h : InTable p) (z : pathAt ≤ length w) (words : w' ≡ set (set w i had) (i + 1) old)
+  where
+    pub second-word : getD w' (slotOf p + 1) 0 ≡ old
+    second-word =
+        let k = in-table p h in
+        let size1 : length (set w i had) ≡ length w = length-set w i had in
+        rw (← e, words) (getD-set-same (set w i had) (i + 1) old 0 (omega (arith, k .high)))
+
+    pub alter : (s : Slot) → Saved had old s → Altered w w' p s
+    alter s q =
+        let k = in-table p h in
+        let w1 : Words = set w i had in
+        let at0 : getD w' (slotOf p) 0 ≡ had =
+        rw (← e, words, getD-set-other w1 (i + 1) i old 0 (λ x. omega arith)) (getD-set-same w i had 0 (omega (arith, k .high))) in
+        record {
+          others = λ j m n. rw (words, getD-set-other w1 (i + 1) j old 0 (λ x. n (omega arith)), getD-set-other w i j had 0 (λ x. m (omega arith)));
+          now = slot-of-saved w' (slotOf p) had old s q at0 second-word;
+          size = rw (words, length-set, length-set);
+        }

@@ -17,6 +17,7 @@ use Rattle.walker.specs.Frame.{Frame, here, below, len, siteIn}
 use Rattle.walker.specs.Path as paths
 use Rattle.walker.specs.Path.{World, Changed}
 use Rattle.walker.specs.Sim.{yes, no, Down, In, Up, Yes, Leaf, Sim}
+use Rattle.walker.specs.Registers.{level}
 use Rattle.walker.specs.Steps.{Visited}
 use Rattle.walker.specs.States.{downMode, upMode, wonMode, blockMode, successJob}
 
@@ -48,7 +49,7 @@ pub record Rose (w w' : Words) (r r' : Regs) : Type 0 where
   pub ups : (c : World) (o : Bytes) → r .mode ≡ upMode → Up c o w r → Sim c o w' r'
   pub yes : (c : World) (o : Bytes) → r .mode ≡ wonMode → Yes c o w r → Sim c o w' r'
   pub nodes : r' .tallies .nodes ≡ r .tallies .nodes
-  pub falls : 2 * r' .depth + r' .mode < 2 * r .depth + r .mode
+  pub falls : level r' < level r
   -- the mode stays, or a visit is due or the walk over
   pub modes : (r' .mode ≡ r .mode) ⊎ (r' .mode ≤ downMode)
 
@@ -61,23 +62,30 @@ pub record Exhausted (c : World) (r : Regs) (fr : List Frame) : Type 0 where
   pub same-yes : yes c fr ≡ yes c under
 
 -- it changed no slot
+abbrev pub Untouched : World → Regs → List Frame → Type 0
+Untouched c r fr =
+    (s : Exhausted c r fr)
+    × (below (s .top) ≡ here (s .top))
+    × (siteIn fr .inner ≡ siteIn (s .under) .inner)
+    × (siteIn fr .marks ≡ siteIn (s .under) .marks)
+
 pub record Leaves (w : Words) (r : Regs) : Type 0 where
   pub at : Rising w r
   pub some : 0 < r .depth
-  pub back :
-      (c : World) (α : Valuation) (fr : List Frame) → paths.Path c w (r .depth) α fr →
-      (s : Exhausted c r fr) × (below (s .top) ≡ here (s .top)) × (siteIn fr .inner ≡ siteIn (s .under) .inner) × (siteIn fr .marks ≡ siteIn (s .under) .marks)
+  pub back : (c : World) (α : Valuation) (fr : List Frame) → paths.Path c w (r .depth) α fr → Untouched c r fr
 
--- it changed a slot
+-- it changed a slot, and its words say how it was
+abbrev pub Undoable : World → Words → Regs → List Frame → Type 0
+Undoable c w r fr =
+    (s : Exhausted c r fr) × (p : Place) × (v : Slot)
+    × (below (s .top) ≡ put (here (s .top)) p v)
+    × Changed w (len (s .under)) p (siteIn (s .under)) (here (s .top))
+    × ((q : Place) → ¬ (q ≡ p) → siteIn fr .marks q ≡ siteIn (s .under) .marks q)
+
 pub record Restores (w : Words) (r : Regs) : Type 0 where
   pub at : Rising w r
   pub some : 0 < r .depth
-  pub back :
-      (c : World) (α : Valuation) (fr : List Frame) → paths.Path c w (r .depth) α fr →
-      (s : Exhausted c r fr) × (p : Place) × (v : Slot)
-      × (below (s .top) ≡ put (here (s .top)) p v)
-      × Changed w (len (s .under)) p (siteIn (s .under)) (here (s .top))
-      × ((q : Place) → ¬ (q ≡ p) → siteIn fr .marks q ≡ siteIn (s .under) .marks q)
+  pub back : (c : World) (α : Valuation) (fr : List Frame) → paths.Path c w (r .depth) α fr → Undoable c w r fr
 
 -- ---- leaves and blocks
 
@@ -90,7 +98,7 @@ pub record AtLeaf (r : Regs) : Type 0 where
 pub record LeafDone (r r' : Regs) : Type 0 where
   pub sim : (c : World) (o : Bytes) (w : Words) → In c o w r → Sim c o w r'
   pub nodes : r' .tallies .nodes ≡ r .tallies .nodes
-  pub falls : 2 * r' .depth + r' .mode ≤ 2 * r .depth + blockMode
+  pub falls : level r' ≤ 2 * r .depth + blockMode
 
 -- the world of this task
 pub record Fixed (c : World) (t : Task) : Type 0 where
@@ -107,7 +115,7 @@ pub record BlockDue (w : Words) (o : Bytes) (r : Regs) (t : Task) : Type 0 where
 pub record Blocked (w : Words) (o o' : Bytes) (r r' : Regs) (t : Task) : Type 0 where
   pub sim : (c : World) → Fixed c t → Leaf c o w r → Sim c o' w r'
   pub nodes : r' .tallies .nodes ≡ r .tallies .nodes
-  pub falls : 2 * r' .depth + r' .mode ≤ 2 * r .depth + upMode
+  pub falls : level r' ≤ 2 * r .depth + upMode
   pub modes : r' .mode ≤ upMode
   pub size : length o' ≡ length o
 
@@ -115,7 +123,7 @@ pub record Blocked (w : Words) (o o' : Bytes) (r r' : Regs) (t : Task) : Type 0 
 
 -- falls with every step
 abbrev pub measure : ℕ → Regs → ℕ
-measure budget r = 5 * (budget - r .tallies .nodes) + 2 * r .depth + r .mode
+measure budget r = 5 * (budget - r .tallies .nodes) + level r
 
 -- in some world a visit is due
 pub record VisitDue (w : Words) (r : Regs) (path budget : ℕ) : Type 0 where
@@ -143,7 +151,7 @@ pub record Climbs (w : Words) (r : Regs) (mode : ℕ) : Type 0 where
 pub record Climbed (w w' : Words) (r r' : Regs) (mode : ℕ) : Type 0 where
   pub sim : (c : World) (o : Bytes) → Sim c o w r → Sim c o w' r'
   pub nodes : r' .tallies .nodes ≡ r .tallies .nodes
-  pub falls : (r' ≡ r) ⊎ ((2 * r' .depth + r' .mode < 2 * r .depth + r .mode) × (r' .mode ≤ downMode))
+  pub falls : (r' ≡ r) ⊎ ((level r' < level r) × (r' .mode ≤ downMode))
   pub stops : r' .mode ≡ mode → ⊥
 
 -- ---- a visit, a block, and up again
@@ -158,7 +166,7 @@ pub record Runs (w : Words) (o : Bytes) (r : Regs) (t : Task) : Type 0 where
 pub record Settled (w : Words) (o o' : Bytes) (r r' : Regs) (t : Task) : Type 0 where
   pub sim : (c : World) → Fixed c t → Sim c o w r → Sim c o' w r'
   pub nodes : r' .tallies .nodes ≡ r .tallies .nodes
-  pub falls : ((r' ≡ r) × (r .mode ≡ blockMode → ⊥)) ⊎ ((2 * r' .depth + r' .mode < 2 * r .depth + r .mode) × (r' .mode ≤ upMode))
+  pub falls : ((r' ≡ r) × (r .mode ≡ blockMode → ⊥)) ⊎ ((level r' < level r) × (r' .mode ≤ upMode))
   pub size : length o' ≡ length o
 
 -- a visit is due

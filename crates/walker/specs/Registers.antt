@@ -1,5 +1,5 @@
 -- The values that the functions of src/registers.rt make. Assumes nothing.
-use Prim.Native.Nat.{ℕ, _-_}
+use Prim.Native.Nat.{ℕ, _+_, _*_, _-_}
 use lib.Dec.{eqb}
 use Rattle.specification.specs.declared.Tallies.{Tallies}
 use Rattle.specification.specs.Bytes.{pick}
@@ -23,6 +23,10 @@ abbrev pub errorDue : ℕ → ℕ → Due
 errorDue kind head = dueOf errorJob head kind
 
 -- ---- registers
+
+-- falls with every step up
+abbrev pub level : Regs → ℕ
+level r = 2 * r .depth + r .mode
 
 -- a visit is due
 abbrev pub dueRegs : Regs → ℕ → Due → ℕ → ℕ → Regs

@@ -29,6 +29,7 @@ use Rattle.walker.specs.Site.{boundSite, givenSite}
 use Rattle.walker.specs.Path.{World, Pend, Job, InTable}
 use Rattle.walker.specs.Stands.{Binds, LeftAfter}
 use Rattle.walker.specs.Sim.{tree, son, In, Sim}
+use Rattle.walker.specs.Registers.{level}
 use Rattle.walker.specs.States.{successJob, blockMode}
 
 -- ---- lists
@@ -64,7 +65,7 @@ pub record Entered (w : Words) (r : Regs) (n : ℕ) : Type 0 where
 pub record Stepped (w w' : Words) (r r' : Regs) : Type 0 where
   pub sim : (c : World) (o : Bytes) → In c o w r → Sim c o w' r'
   pub nodes : r' .tallies .nodes ≡ r .tallies .nodes
-  pub falls : 2 * r' .depth + r' .mode ≤ 2 * r .depth + blockMode
+  pub falls : level r' ≤ 2 * r .depth + blockMode
 
 -- the node's one son is the tree of the rest of its list
 pub record GoesOn (w : Words) (r : Regs) : Type 0 where
