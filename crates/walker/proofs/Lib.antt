@@ -1,10 +1,10 @@
 -- The laws of the walk. Nothing here has to be believed: the checker does.
-pub mod Told
-pub mod Tracks
-pub mod Sited
 pub mod Answers
 pub mod Continuation
 pub mod Walk
+pub mod Told
+pub mod Tracks
+pub mod Sited
 pub mod Registered
 pub mod Keep
 pub mod Here

@@ -112,7 +112,7 @@ module _ {c : World} {o : Bytes} {w : Words} {r : Regs} (i : In c o w r) where
       mark none ∙ ap suc (sym at-depth) ∙ sym (put-same (siteIn (i .fr) .marks) (local l) (suc (siteIn (i .fr) .depth)))
 
   inner-number : r .depth + innerRoot ≡ innerSite (siteIn (i .fr)) .inner
-  inner-number = omega (arith, at-depth)
+  inner-number = ap (_+ innerRoot) (sym at-depth)
 
   -- nothing is left to do
   pub down-pass : {w' : Words} → Marked w w' (r .depth) noTodo → (x : What) →

@@ -1,6 +1,6 @@
 -- The tree that the walk knows is the specification's: from a site that tracks the valuation, `growAt` is `grow`, and so the tree of the
 -- walk's start is the tree of the sheet's formula. Assumes nothing.
-use Prim.Native.Nat.{ℕ, zero, suc, _<_}
+use Prim.Native.Nat.{ℕ, zero, suc, _+_, _<_}
 use mathlib.Core.Path.{_≡_, refl, _∙_, ap, ap₂, fun-ext}
 use mathlib.Core.Bool.{Bool, true, false}
 use mathlib.Core.List.{[], _∷_}
@@ -16,6 +16,7 @@ use Rattle.specification.specs.Outside.{binds}
 use Rattle.specification.specs.Tree.{Verdict, succeeds, fails, undecided, verdict, step, fork, ask, Rest, check, equate, compared, bounded, sons, rounds, denied, implied, enquire, doneInside, grow, treeOf}
 use Rattle.specification.proofs.Laws.Value.{sane-bare}
 use Rattle.specification.proofs.Laws.Outside.{and-within, or-within, imp-within, ex-within, some-within, all-within, Covers, covers-nowhere, covers-enter}
+use Rattle.walker.specs.States.{innerRoot}
 use Rattle.walker.specs.Site.{Site, RestAt, rootSite, sonSite, boundSite, innerSite, givenSite, equateAt, roundsAt, doneAt, growAt}
 use Rattle.walker.specs.Frame.{form, treeItems}
 use Rattle.walker.proofs.Tracks.{Home, main, inner, Bound, Tracks, tracks-root, tracks-inner, tracks-son, tracks-bound, tracks-leave, tracks-given, done-main, done-inner}
@@ -91,7 +92,7 @@ module _ (D : Declared) where
       (F : Formula) → Sited F → (S : Scope) (h : Home) → Ok D S F → Covers D S → (s : Site) (α : Valuation) → Tracks D S h s α →
       growAt D F doneAt (innerSite s) α ≡ grow D F (doneInside D F α) α
   inner-sited F f S h o c s α t =
-      f S (inner F α (suc (suc (s .depth)))) o c (λ l b. b) doneAt (doneInside D F α) (λ r β u. done-inner u) (innerSite s) α (tracks-inner F o t)
+      f S (inner F α (s .depth + innerRoot)) o c (λ l b. b) doneAt (doneInside D F α) (λ r β u. done-inner u) (innerSite s) α (tracks-inner F o t)
 
   module _ (S : Scope) (h : Home) (k : RestAt) (k′ : Rest) (go : Alike S h k k′) where
     -- a son with the same valuation

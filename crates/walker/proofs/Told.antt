@@ -18,7 +18,7 @@ use Rattle.specification.specs.Outside.{outside, gained, gave}
 use Rattle.specification.proofs.Laws.Contradiction.{contradiction}
 use Rattle.specification.proofs.Laws.Place.{put-same, put-other}
 use Rattle.specification.proofs.Laws.Outside.{Declares, gave-true, gave-false}
-use Rattle.walker.specs.States.{givenTree}
+use Rattle.walker.specs.States.{givenTree, innerRoot}
 
 -- a place outside F that has a value under β and had none under α
 pub record Gain (D : Declared) (F : Formula) (α β : Valuation) : Type 0 where
@@ -48,18 +48,18 @@ gained-same (full v) = refl
 module _ (D : Declared) (F : Formula) (α : Valuation) (n : ℕ) (β : Valuation) where
   -- what was given stays so where another place changes
   gain-put : (g : Gain D F α β) (p : Place) (x : Slot) → ¬ (g .place ≡ p) → Gain D F α (put β p x)
-  gain-put g p x n =
+  gain-put g p x z =
       record {
         place = g .place;
         value = g .value;
         declared = g .declared;
         outer = g .outer;
         bare = g .bare;
-        got = put-other β p x (g .place) n ∙ g .got;
+        got = put-other β p x (g .place) z ∙ g .got;
       }
 
   same-put : Same F α β → (p : Place) (x : Slot) → ¬ (T (outside F p)) → Same F α (put β p x)
-  same-put k p x n q u = put-other β p x q (apart F q p u n) ∙ k q u
+  same-put k p x z q u = put-other β p x q (apart F q p u z) ∙ k q u
 
   -- ---- where a place that is not outside changes
 
@@ -94,7 +94,7 @@ module _ (D : Declared) (F : Formula) (α : Valuation) (n : ℕ) (β : Valuation
 
   -- ---- at the empty list
 
-  pub told-gave : (r : ℕ) → 2 ≤ n → Told D F α n r β → eqb r givenTree ≡ gave D F α β
+  pub told-gave : (r : ℕ) → innerRoot ≤ n → Told D F α n r β → eqb r givenTree ≡ gave D F α β
   told-gave r h (inl (e, k)) =
-      rw e (ne-eqb n 1 (λ x. omega arith)) ∙ sym (gave-false D F α β (λ p d u. rw (k p u) (gained-same (α p))))
+      rw e (ne-eqb n givenTree (λ x. omega arith)) ∙ sym (gave-false D F α β (λ p d u. rw (k p u) (gained-same (α p))))
   told-gave r h (inr (e, g)) = rw e (sym (gave-true D F α β (g .place) (g .value) (g .declared) (g .outer) (g .bare) (g .got)))

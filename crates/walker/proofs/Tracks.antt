@@ -1,7 +1,7 @@
 -- What holds of a site and a valuation that are reached from the root of a tree, main or inner: how the marks stand to the depth and to the
 -- number of the tree's root, and what the register `inner` tells. It holds at the roots, every node keeps it, and at the empty list it gives
 -- the leaf that the specification has. Assumes nothing.
-use Prim.Native.Nat.{ℕ, suc, _≤_, _<_}
+use Prim.Native.Nat.{ℕ, suc, _+_, _≤_, _<_}
 use native.Mathlib.Omega.{arith}
 use mathlib.Core.Path.{_≡_, refl, ap}
 use mathlib.Core.Bool.{Bool, true, false}
@@ -22,7 +22,7 @@ use Rattle.specification.specs.Tree.{successLeaf, errorLeaf, step, done, doneIn
 use Rattle.specification.proofs.Laws.Scope.{In}
 use Rattle.specification.proofs.Laws.Place.{in-enter}
 use Rattle.specification.proofs.Laws.Outside.{Covers, in-declares, in-outside}
-use Rattle.walker.specs.States.{mainTree}
+use Rattle.walker.specs.States.{mainTree, innerRoot}
 use Rattle.walker.specs.Site.{Site, site, rootSite, sonSite, boundSite, innerSite, givenSite, doneAt}
 use Rattle.walker.proofs.Told.{Told, apart, told-put, told-given, told-gave}
 
@@ -43,7 +43,7 @@ Bound (inner F α n) l = T (binds F l)
 
 -- in an inner tree: its root has the number n
 record Inside (D : Declared) (S : Scope) (F : Formula) (α : Valuation) (n : ℕ) (s : Site) (β : Valuation) : Type 0 where
-  least : 2 ≤ n
+  least : innerRoot ≤ n
   root : n ≤ suc (s .depth)
   -- a place in scope has a mark below the number if and only if it is outside F
   around : (p : Place) → In D S p → T (outside F p) → s .marks p < n
@@ -67,7 +67,7 @@ tracks-root D α = record { low = λ p i. omega arith; stands = refl }
 
 pub tracks-inner :
     {D : Declared} {S : Scope} {h : Home} {s : Site} {β : Valuation} (F : Formula) → Ok D S F → Tracks D S h s β →
-    Tracks D S (inner F β (suc (suc (s .depth)))) (innerSite s) β
+    Tracks D S (inner F β (s .depth + innerRoot)) (innerSite s) β
 tracks-inner {D} {S} {h} {s} {β} F o t =
     record {
       low = λ p i. let a = t .low p i in omega arith;

@@ -1,4 +1,4 @@
--- The contracts of going up, of leaves and blocks, of a step and of the whole walk. Assumes nothing.
+-- The contracts of going up, of leaves and blocks, of a visit, and of a step of the loop. Assumes nothing.
 use Prim.Native.Nat.{ℕ, _+_, _*_, _-_, _≤_, _<_}
 use mathlib.Core.Path.{_≡_}
 use mathlib.Core.Logic.{_⊎_}
@@ -119,7 +119,7 @@ pub record Blocked (w : Words) (o o' : Bytes) (r r' : Regs) (t : Task) : Type 0 
   pub modes : r' .mode ≤ upMode
   pub size : length o' ≡ length o
 
--- ---- a step
+-- ---- a visit
 
 -- falls with every step
 abbrev pub measure : ℕ → Regs → ℕ
@@ -154,7 +154,7 @@ pub record Climbed (w w' : Words) (r r' : Regs) (mode : ℕ) : Type 0 where
   pub falls : (r' ≡ r) ⊎ ((level r' < level r) × (r' .mode ≤ downMode))
   pub stops : r' .mode ≡ mode → ⊥
 
--- ---- a visit, a block, and up again
+-- ---- a step: a visit, up, a block, and up again
 
 -- in some world of this task the invariant holds
 pub record Runs (w : Words) (o : Bytes) (r : Regs) (t : Task) : Type 0 where

@@ -1,5 +1,4 @@
--- The invariant of the walk: what is left to visit gives the run's result. And the contracts of the functions that keep it.
--- Assumes nothing.
+-- The invariant of the walk: what is left to visit gives the run's result. Assumes nothing.
 use Prim.Native.Nat.{suc, _+_, _<_}
 use mathlib.Core.Path.{_≡_}
 use mathlib.Core.Bool.{Bool}

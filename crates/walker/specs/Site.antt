@@ -1,7 +1,7 @@
 -- The tree as the walk knows it. A node knows its site: its place on the path, whether an inner tree there has given a value to a place
 -- outside, and for each place without a value where it was bound. So an inner success leaf is judged in constant time. The law that this is
 -- the specification's tree is in proofs/Sited.antt. Assumes nothing.
-use Prim.Native.Nat.{ℕ, zero, suc}
+use Prim.Native.Nat.{ℕ, zero, suc, _+_}
 use lib.Dec.{ltb, eqb}
 use lib.IntN.{ℤ, pos, _+ℤ_}
 use Rattle.specification.specs.Bytes.{pick}
@@ -11,7 +11,7 @@ use Rattle.specification.specs.Arithmetic.{noValue, undecidedInside, eqZ, count
 use Rattle.specification.specs.Place.{Place, local, put}
 use Rattle.specification.specs.Value.{empty, full, Side, val, bare, err, pairOf, side}
 use Rattle.specification.specs.Tree.{successLeaf, errorLeaf, step, fork, Rest, check, compared, bounded, sons, denied, implied, enquire}
-use Rattle.walker.specs.States.{mainTree, givenTree}
+use Rattle.walker.specs.States.{mainTree, givenTree, innerRoot}
 
 -- ---- sites
 
@@ -39,7 +39,7 @@ boundSite l s = site (suc (s .depth)) (s .inner) (put (s .marks) (local l) (suc 
 
 -- the root of an inner tree: what is bound above it has a mark below its number
 abbrev pub innerSite : Site → Site
-innerSite s = site (suc (s .depth)) (suc (suc (s .depth))) (s .marks)
+innerSite s = site (suc (s .depth)) (s .depth + innerRoot) (s .marks)
 
 -- the register once a place with this mark has got a value: in an inner tree it tells of a place outside
 abbrev pub afterGiven : ℕ → ℕ → ℕ

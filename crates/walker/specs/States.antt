@@ -1,5 +1,5 @@
--- Names for the numbers that the registers and the path nodes hold. src has the same numbers for the code: modes.rt, jobs.rt, todos.rt and
--- registers.rt. Assumes nothing.
+-- Names for the numbers that the registers and the path nodes hold. src has the same numbers for the code: modes.rt, jobs.rt, todos.rt, inner.rt
+-- and registers.rt. Assumes nothing.
 use Prim.Native.Nat.{ℕ, _+_}
 use Rattle.specification.specs.declared.End.the-variants.{Done, Spent, Path, Output}
 use Rattle.specification.specs.Report.{endNumber}

@@ -15,7 +15,7 @@ use terms::Sides;
 use terms::kinds;
 use terms::tags;
 
-// An `eq` with a bare side: the value goes into the empty slot, then the rest.
+// An `eq` with a bare side: the value goes into the empty slot, whose mark the node keeps (inner.rt); then the rest.
 fn assign(w: &mut [u32], r: Regs, slot: u32, value: u32) -> Regs
     requires { ⌜ Assigns (now w) r slot value ⌝ }
     ensures { λ q. ⌜ Stepped (now (w .entry)) (now (w .exit)) r q ⌝ }

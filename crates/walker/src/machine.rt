@@ -1,4 +1,4 @@
-// The loop: a visit, a step up, or a block.
+// The loops of the walk: one visit after another, and after each the steps up and the block that follow it.
 ghost use mathlib.Core.Path.{_≡_};
 ghost use Prim.Native.Nat.{_<_};
 ghost use lib.ListN.{length};
@@ -24,8 +24,7 @@ use specification::Outcome;
 use specification::Tallies;
 use tables::codes;
 
-// A leaf whose visit is counted. In an inner tree a success ends it and an error leaves its mark; in the main tree an answer or an error
-// has a block.
+// A leaf whose visit is counted. In an inner tree a success ends it and an error is noted; in the main tree an answer or an error has a block.
 fn at_leaf(r: Regs) -> Regs
     requires { ⌜ AtLeaf r ⌝ }
     ensures { λ q. ⌜ LeafDone r q ⌝ }
@@ -136,7 +135,7 @@ fn block(w: &[u32], out: &mut [u8], r: Regs, task: Task) -> Regs
     }
 }
 
-// Steps up in one of the two modes, until a visit is due or the walk is over.
+// Steps up as long as the mode is this one: UP or WON.
 fn climb(w: &mut [u32], r: Regs, mode: u32) -> Regs
     requires { ⌜ Climbs (now w) r mode ⌝ }
     ensures { λ q. ⌜ Climbed (now (w .entry)) (now (w .exit)) r q mode ⌝ }
