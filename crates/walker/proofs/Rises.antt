@@ -8,8 +8,8 @@ use lib.ListN.{set}
 use lib.IntN.{ℤ, pos, _+ℤ_}
 use Rattle.specification.specs.Bytes.{Bytes}
 use Rattle.specification.specs.Ast.{Formula}
-use Rattle.specification.specs.Place.{Place, local, put}
-use Rattle.specification.specs.Value.{Slot, full, Valuation}
+use Rattle.specification.specs.Place.{local, put}
+use Rattle.specification.specs.Value.{full, Valuation}
 use Rattle.specification.proofs.Laws.Place.{put-other}
 use Rattle.specification.specs.Run.{going}
 use Rattle.specification.specs.Outcome.{resultOf}
@@ -20,7 +20,7 @@ use Rattle.sheet.specs.Tables.{Words}
 use Rattle.sheet.specs.Held.{Holds}
 use Rattle.walker.specs.declared.Regs.{Regs}
 use Rattle.walker.specs.Walk.{sonsFrom}
-use Rattle.walker.specs.Frame.{Item, Frame, pass, other, bound, given, range, asks, here, below, len, siteIn}
+use Rattle.walker.specs.Frame.{Item, Frame, pass, other, bound, given, range, asks, here, len, siteIn}
 use Rattle.walker.specs.Path.{World, Saved, Marks, Path}
 use Rattle.walker.specs.Sim.{yes, no, Up, Yes, Sim, over, up, won}
 use Rattle.walker.specs.Registers.{popRegs, stopRegs}
