@@ -45,7 +45,7 @@ pub record Questioned (c : World) (o : Bytes) (w : Words) (r : Regs) (i : In c o
       (λ v β. sonOf (c .declared) (r .due .head) question is v (sonSite (siteIn (i .fr))) β) (i .α)
 
 module _ {w : Words} {r : Regs} where
-  pub imp-asks : Entered w r impCode → (c : World) (o : Bytes) (i : In c o w r) → Questioned c o w r i
+  imp-asks : Entered w r impCode → (c : World) (o : Bytes) (i : In c o w r) → Questioned c o w r i
   unfolding growAt treeItems
   imp-asks x c o i =
       let a = at-form i (x .formula) (x .code) in
@@ -61,7 +61,7 @@ module _ {w : Words} {r : Regs} where
         grown = form-tree i a ∙ rw (b .is);
       }
 
-  pub not-asks : Entered w r notCode → (c : World) (o : Bytes) (i : In c o w r) → Questioned c o w r i
+  not-asks : Entered w r notCode → (c : World) (o : Bytes) (i : In c o w r) → Questioned c o w r i
   unfolding growAt treeItems
   not-asks x c o i =
       let a = at-form i (x .formula) (x .code) in
@@ -82,10 +82,6 @@ pub record Questions (w : Words) (r : Regs) : Type 0 where
   pub at : Visited w r
   pub all : (c : World) (o : Bytes) (i : In c o w r) → Questioned c o w r i
 
-pub questions : {w : Words} {r : Regs} → Entered w r impCode ⊎ Entered w r notCode → Questions w r
-questions (inl x) = record { at = x .at; all = imp-asks x }
-questions (inr x) = record { at = x .at; all = not-asks x }
-
 pub asks-down : {w w' : Words} {r : Regs} {d : Due} (x : Questions w r) → Pushed w w' (r .depth) (askNode r) → d ≡ formulaDue w' (r .due .head + 1) 0 →
     (c : World) (o : Bytes) → In c o w r → Down c o w' (dueRegs r (r .depth + 1) d (r .depth + innerRoot) 0)
 unfolding enquire
@@ -102,8 +98,8 @@ pub question-at : {w : Words} {r : Regs} → Visited w r → impCode ≤ r .due 
 question-at {w} {r} v low high = go (eq-or-lt-of-le low)
   where
     go : (impCode ≡ r .due .job) ⊎ (impCode < r .due .job) → Questions w r
-    go (inl e) = questions (inl (record { at = v; code = sym e; formula = (omega arith, omega arith) }))
-    go (inr l) = questions (inr (record { at = v; code = omega arith; formula = (omega arith, omega arith) }))
+    go (inl e) = record { at = v; all = imp-asks (record { at = v; code = sym e; formula = (omega arith, omega arith) }) }
+    go (inr l) = record { at = v; all = not-asks (record { at = v; code = omega arith; formula = (omega arith, omega arith) }) }
 
 pub question-near : {w : Words} {r : Regs} → Questions w r → suc (r .due .head) < maxTokens
 question-near x = x .all (x .at .c) (x .at .o) (x .at .ins) .near

@@ -51,7 +51,8 @@ assignNode w r slot = record {
 }
 
 module _ {w w' : Words} {r : Regs} {slot value : ℕ} (x : Assigns w r slot value) (g : Alters w w' (r .depth) (assignNode w r slot) 1 value) where
-  assign-replaces : (c : World) (o : Bytes) (i : In c o w r) → let q = x .son c o i in Replaces (c .declared) w w' (r .depth) (assignNode w r slot) (i .α) (q .1) (full (q .2))
+  assign-replaces : (c : World) (o : Bytes) (i : In c o w r) →
+      let q = x .son c o i in Replaces (c .declared) w w' (r .depth) (assignNode w r slot) (i .α) (q .1) (full (q .2))
   assign-replaces c o i =
       let (is, p, v, tree, rest, place, word, inside, none, good) = x .son c o i in
       replaces (c .declared) (i .α) p (full v) g place inside (rw none refl) refl good (refl, word) (omega (arith, i .path .size))

@@ -105,7 +105,8 @@ module _ {w w' : Words} {r : Regs} {h p inner bad : ℕ} (g : Judges w w' r h p 
     judge-bad one u =
         top-asks (λ fr. no c fr true (r .tallies) (u .b) ≡ c .result → Down c o w' (dueRegs r (r .depth) (errorDue undecidedInside h) inner bad)) (g .some) (g .todo)
         (λ tok q is β e fr P z.
-        judged P (u .b) (error undecidedInside tok) (refl, refl, token-is P) (u .out) (u .count) (rw (son-undecided (c .declared) tok is (sonSite (siteIn fr)) β q) at z))
+        judged P (u .b) (error undecidedInside tok) (refl, refl, token-is P) (u .out) (u .count)
+        (rw (son-undecided (c .declared) tok is (sonSite (siteIn fr)) β q) at z))
         (u .fr) (u .path) (rw (flag-on (u .e) (sym (u .bad) ∙ one)) at (u .result))
 
     -- it has had failure leaves only

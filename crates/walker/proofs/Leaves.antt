@@ -102,7 +102,8 @@ module _ {c : World} {o : Bytes} {w : Words} {r : Regs} (i : In c o w r) where
     result = rw (at-failure j, inside-yes m) at (i .result);
   }
 
-  inner-error : ¬ (r .inner ≡ mainTree) → successJob ≤ r .due .job → (r .due .job ≡ successJob → ⊥) → (r .due .job ≡ failureJob → ⊥) → Up c o w (leafRegs r upMode 1 (r .tallies) (r .written))
+  inner-error : ¬ (r .inner ≡ mainTree) → successJob ≤ r .due .job → (r .due .job ≡ successJob → ⊥) → (r .due .job ≡ failureJob → ⊥) →
+      Up c o w (leafRegs r upMode 1 (r .tallies) (r .written))
   unfolding within
   inner-error m h n3 n4 = record {
     fr = i .fr;
@@ -180,15 +181,18 @@ module _ {r q : Regs} where
   pub done-failure : q ≡ leafRegs r upMode (r .bad) (r .tallies) (r .written) → ¬ (r .inner ≡ mainTree) → r .due .job ≡ failureJob → LeafDone r q
   done-failure e m j = rw e (record { sim = λ c o w i. up refl (inner-failure i m j); nodes = refl; falls = omega arith })
 
-  pub done-error : q ≡ leafRegs r upMode 1 (r .tallies) (r .written) → ¬ (r .inner ≡ mainTree) → successJob ≤ r .due .job → (r .due .job ≡ successJob → ⊥) → (r .due .job ≡ failureJob → ⊥) → LeafDone r q
+  pub done-error : q ≡ leafRegs r upMode 1 (r .tallies) (r .written) → ¬ (r .inner ≡ mainTree) → successJob ≤ r .due .job →
+      (r .due .job ≡ successJob → ⊥) → (r .due .job ≡ failureJob → ⊥) → LeafDone r q
   done-error e m h n3 n4 = rw e (record { sim = λ c o w i. up refl (inner-error i m h n3 n4); nodes = refl; falls = omega arith })
 
-  pub failure-done : {t : Tallies} → t ≡ counted (r .tallies) failTally → q ≡ leafRegs r upMode (r .bad) t (r .written) → r .inner ≡ mainTree → r .due .job ≡ failureJob → LeafDone r q
+  pub failure-done : {t : Tallies} → t ≡ counted (r .tallies) failTally → q ≡ leafRegs r upMode (r .bad) t (r .written) → r .inner ≡ mainTree →
+      r .due .job ≡ failureJob → LeafDone r q
   unfolding counted
   failure-done h e m j = rw (e, h) (record { sim = λ c o w i. up refl (main-failure i m j); nodes = refl; falls = omega arith })
 
   -- an answer or an error
-  pub block-done : q ≡ leafRegs r blockMode (r .bad) (r .tallies) (r .written) → r .inner ≡ mainTree → successJob ≤ r .due .job → (r .due .job ≡ failureJob → ⊥) → LeafDone r q
+  pub block-done : q ≡ leafRegs r blockMode (r .bad) (r .tallies) (r .written) → r .inner ≡ mainTree → successJob ≤ r .due .job →
+      (r .due .job ≡ failureJob → ⊥) → LeafDone r q
   block-done e m h n4 = rw e (record { sim = λ c o w i. block refl (main i (eqb (r .due .job) successJob) refl); nodes = refl; falls = omega arith })
     where
       main : {c : World} {o : Bytes} {w : Words} → In c o w r → (t : Bool) → eqb (r .due .job) successJob ≡ t → Leaf c o w (leafRegs r blockMode (r .bad) (r .tallies) (r .written))

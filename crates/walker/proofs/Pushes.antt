@@ -45,8 +45,9 @@ pub record Replaces (D : Declared) (w w' : Words) (d : ℕ) (n : Node) (α : Val
   pub good : SlotIn D p s
   pub altered : Altered mid w' p s
 
-pub replaces : {w w' : Words} {d : ℕ} {n : Node} {flag value : ℕ} (D : Declared) (α : Valuation) (p : Place) (s : Slot) → Alters w w' d n flag value → n .slot ≡ slotOf p →
-    InTable p → Saved (n .had) (n .old) (α p) → n .old ≡ getD w (n .slot + 1) 0 → SlotIn D p s → Saved flag value s → pathAt ≤ length w → Replaces D w w' d n α p s
+pub replaces : {w w' : Words} {d : ℕ} {n : Node} {flag value : ℕ} (D : Declared) (α : Valuation) (p : Place) (s : Slot) →
+    Alters w w' d n flag value → n .slot ≡ slotOf p → InTable p → Saved (n .had) (n .old) (α p) → n .old ≡ getD w (n .slot + 1) 0 →
+    SlotIn D p s → Saved flag value s → pathAt ≤ length w → Replaces D w w' d n α p s
 replaces {w = w} {flag = flag} {value = value} D α p s g place inside saved mark good new size = record {
   mid = g .mid;
   pushed = g .pushed;

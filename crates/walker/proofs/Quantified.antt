@@ -56,8 +56,8 @@ module _ {c : World} {o : Bytes} {w : Words} {r : Regs} (i : In c o w r) (h l : 
 -- ---- the steps
 
 -- `ex`: the local starts without a value
-pub ex-down : {w w' : Words} {r : Regs} {d : Due} {n : Node} → Entered w r exCode → n ≡ binderNode w r (r .due .head) undoTodo 0 0 → Alters w w' (r .depth) n 0 (r .depth + 1) →
-    d ≡ formulaDue w' (r .due .head + 2) (r .due .rest) →
+pub ex-down : {w w' : Words} {r : Regs} {d : Due} {n : Node} → Entered w r exCode → n ≡ binderNode w r (r .due .head) undoTodo 0 0 →
+    Alters w w' (r .depth) n 0 (r .depth + 1) → d ≡ formulaDue w' (r .due .head + 2) (r .due .rest) →
     (c : World) (o : Bytes) → In c o w r → Down c o w' (dueRegs r (r .depth + 1) d (r .inner) (r .bad))
 unfolding growAt treeItems
 ex-down {w} {w'} {r} {d} {n} x e g k c o i =

@@ -54,8 +54,8 @@ module _ {c : World} {w w' : Words} {d : ℕ} {α : Valuation} {fr : List Frame}
       with-frames α fr k (P .deep) (P .inside) (stack-keep c w w' fr (rw (P .deep) at (k .nodes)) (P .stack)) (P .chain) h m (P .valid)
 
   -- a frame more
-  pub path-onto : (f : Frame) → d < c .setting .path → Kept d w w' → here f ≡ α → FrameAt c w' d (siteIn fr) f → Holds w' (below f) → Marks w' (below f) (siteIn (f ∷ fr) .marks) →
-      Valid (c .declared) (below f) → Path c w' (d + 1) (below f) (f ∷ fr)
+  pub path-onto : (f : Frame) → d < c .setting .path → Kept d w w' → here f ≡ α → FrameAt c w' d (siteIn fr) f → Holds w' (below f) →
+      Marks w' (below f) (siteIn (f ∷ fr) .marks) → Valid (c .declared) (below f) → Path c w' (d + 1) (below f) (f ∷ fr)
   path-onto f room k e q h m v =
       let deep = P .deep in
       with-frames (below f) (f ∷ fr) k (omega arith) (omega arith)

@@ -54,7 +54,9 @@ returns c =
     let at-word = at-alter .before .before in
     let start = at-word .before .before .before in
     let mark = (at-word .word .ensures) in
-    stepped (c .due .ensures) (assign-down (start .pre) (rw mark at (at-alter .alter .ensures)) (at-list-at .list-at .ensures) (rw mark at (c .before .after-given .ensures)))
+    stepped (c .due .ensures)
+    (assign-down (start .pre) (rw mark at (at-alter .alter .ensures)) (at-list-at .list-at .ensures)
+    (rw mark at (c .before .after-given .ensures)))
 
 pub assign-spec : {M : Type 1} → statement M
 assign-spec =

@@ -9,9 +9,8 @@ error-due-requires c κs = search needs
 
 to-leaf-requires : tie.Need-to-leaf-requires
 to-leaf-requires c κs =
-    let start = c .before .before .before .before .before in
-    let x = (start .pre) in
-    rw (c .before .error-due .ensures) (empty-given (x .0) (x .1) (c .before .before .if1 .taken))
+    let (v, j) = c .before .before .before .before .before .pre in
+    rw (c .before .error-due .ensures) (empty-given v j (c .before .before .if1 .taken))
 
 same-length : tie.Need-same-length
 same-length c = search needs
@@ -24,9 +23,8 @@ plain-due-requires c κs = search needs
 
 to-leaf-requires-2 : tie.Need-to-leaf-requires-2
 to-leaf-requires-2 c κs =
-    let start = c .before .before .before .before .before in
-    let x = (start .pre) in
-    rw (c .before .plain-due .ensures) (empty-success (x .0) (x .1) (c .before .before .if1 .left))
+    let (v, j) = c .before .before .before .before .before .pre in
+    rw (c .before .plain-due .ensures) (empty-success v j (c .before .before .if1 .left))
 
 same-length-2 : tie.Need-same-length-2
 same-length-2 c = search needs

@@ -1,7 +1,7 @@
 -- `machine::climb` meets its contract: each step up keeps the invariant and falls.
-use Prim.Native.Nat.{_+_, _*_}
 use mathlib.Core.Path.{_≡_, refl, _∙_}
 use lib.ListN.{length}
+use Rattle.walker.specs.Registers.{level}
 use Rattle.walker.proofs.Moves.{Climbing, climbing-from, climbing-here, climbing-on, climbed}
 use Rattle.walker.proofs.machine.climb.Statement.{statement}
 use Rattle.walker.proofs.machine.climb.Tie as tie
@@ -10,7 +10,7 @@ abbrev Inv-loop : tie.InvT-loop
 Inv-loop w₀ mode r w q = (length w ≡ length w₀) × Climbing w₀ w r q mode
 
 abbrev μ-loop : tie.MeasureT-loop
-μ-loop w₀ mode r w q = 2 * q .depth + q .mode
+μ-loop w₀ mode r w q = level q
 
 loop-holds : tie.Need-loop-holds Inv-loop μ-loop
 loop-holds c = (refl, climbing-from)
@@ -29,7 +29,9 @@ loop-again c =
     let at-if1 = c .before .before .before .before in
     let at-loop = at-if1 .before .before in
     let start = at-loop .before .before in
-    ((c .before .before .ascend .kept) .0 ∙ (at-loop .loop .inv) .0, climbing-on ((at-loop .loop .inv) .1) (start .pre) (at-if1 .if1 .taken) (c .before .before .ascend .ensures))
+    let at-ascend = c .before .before in
+    let v = at-loop .loop .inv in
+    (at-ascend .ascend .kept .0 ∙ v .0, climbing-on (v .1) (start .pre) (at-if1 .if1 .taken) (at-ascend .ascend .ensures))
 
 same-length : tie.Need-same-length Inv-loop μ-loop
 same-length c = (c .before .before .loop .inv) .0

@@ -45,7 +45,9 @@ returns c =
     let at-had-of = at-old-of .before .before in
     let at-slot-of = at-had-of .before .before in
     let start = at-slot-of .before .before .before .before in
-    rw (c .pop .ensures) (restored (start .pre) (at-slot-of .slot-of .ensures) (at-had-of .had-of .ensures) (at-old-of .old-of .ensures) (at-inner-of .inner-of .ensures) (at-set-slot .set-slot .ensures))
+    rw (c .pop .ensures)
+    (restored (start .pre) (at-slot-of .slot-of .ensures) (at-had-of .had-of .ensures) (at-old-of .old-of .ensures)
+    (at-inner-of .inner-of .ensures) (at-set-slot .set-slot .ensures))
 
 pub restore-spec : {M : Type 1} → statement M
 restore-spec =
