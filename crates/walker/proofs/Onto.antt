@@ -129,8 +129,8 @@ module _ {c : World} {o : Bytes} {w : Words} {r : Regs} (i : In c o w r) where
   unfolding within
   down-bound l s a t kept mark x e j =
       onto (bound l s (i .α)) x (i .e)
-      (changed (local l) s a kept (bound l s (i .α)) refl refl (bound-other l (siteIn (i .fr))) (bound-mark l s mark) (λ h. (a .pushed .linked .marked .left ∙ t, h))) (i .inner)
-      (i .bad) j (rw add-one (rw e at (i .result)))
+      (changed (local l) s a kept (bound l s (i .α)) refl refl (bound-other l (siteIn (i .fr))) (bound-mark l s mark)
+      (λ h. (a .pushed .linked .marked .left ∙ t, h))) (i .inner) (i .bad) j (rw add-one (rw e at (i .result)))
 
   -- a place that is given a value
   pub down-given : {w' : Words} {n : Node} (p : Place) (v : ℤ) → Replaces (c .declared) w w' (r .depth) n (i .α) p (full v) → n .todo ≡ undoTodo →

@@ -214,7 +214,8 @@ module _ {w : Words} {r : Regs} (x : Restores w r) where
         kept = altered-kept (len (s .0 .under)) (h .inside) a;
         holds = holds-back a (h .inside) β (s .2) refl (subst (Holds w) under (P .holds));
         marks = altered-marks a (h .inside) (put β p (s .2)) β (siteIn fr .marks) (siteIn (s .0 .under) .marks)
-            (subst (λ γ. Marks w γ (siteIn fr .marks)) under (P .marks)) (λ q n. sym (put-other β p (s .2) q n)) (λ q n. sym (s .5 q n)) (λ none. word ∙ rw e at eo ∙ h .mark none);
+            (subst (λ γ. Marks w γ (siteIn fr .marks)) under (P .marks)) (λ q n. sym (put-other β p (s .2) q n)) (λ q n. sym (s .5 q n))
+            (λ none. word ∙ rw e at eo ∙ h .mark none);
         register = λ _. rw e at en ∙ h .inner;
       })
 

@@ -117,7 +117,9 @@ pub slot-of-saved : (w : Words) (i had old : ℕ) (s : Slot) → Saved had old s
 slot-of-saved w i had old empty q e f = e ∙ q
 slot-of-saved w i had old (full z) q e f = (e ∙ q .0, rw add-one at (f ∙ q .1))
 
-module _ (w : Words) {w' : Words} {i : ℕ} (p : Place) (had old : ℕ) (e : i ≡ slotOf p) (h : InTable p) (z : pathAt ≤ length w) (words : w' ≡ set (set w i had) (i + 1) old)
+module _
+    (w : Words) {w' : Words} {i : ℕ} (p : Place) (had old : ℕ) (e : i ≡ slotOf p) (h : InTable p) (z : pathAt ≤ length w)
+    (words : w' ≡ set (set w i had) (i + 1) old)
   where
     pub second-word : getD w' (slotOf p + 1) 0 ≡ old
     second-word =

@@ -110,7 +110,8 @@ pub record Opens (w : Words) (r : Regs) (low high : ℕ) : Type 0 where
   pub sons :
       (c : World) (o : Bytes) (i : In c o w r) →
       (l : ℕ) × (F : Formula) × (n : ℕ) × (x : ℤ) × (is : List Item)
-      × (tree c (i .fr) (i .x) (i .α) ≡ fan x (suc n) (λ j. treeItems (c .declared) (form F ∷ is) (boundSite l (siteIn (i .fr))) (put (i .α) (local l) (full (x +ℤ pos j)))))
+      × (tree c (i .fr) (i .x) (i .α)
+      ≡ fan x (suc n) (λ j. treeItems (c .declared) (form F ∷ is) (boundSite l (siteIn (i .fr))) (put (i .α) (local l) (full (x +ℤ pos j)))))
       × Binds (c .declared) (c .tables) (r .due .head) l F
       × LeftAfter low high n (x +ℤ pos 1)
       × (signed low ≡ x)
@@ -123,7 +124,8 @@ pub record Rounds (w : Words) (r : Regs) (h value last : ℕ) : Type 0 where
   pub son :
       (c : World) (o : Bytes) (i : In c o w r) →
       (l : ℕ) × (F : Formula) × (n : ℕ) × (v : ℤ) × (is : List Item)
-      × (tree c (i .fr) (i .x) (i .α) ≡ step (treeItems (c .declared) (form F ∷ again l F n (v +ℤ pos 1) ∷ is) (boundSite l (siteIn (i .fr))) (put (i .α) (local l) (full v))))
+      × (tree c (i .fr) (i .x) (i .α)
+      ≡ step (treeItems (c .declared) (form F ∷ again l F n (v +ℤ pos 1) ∷ is) (boundSite l (siteIn (i .fr))) (put (i .α) (local l) (full v))))
       × Binds (c .declared) (c .tables) h l F
       × LeftAfter value last n (v +ℤ pos 1)
       × (signed value ≡ v)
