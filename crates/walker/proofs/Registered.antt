@@ -1,5 +1,5 @@
--- The site of a path: how deep it lies, its marks below a binder, and what its register `inner` says of the tree: in the main tree it is 0, in an
--- inner tree it is not. Assumes nothing.
+-- The site of a path: how deep it lies, its marks below a binder, and what its register `inner` says of the tree: in the main tree it is 0,
+-- in an inner tree it is not. Assumes nothing.
 use Prim.Native.Nat.{ℕ, suc, _<_}
 use native.Mathlib.Omega.{arith}
 use mathlib.Core.Path.{_≡_, refl, ap}
@@ -28,11 +28,12 @@ site-depth (asks tok q is α e ∷ fr) = ap suc (site-depth fr)
 pub bound-other : (l : ℕ) (s : Site) (q : Place) → ¬ (q ≡ local l) → boundSite l s .marks q ≡ s .marks q
 bound-other l s q n = put-other (s .marks) (local l) (suc (s .depth)) q n
 
--- a value given in the main tree is of no account, and in an inner tree the register stays above that of the main tree
+-- the register n of an inner tree, and of the main tree
 abbrev Tells : Bool → ℕ → Type 0
 Tells true n = 0 < n
 Tells false n = n ≡ mainTree
 
+-- a value that is given leaves it so: in the main tree no mark is below the register
 after-tells : (b m : Bool) (n : ℕ) → Tells m n → (n ≡ 0 → b ≡ false) → Tells m (pick b givenTree n)
 after-tells true true n h f = omega arith
 after-tells true false n h f = let z = f h in cc

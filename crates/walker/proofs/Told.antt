@@ -1,6 +1,6 @@
--- What the register `inner` tells in the inner tree of a formula: the number of the tree's root while the places outside the formula are as they
--- were, and `givenTree` once one of them has got a value. It stays so where a local that the formula binds changes and where a bare place gets a
--- value, and at the empty list it is what the specification asks. Assumes nothing.
+-- What the register `inner` tells in the inner tree of a formula: the number of the tree's root while the places outside the formula are as
+-- they were, and `givenTree` once one of them has got a value. It stays so where a local that the formula binds changes and where a bare
+-- place gets a value, and at the empty list it is what the specification asks. Assumes nothing.
 use Prim.Native.Nat.{ℕ, _≤_, _<_}
 use native.Mathlib.Omega.{arith}
 use mathlib.Core.Path.{_≡_, refl, sym, _∙_, subst}

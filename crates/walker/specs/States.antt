@@ -1,5 +1,5 @@
--- Names for the numbers that the registers and the path nodes hold. src has the same numbers for the code: modes.rt, jobs.rt, todos.rt, inner.rt
--- and registers.rt. Assumes nothing.
+-- Names for the numbers that the registers and the path nodes hold. src has the same numbers for the code: modes.rt, jobs.rt, todos.rt,
+-- inner.rt and registers.rt. Assumes nothing.
 use Prim.Native.Nat.{ℕ, _+_}
 use Rattle.specification.specs.declared.End.the-variants.{Done, Spent, Path, Output}
 use Rattle.specification.specs.Report.{endNumber}
@@ -56,8 +56,8 @@ nextTodo = 3
 abbrev pub judgeTodo : ℕ
 judgeTodo = 4
 
--- ---- the register `inner`: in the main tree; in an inner tree that has given a value to a place outside; in one that has not, so much more
--- than the depth of the node that asks
+-- ---- the register `inner`: in the main tree; in an inner tree that has given a value to a place outside; in one that has not, so much
+-- more than the depth of the node that asks
 
 abbrev pub mainTree : ℕ
 mainTree = 0

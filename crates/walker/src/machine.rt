@@ -24,7 +24,8 @@ use specification::Outcome;
 use specification::Tallies;
 use tables::codes;
 
-// A leaf whose visit is counted. In an inner tree a success ends it and an error is noted; in the main tree an answer or an error has a block.
+// A leaf whose visit is counted. In an inner tree a success ends it and an error is noted; in the main tree an answer or an error has a
+// block.
 fn at_leaf(r: Regs) -> Regs
     requires { ⌜ AtLeaf r ⌝ }
     ensures { λ q. ⌜ LeafDone r q ⌝ }

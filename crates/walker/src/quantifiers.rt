@@ -62,7 +62,7 @@ fn bounds(w: &mut [u32], h: u32) -> Sides
     terms::evaluation::sides(w, h + AFTER_LOCAL, e)
 }
 
-// `ex`: its formula, the local without a value, then the rest. The slot keeps where it was bound: one more than this node's depth.
+// `ex`: its formula, the local without a value, then the rest. Its mark (inner.rt) is one more than this node's depth.
 pub(crate) fn enter_ex(w: &mut [u32], r: Regs) -> Regs
     requires { ⌜ Entered (now w) r exCode ⌝ }
     ensures { λ q. ⌜ Stepped (now (w .entry)) (now (w .exit)) r q ⌝ }
