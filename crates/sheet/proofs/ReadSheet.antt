@@ -88,4 +88,9 @@ pub read-ready : (b : Bytes) (s : Sheet) (r : Reader) (n : ℕ) → read b ≡ f
 read-ready b s r n e h =
     let c = read-counts b s r e in
     let ok = read-well-formed b s r e in
-    record { formula = held s n h (c .1) (c .0); values = start-held s n h (c .1) ok; unmarked = start-unmarked s n h (c .1) ok; arrays = arrays-held s n h (c .1) ok }
+    record {
+      formula = held s n h (c .1) (c .0);
+      values = start-held s n h (c .1) ok;
+      unmarked = start-unmarked s n h (c .1) ok;
+      arrays = arrays-held s n h (c .1) ok;
+    }

@@ -22,7 +22,7 @@ use Rattle.specification.proofs.Laws.ReadLines.{line-post}
 use Rattle.specification.proofs.Laws.ReadSheet.{read-well-formed}
 use Rattle.tables.specs.Layout.{pathAt}
 use Rattle.sheet.specs.declared.Reading.the-variants as reading
-use Rattle.sheet.specs.Tables.{Words, tables}
+use Rattle.sheet.specs.Tables.{Words}
 use Rattle.sheet.specs.Held.{Shallow}
 use Rattle.sheet.specs.Whole.{readingOf, wordsOf}
 use Rattle.sheet.proofs.Tables.{tables-length}

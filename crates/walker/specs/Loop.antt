@@ -4,11 +4,9 @@ use mathlib.Core.Path.{_≡_}
 use mathlib.Core.Logic.{_⊎_}
 use mathlib.Core.List.{List, _∷_}
 use lib.ListN.{length}
-use Rattle.specification.specs.declared.End.the-variants.{Path}
 use Rattle.specification.specs.Bytes.{Bytes}
 use Rattle.specification.specs.Place.{Place, put}
 use Rattle.specification.specs.Value.{Slot, Valuation}
-use Rattle.specification.specs.Run.{tallies}
 use Rattle.tables.specs.Node.{todoAt}
 use Rattle.sheet.specs.Tables.{Words}
 use Rattle.walker.specs.declared.Regs.{Regs}
