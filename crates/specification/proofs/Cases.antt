@@ -4,4 +4,5 @@ pub mod Bundles
 pub mod Case
 pub mod Marked
 pub mod Decided
+pub mod Calls
 pub mod WrongBoxes

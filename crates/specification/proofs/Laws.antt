@@ -11,6 +11,8 @@ pub mod Cells
 pub mod Scope
 pub mod Elements
 pub mod Allowed
+pub mod Outside
+pub mod Fill
 pub mod Parser
 pub mod LineReaders
 pub mod FormulaReaders
@@ -21,15 +23,16 @@ pub mod Start
 pub mod ReadWords
 pub mod ReadTerm
 pub mod ReadFormula
+pub mod ReadProcedures
 pub mod ReadSheet
 pub mod Bounds
 pub mod ReadBounds
 pub mod Steady
 -- of the tree and the plain reading
-pub mod Outside
 pub mod Place
 pub mod Range
 pub mod Value
+pub mod Lasting
 pub mod Inner
 pub mod Every
 pub mod Correct
@@ -40,6 +43,7 @@ pub mod Truth
 pub mod SheetTree
 pub mod Decide
 pub mod Clauses
+pub mod Calls
 -- of the run
 pub mod Stops
 pub mod Run

@@ -6,6 +6,7 @@ pub mod Parser
 pub mod Lines
 pub mod Given
 pub mod Ast
+pub mod Fill
 pub mod Words
 pub mod Formula
 pub mod Sheet

@@ -9,6 +9,7 @@ use lib.IntN.{ℤ}
 use Rattle.specification.specs.Bytes.{Bytes, bytes, pick, between, feed, comma, inNumber}
 use Rattle.specification.specs.Number.{natural, integer, in32}
 use Rattle.specification.specs.Parser.{Parser, give, refuse, require, present, _>>=_, _>>_, here, sees, mark, taken, key}
+use Rattle.specification.specs.Ast.{truth, Procedure}
 
 -- ---- numbers
 
@@ -45,12 +46,15 @@ line k lo hi = do
 
 -- ---- arrays
 
--- what a sheet declares: its edition, how many scalars and locals there are, and the length of each array
+-- what is declared where a formula stands: the sheet's edition, how many scalars and locals there are, and the length of each array; the
+-- procedures of the lines before, and how many parameters the line has, 0 for the sheet's formula
 pub record Declared : Type 0 where
   pub edition : ℕ
   pub scalars : ℕ
   pub locals : ℕ
   pub arrays : List ℕ
+  pub procedures : List Procedure
+  pub parameters : ℕ
 
 -- lengths with commas between, where k more arrays may follow and so many cells are left
 unfoldable pub lengths : ℕ → ℕ → Parser (List ℕ)
@@ -105,3 +109,9 @@ module _ (D : Declared) where
   -- the values that a cell may have: all of 32 bits
   unfoldable pub inRange : ℕ → ℤ → Bool
   inRange c z = in32 z
+
+-- ---- procedures
+
+-- the one with this number, where there is one
+abbrev pub procedureOf : Declared → ℕ → Procedure
+procedureOf D K = getD (D .procedures) K (record { parameters = 0; formula = truth })

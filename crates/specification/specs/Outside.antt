@@ -4,7 +4,7 @@ use Prim.Native.Nat.{ℕ, zero, suc}
 use mathlib.Core.Bool.{Bool, true, false, not, _&&_, _||_}
 use lib.Dec.{eqb}
 use Rattle.specification.specs.Lines.{Declared, cells}
-use Rattle.specification.specs.Ast.{Formula, truth, and, or, imp, neg, eq, compare, ex, some, all}
+use Rattle.specification.specs.Ast.{Formula, truth, and, or, imp, neg, eq, compare, ex, some, all, call}
 use Rattle.specification.specs.Place.{Place, cell, local}
 use Rattle.specification.specs.Value.{Slot, empty, full, Valuation}
 
@@ -20,6 +20,7 @@ binds (compare tok r s t) l = false
 binds (ex j F) l = eqb l j || binds F l
 binds (some tok j a b F) l = eqb l j || binds F l
 binds (all tok j a b F) l = eqb l j || binds F l
+binds (call K ts F) l = binds F l
 
 abbrev pub outside : Formula → Place → Bool
 outside F (cell c) = true

@@ -12,7 +12,7 @@ use Rattle.specification.specs.Bytes.{pick}
 use Rattle.specification.specs.Number.{in32}
 use Rattle.specification.specs.Lines.{Declared, cells, firstOf, lengthOf, inRange}
 use Rattle.specification.specs.Given.{Item}
-use Rattle.specification.specs.Ast.{Op, Term, constant, scalarAt, localAt, elementAt, apply, Formula, truth, and, or, imp, neg, eq, compare, ex, some, all}
+use Rattle.specification.specs.Ast.{Op, Term, constant, scalarAt, localAt, parameter, elementAt, apply, Formula, truth, and, or, imp, neg, eq, compare, ex, some, all, call}
 use Rattle.specification.specs.Sheet.{Sheet}
 use Rattle.specification.specs.Place.{Place, cell, local, put}
 use Rattle.specification.specs.Arithmetic.{Computed, value, fault, compute, test}
@@ -38,11 +38,12 @@ module _ (D : Declared) (ρ : Env) where
   elementValue a (just (negsuc i)) = none
   elementValue a none = none
 
-  -- none where kind 2, 3 or 4 would arise
+  -- none where kind 2, 3 or 4 would arise; no parameter is left in a sheet's formula
   unfoldable pub valueOf : Term → Option ℤ
   valueOf (constant z) = just z
   valueOf (scalarAt c) = just (ρ (cell c))
   valueOf (localAt l) = just (ρ (local l))
+  valueOf (parameter n) = none
   valueOf (elementAt a t) = elementValue a (valueOf t)
   valueOf (apply o s t) = applied o (valueOf s) (valueOf t)
 
@@ -73,6 +74,8 @@ module _ (D : Declared) where
       (x : ℤ) × (y : ℤ) × Has D ρ a x × Has D ρ b y × SomeFrom x y (λ v. Truth (put ρ (local l) v) F)
   Truth ρ (all tok l a b F) =
       (x : ℤ) × (y : ℤ) × Has D ρ a x × Has D ρ b y × EachFrom x y (λ v. Truth (put ρ (local l) v) F)
+  -- a call is its procedure's formula, so filled
+  Truth ρ (call K ts F) = Truth ρ F
 
 -- ---- the sheet and a filling
 

@@ -1,11 +1,62 @@
--- The whole sheet: six lines in order, each ended by a line feed, the last line feed being the last byte. Assumes nothing.
-use mathlib.Core.List.{List, []}
-use Rattle.specification.specs.Bytes.{Bytes, bytes, feed}
-use Rattle.specification.specs.Parser.{Reader, Read, Parser, give, _>>=_, _>>_, mark, key, finish}
-use Rattle.specification.specs.Lines.{line, Declared, arraysLine}
+-- The whole sheet: six lines in order, from edition 2 on with lines of procedures before the last, each ended by a line feed, the last line
+-- feed being the last byte. Assumes nothing.
+use Prim.Native.Nat.{ℕ, zero, suc}
+use mathlib.Core.List.{List, [], _∷_, _++_}
+use lib.Dec.{eqb}
+use Rattle.specification.specs.Bytes.{Bytes, bytes, pick, feed, colon}
+use Rattle.specification.specs.Parser.{Reader, Read, Parser, give, _>>=_, _>>_, spells, mark, key, finish}
+use Rattle.specification.specs.Lines.{count, line, Declared, arraysLine}
 use Rattle.specification.specs.Given.{Item, givenLine}
-use Rattle.specification.specs.Ast.{Formula}
+use Rattle.specification.specs.Ast.{Formula, Procedure}
 use Rattle.specification.specs.Formula.{formula}
+
+-- ---- procedures
+
+-- what is declared in a line with so many parameters
+abbrev pub withParameters : ℕ → Declared → Declared
+withParameters n D = record {
+  edition = D .edition;
+  scalars = D .scalars;
+  locals = D .locals;
+  arrays = D .arrays;
+  procedures = D .procedures;
+  parameters = n;
+}
+
+-- and after the lines of these procedures
+abbrev pub withProcedures : List Procedure → Declared → Declared
+withProcedures Ps D = record {
+  edition = D .edition;
+  scalars = D .scalars;
+  locals = D .locals;
+  arrays = D .arrays;
+  procedures = Ps;
+  parameters = D .parameters;
+}
+
+-- `proc=N:F`
+unfoldable pub procedureLine : Declared → Parser Procedure
+procedureLine D = do
+  key (bytes "proc=")
+  n ← count 0 8
+  mark colon
+  F ← formula (withParameters n D) 64 []
+  mark feed
+  give (record { parameters = n; formula = F })
+
+-- up to k such lines: all procedures after them. The formula's line, which follows, begins with another letter
+unfoldable pub procedureLines : ℕ → Declared → Parser (List Procedure)
+procedureLines zero D = give (D .procedures)
+procedureLines (suc k) D = do
+  more ← spells (bytes "p")
+  (let r = procedureLine D >>= λ P. procedureLines k (withProcedures (D .procedures ++ (P ∷ [])) D) in
+      pick more r (give (D .procedures)))
+
+-- how many an edition has at most
+abbrev pub mostProcedures : ℕ → ℕ
+mostProcedures edition = pick (eqb edition 1) 0 16
+
+-- ---- the lines
 
 pub record Sheet : Type 0 where
   pub declared : Declared
@@ -14,12 +65,14 @@ pub record Sheet : Type 0 where
 
 unfoldable pub sheet : Parser Sheet
 sheet = do
-  edition ← line (bytes "edition=") 1 1
+  edition ← line (bytes "edition=") 1 2
   scalars ← line (bytes "scalars=") 0 64
   locals ← line (bytes "locals=") 0 32
   arrays ← arraysLine scalars
-  let D : Declared = record { edition = edition; scalars = scalars; locals = locals; arrays = arrays }
-  given ← givenLine D
+  let E : Declared = record { edition = edition; scalars = scalars; locals = locals; arrays = arrays; procedures = []; parameters = 0 }
+  given ← givenLine E
+  Ps ← procedureLines (mostProcedures edition) E
+  let D : Declared = withProcedures Ps E
   key (bytes "formula=")
   F ← formula D 64 []
   mark feed

@@ -7,7 +7,7 @@ use mathlib.Core.List.{List, [], _∷_}
 use lib.IntN.{ℤ, pos, _+ℤ_}
 use Rattle.specification.specs.Bytes.{pick}
 use Rattle.specification.specs.Lines.{Declared}
-use Rattle.specification.specs.Ast.{Rel, Formula, truth, and, or, imp, neg, eq, compare, ex, some, all}
+use Rattle.specification.specs.Ast.{Rel, Formula, truth, and, or, imp, neg, eq, compare, ex, some, all, call}
 use Rattle.specification.specs.Arithmetic.{noValue, undecidedInside, eqZ, test, count}
 use Rattle.specification.specs.Place.{Place, local, put}
 use Rattle.specification.specs.Value.{empty, full, Valuation, Side, val, bare, err, Pair, values, faulty, pairOf, side}
@@ -145,6 +145,7 @@ module _ (D : Declared) where
       (λ x y β. sons x (count x y) (λ i. grow F k (put β (local l) (full (x +ℤ pos i))))) α
   grow (all tok l a b F) k α =
       bounded tok (pairOf (side D α a) (side D α b)) (λ x y. rounds (λ k′ β. grow F k′ β) l k (count x y) x) α
+  grow (call K ts F) k α = let T = grow F k α in step T
 
   unfoldable pub treeOf : List Formula → Rest
   treeOf [] α = done α

@@ -6,7 +6,7 @@ use lib.Dec.{ltb}
 use lib.IntN.{ℤ, pos, negsuc}
 use Rattle.specification.specs.Number.{in32}
 use Rattle.specification.specs.Lines.{Declared, firstOf, lengthOf, inRange}
-use Rattle.specification.specs.Ast.{Op, Term, constant, scalarAt, localAt, elementAt, apply}
+use Rattle.specification.specs.Ast.{Op, Term, constant, scalarAt, localAt, parameter, elementAt, apply}
 use Rattle.specification.specs.Place.{Place, cell, local}
 use Rattle.specification.specs.Arithmetic.{noValue, outsideArray, Computed, value, fault, compute}
 
@@ -67,9 +67,11 @@ module _ (D : Declared) (α : Valuation) where
   elementSide a (bare p) = err noValue
   elementSide a (err κ) = err κ
 
+  -- no parameter is left in a formula that is walked
   unfoldable pub side : Term → Side
   side (constant z) = val z
   side (scalarAt c) = look (α (cell c)) (cell c)
   side (localAt l) = look (α (local l)) (local l)
+  side (parameter n) = err noValue
   side (elementAt a t) = elementSide a (side t)
   side (apply o s t) = operate o (pairOf (side s) (side t))

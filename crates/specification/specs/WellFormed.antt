@@ -4,15 +4,16 @@ use Prim.Native.Nat.{ℕ, suc, _≤_, _<_}
 use mathlib.Core.Path.{_≡_}
 use mathlib.Core.Bool.{Bool, true, false, not}
 use mathlib.Core.List.{List, [], _∷_}
-use lib.ListN.{length}
+use lib.ListN.{length, take}
 use lib.Dec.{T, eqb}
 use lib.IntN.{ℤ}
 use Rattle.specification.specs.Lists.{Each}
 use Rattle.specification.specs.Bytes.{pick}
 use Rattle.specification.specs.Number.{in32}
-use Rattle.specification.specs.Lines.{Declared, cells, inRange}
+use Rattle.specification.specs.Lines.{Declared, cells, inRange, procedureOf}
 use Rattle.specification.specs.Given.{Item}
-use Rattle.specification.specs.Ast.{Term, constant, scalarAt, localAt, elementAt, apply, Formula, truth, and, or, imp, neg, eq, compare, ex, some, all}
+use Rattle.specification.specs.Ast.{Term, constant, scalarAt, localAt, parameter, elementAt, apply, Formula, truth, and, or, imp, neg, eq, compare, ex, some, all, call}
+use Rattle.specification.specs.Fill.{fill}
 use Rattle.specification.specs.Sheet.{Sheet}
 use Rattle.specification.specs.Place.{Place}
 use Rattle.specification.specs.Value.{full, Valuation, allowed}
@@ -20,12 +21,15 @@ use Rattle.specification.specs.Value.{full, Valuation, allowed}
 -- ---- what is declared: document 01's limits
 
 pub record Limits (D : Declared) : Type 0 where
-  pub edition : D .edition ≡ 1
+  pub edition : (1 ≤ D .edition) × (D .edition ≤ 2)
   pub scalars : D .scalars ≤ 64
   pub locals : D .locals ≤ 32
   pub arrays : length (D .arrays) ≤ 16
   pub positive : Each (λ n. 1 ≤ n) (D .arrays)
   pub cells : cells D ≤ 512
+  pub procedures : length (D .procedures) ≤ 16
+  -- the sheet's formula has no parameters
+  pub parameters : D .parameters ≡ 0
 
 -- ---- given items
 
@@ -54,8 +58,15 @@ module _ (D : Declared) where
   OkTerm S (constant z) = T (in32 z)
   OkTerm S (scalarAt c) = c < D .scalars
   OkTerm S (localAt l) = T (S l)
+  OkTerm S (parameter n) = n < D .parameters
   OkTerm S (elementAt a t) = (a < length (D .arrays)) × OkTerm S t
   OkTerm S (apply o s t) = OkTerm S s × OkTerm S t
+
+  -- the formula of a call is that of a procedure, with the arguments in place of its parameters
+  pub record Called (K : ℕ) (ts : List Term) (F : Formula) : Type 0 where
+    pub earlier : K < length (D .procedures)
+    pub count : length ts ≡ procedureOf D K .parameters
+    pub filled : F ≡ fill ts (procedureOf D K .formula)
 
   -- and each binder's local is declared and not bound around it
   unfoldable pub Ok : Scope → Formula → Type 0
@@ -69,6 +80,22 @@ module _ (D : Declared) where
   Ok S (ex l F) = (l < D .locals) × T (not (S l)) × Ok (enter S l) F
   Ok S (some tok l a b F) = OkTerm S a × OkTerm S b × (l < D .locals) × T (not (S l)) × Ok (enter S l) F
   Ok S (all tok l a b F) = OkTerm S a × OkTerm S b × (l < D .locals) × T (not (S l)) × Ok (enter S l) F
+  Ok S (call K ts F) = Called K ts F × Each (OkTerm S) ts × Ok S F
+
+-- what is declared in the line of procedure K
+abbrev pub lineOf : Declared → ℕ → Declared
+lineOf D K = record {
+  edition = D .edition;
+  scalars = D .scalars;
+  locals = D .locals;
+  arrays = D .arrays;
+  procedures = take K (D .procedures);
+  parameters = procedureOf D K .parameters;
+}
+
+-- each procedure is well scoped in its line
+abbrev pub OkProcedures : Declared → Type 0
+OkProcedures D = (K : ℕ) → K < length (D .procedures) → Ok (lineOf D K) nowhere (procedureOf D K .formula)
 
 -- ---- the sheet
 
@@ -78,6 +105,9 @@ pub record WellFormed (s : Sheet) : Type 0 where
   pub values : Each (λ i. T (inRange (s .declared) (i .cell) (i .value))) (s .given)
   pub declared : Each (λ i. i .cell < cells (s .declared)) (s .given)
   pub rising : Rising 0 (s .given)
+  pub procedures : OkProcedures (s .declared)
+  -- at most eight parameters each
+  pub parameters : Each (λ P. P .parameters ≤ 8) (s .declared .procedures)
   pub formula : Ok (s .declared) nowhere (s .formula)
 
 -- ---- valuations

@@ -3,23 +3,26 @@
 use Prim.Native.Nat.{ℕ}
 use mathlib.Core.List.{List, [], _∷_}
 use mathlib.Core.Option.{Option, none, some as just}
+use lib.Dec.{eqb}
 use lib.IntN.{ℤ}
 use Rattle.specification.specs.Bytes.{Bytes, bytes, pick, inNumber, same, begins}
 use Rattle.specification.specs.Number.{natural, integer, in32}
 use Rattle.specification.specs.Ast.{Op, add, sub, mul, div, modulo, Rel, ne, lt, le, gt, ge}
 
 pub data FormulaWord : Type 0 where
-  trueWord andWord orWord impWord notWord eqWord exWord someWord allWord : FormulaWord
+  trueWord andWord orWord impWord notWord eqWord exWord someWord allWord callWord : FormulaWord
   relWord : Rel → FormulaWord
 
 pub data TermWord : Type 0 where
   constantWord : ℤ → TermWord
-  scalarWord localWord arrayWord : ℕ → TermWord
+  scalarWord localWord arrayWord parameterWord : ℕ → TermWord
   opWord : Op → TermWord
 
 pub data Word : Type 0 where
   formulaWord : FormulaWord → Word
   termWord : TermWord → Word
+  -- the number of a procedure
+  numberWord : ℕ → Word
   unknown : Word
 
 pub record Entry : Type 0 where
@@ -30,9 +33,9 @@ infixr 70 _means_
 abbrev pub _means_ : Bytes → Word → Entry
 _means_ t w = record { text = t; word = w }
 
--- the words of an edition, names and constants aside
-unfoldable pub words : ℕ → List Entry
-words edition =
+-- the words of edition 1, names and constants aside
+unfoldable pub firstWords : List Entry
+firstWords =
     bytes "true" means formulaWord trueWord
     ∷ bytes "and" means formulaWord andWord
     ∷ bytes "or" means formulaWord orWord
@@ -54,22 +57,27 @@ words edition =
     ∷ bytes "mod" means termWord (opWord modulo)
     ∷ []
 
--- vN, lN or aN, where N is in good form
+-- those of an edition
+unfoldable pub words : ℕ → List Entry
+words edition = pick (eqb edition 1) firstWords (bytes "call" means formulaWord callWord ∷ firstWords)
+
+-- vN, lN, aN or, from edition 2 on, pN, where N is in good form
 abbrev pub named : (ℕ → TermWord) → Option ℕ → Word
 named w none = unknown
 named w (just n) = termWord (w n)
 
-unfoldable pub nameOf : Bytes → Word
-nameOf [] = unknown
-nameOf (b ∷ bs) =
+unfoldable pub nameOf : ℕ → Bytes → Word
+nameOf edition [] = unknown
+nameOf edition (b ∷ bs) =
     pick (begins (bytes "v") (b ∷ bs)) (named scalarWord (natural bs))
     (pick (begins (bytes "l") (b ∷ bs)) (named localWord (natural bs))
-    (pick (begins (bytes "a") (b ∷ bs)) (named arrayWord (natural bs)) unknown))
+    (pick (begins (bytes "a") (b ∷ bs)) (named arrayWord (natural bs))
+    (pick (begins (bytes "p") (b ∷ bs)) (pick (eqb edition 1) unknown (named parameterWord (natural bs))) unknown)))
 
 -- the word of the first entry with these bytes, else a name
-unfoldable pub find : Bytes → List Entry → Word
-find t [] = nameOf t
-find t (e ∷ es) = let r = find t es in pick (same t (e .text)) (e .word) r
+unfoldable pub find : ℕ → Bytes → List Entry → Word
+find edition t [] = nameOf edition t
+find edition t (e ∷ es) = let r = find edition t es in pick (same t (e .text)) (e .word) r
 
 abbrev pub constantOf : Option ℤ → Option Word
 constantOf none = none
@@ -79,4 +87,13 @@ constantOf (just z) = pick (in32 z) (just (termWord (constantWord z))) none
 unfoldable pub wordOf : ℕ → Bytes → Option Word
 wordOf edition [] = just unknown
 wordOf edition (b ∷ bs) =
-    pick (inNumber b) (constantOf (integer (b ∷ bs))) (just (find (b ∷ bs) (words edition)))
+    pick (inNumber b) (constantOf (integer (b ∷ bs))) (just (find edition (b ∷ bs) (words edition)))
+
+abbrev pub numeral : Option ℕ → Option Word
+numeral none = none
+numeral (just n) = just (numberWord n)
+
+-- the word of a token where a procedure's number is due, however large it is; none for one with a minus or in bad form
+unfoldable pub numberOf : Bytes → Option Word
+numberOf [] = just unknown
+numberOf (b ∷ bs) = pick (inNumber b) (numeral (natural (b ∷ bs))) (just unknown)

@@ -34,7 +34,7 @@ use Rattle.specification.proofs.Laws.Listed.{demand3-agreement}
 
 -- nothing is given
 abbrev sheetWith : Formula → Sheet
-sheetWith F = record { declared = record { edition = 1; scalars = 1; locals = 0; arrays = [] }; given = []; formula = F }
+sheetWith F = record { declared = record { edition = 1; scalars = 1; locals = 0; arrays = []; procedures = []; parameters = 0 }; given = []; formula = F }
 
 -- its bytes
 abbrev pub sheetText : String → Bytes

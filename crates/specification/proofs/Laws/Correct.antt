@@ -1,8 +1,10 @@
 -- What is proved of the tree of a list that begins with a formula, whatever the rest of the list is: it is sound and complete (the paper,
--- Theorems 1 and 2, for this tree). Here the two statements, and the cases `true`, `and` and `or`. Assumes nothing.
+-- Theorems 1 and 2, for this tree). Here the two statements, and the cases `true`, `and`, `or` and `call`. Assumes nothing.
+use Prim.Native.Nat.{ℕ}
 use mathlib.Core.Logic.{inl, inr}
+use mathlib.Core.List.{List}
 use Rattle.specification.specs.Lines.{Declared}
-use Rattle.specification.specs.Ast.{Formula, truth, and, or}
+use Rattle.specification.specs.Ast.{Term, Formula, truth, and, or, call}
 use Rattle.specification.specs.Value.{Valuation}
 use Rattle.specification.specs.WellFormed.{Scope, Ok, Valid}
 use Rattle.specification.specs.Tree.{Rest, grow}
@@ -60,3 +62,12 @@ module _ (D : Declared) where
   unfolding grow Any Ok Truth
   or-complete F G cF cG S c o k α v ρ a (inl t) Q q go = inl (cF S c (o .0) k α v ρ a t Q q go)
   or-complete F G cF cG S c o k α v ρ a (inr t) Q q go = inr (cG S c (o .1) k α v ρ a t Q q go)
+
+  module _ (K : ℕ) (ts : List Term) (F : Formula) where
+    pub call-sound : Sound D F → Sound D (call K ts F)
+    unfolding grow Every Ok Truth
+    call-sound sF S c o k α v P go = sF S c (o .2) k α v P go
+
+    pub call-complete : Complete D F → Complete D (call K ts F)
+    unfolding grow Any Ok Truth
+    call-complete cF S c o k α v ρ a t Q q go = cF S c (o .2) k α v ρ a t Q q go

@@ -6,16 +6,17 @@ use native.Mathlib.Omega.{arith}
 use native.Mathlib.Nat.{zero-add, add-zero}
 use mathlib.Core.Path.{_≡_, refl, _∙_, ap}
 use mathlib.Core.List.{[], _∷_, _++_}
+use mathlib.Core.Option.{Option}
 use lib.ListN.{length}
-use Rattle.specification.specs.Bytes.{Bytes, feed, inToken}
+use Rattle.specification.specs.Bytes.{Bytes, bytes, feed, inToken}
 use Rattle.specification.specs.Parser.{Reader, Read, refused, found, Parser, give, _>>_, andThen, mark, finish}
-use Rattle.specification.specs.Words.{wordOf}
+use Rattle.specification.specs.Words.{Word}
 use Rattle.specification.specs.Formula.{token}
-use Rattle.specification.specs.Sheet.{Sheet, sheet, opened, read}
+use Rattle.specification.specs.Sheet.{withProcedures, mostProcedures, Sheet, sheet, opened, read}
 use Rattle.specification.proofs.Laws.Contradiction.{contradiction}
 use Rattle.specification.proofs.Laws.Parser.{Post, refusal as refused-post, holds, of-found, bind-post}
 use Rattle.specification.proofs.Laws.LineReaders.{Composed}
-use Rattle.specification.proofs.Laws.FormulaReaders.{Tokened, formula-by}
+use Rattle.specification.proofs.Laws.FormulaReaders.{Tokened, formula-by, procedures-by}
 use Rattle.specification.proofs.Laws.SheetLines.{sheet-by}
 use Rattle.specification.proofs.Laws.Steady.{Left, withRest, end, extended, Alike, Steady, give-steady, present-steady, bind-steady, post-map, sees-steady, spells-steady, numbered-steady, bind-local-steady, mark-always, mark-steady, exactly-steady, taken-steady}
 
@@ -66,24 +67,27 @@ module _ (q : Bytes) (more : Left q) where
     taken = taken-steady;
   }
 
-  token-steady : (edition : ℕ) → Steady q (token edition)
+  token-steady : (word : Bytes → Option Word) → Steady q (token word)
   unfolding token
-  token-steady edition r =
+  token-steady word r =
       bind-steady (numbered-steady r) λ n r₁.
       bind-steady (taken-steady inToken r₁) λ bs r₂.
-      bind-steady (present-steady 4 (r .place) (wordOf edition bs) r₂) λ w. give-steady _
+      bind-steady (present-steady 4 (r .place) (word bs) r₂) λ w. give-steady _
 
   steady-tokened : Tokened (λ p. Unit {0}) (λ A m. Steady q m)
   steady-tokened = record {
     composed = steady-composed;
-    token = λ edition B f k r. bind-steady (token-steady edition r) λ t. k t tt;
+    token = λ word B f k r. bind-steady (token-steady word r) λ t. k t tt;
     bind = λ p l h. bind-local-steady p l;
   }
 
   sheet-over : (r : Reader) → Post (Over q r (sheet (extended q r))) (sheet r)
   sheet-over =
       sheet-by steady-composed (λ m. (r : Reader) → Post (Over q r (m (extended q r))) (m r)) (λ A m f h k r. bind-over (h r) k)
-      (λ D is r. bind-over (formula-by steady-tokened D 64 [] r) λ F r₁. end-over _ r₁)
+      (λ E is r.
+      bind-over (procedures-by steady-tokened (mostProcedures (E .edition)) E r) λ Ps r₁.
+      bind-over (exactly-steady 3 (bytes "formula=") r₁) λ u r₂.
+      bind-over (formula-by steady-tokened (withProcedures Ps E) 64 [] r₂) λ F r₃. end-over _ r₃)
 
 -- ---- the laws
 

@@ -10,7 +10,7 @@ use lib.Dec.{T}
 use lib.IntN.{ℤ, pos, _+ℤ_}
 use Rattle.specification.specs.Number.{least, greatest}
 use Rattle.specification.specs.Lines.{Declared}
-use Rattle.specification.specs.Ast.{Term, Formula, truth, and, or, imp, neg, eq, compare, ex, some, all}
+use Rattle.specification.specs.Ast.{Term, Formula, truth, and, or, imp, neg, eq, compare, ex, some, all, call}
 use Rattle.specification.specs.Arithmetic.{eqZ, test, count}
 use Rattle.specification.specs.Place.{local, put}
 use Rattle.specification.specs.Plain.{Env, valueOf, Has, SomeFrom, EachFrom, Truth}
@@ -110,3 +110,4 @@ module _ (D : Declared) where
   decide (all tok l a b F) ρ =
       values-dec D ρ a b (λ x y. EachFrom x y (λ v. Truth D (put ρ (local l) v) F))
       (each-from (λ v. Truth D (put ρ (local l) v) F) (λ v. decide F (put ρ (local l) v)))
+  decide (call K ts F) ρ = decide F ρ

@@ -11,7 +11,7 @@ use lib.IntN.{ℤ}
 use mir.Facts.{or-yes, eqb-yes}
 use Rattle.specification.specs.Bytes.{pick}
 use Rattle.specification.specs.Lines.{Declared, cells}
-use Rattle.specification.specs.Ast.{Term, Formula, truth, and, or, imp, neg, eq, compare, ex, some, all}
+use Rattle.specification.specs.Ast.{Term, Formula, truth, and, or, imp, neg, eq, compare, ex, some, all, call}
 use Rattle.specification.specs.Place.{Place, cell, local}
 use Rattle.specification.specs.Value.{Slot, empty, full, Valuation}
 use Rattle.specification.specs.WellFormed.{Scope, nowhere, enter, Ok}
@@ -138,7 +138,7 @@ under S F j l n h b =
 
 module _ (D : Declared) where
   -- a local bound around F is not bound in it
-  binds-fresh : (S : Scope) (F : Formula) (l : ℕ) → Ok D S F → T (binds F l) → T (not (S l))
+  pub binds-fresh : (S : Scope) (F : Formula) (l : ℕ) → Ok D S F → T (binds F l) → T (not (S l))
   unfolding binds Ok
   binds-fresh S truth l o b = absurd b
   binds-fresh S (and F G) l o b = ⊎-elim (binds-fresh S F l (o .0)) (binds-fresh S G l (o .1)) (or-yes (binds F l) (binds G l) b)
@@ -150,6 +150,7 @@ module _ (D : Declared) where
   binds-fresh S (ex j F) l o b = under S F j l (o .1) (binds-fresh (enter S j) F l (o .2)) b
   binds-fresh S (some tok j s t F) l o b = under S F j l (o .3) (binds-fresh (enter S j) F l (o .4)) b
   binds-fresh S (all tok j s t F) l o b = under S F j l (o .3) (binds-fresh (enter S j) F l (o .4)) b
+  binds-fresh S (call K ts F) l o b = binds-fresh S F l (o .2) b
 
   -- the locals in scope are declared
   abbrev pub Covers : Scope → Type 0

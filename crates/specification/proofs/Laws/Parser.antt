@@ -4,9 +4,13 @@ use mathlib.Core.Path.{_≡_, refl, subst}
 use mathlib.Core.Bool.{Bool, true, false, not, _&&_}
 use mathlib.Core.Option.{Option, none, some}
 use lib.Dec.{T}
-use Rattle.specification.specs.Bytes.{pick}
+use Rattle.specification.specs.Bytes.{pick, between}
 use Rattle.specification.specs.Parser.{Reader, Read, refused, found, Parser, require, present, andThen}
 use Rattle.specification.proofs.Laws.Contradiction.{contradiction}
+
+-- the numbers of the refusals of reading
+abbrev pub refuses : ℕ → Bool
+refuses n = between 3 12 n
 
 -- ---- tests
 

@@ -1,19 +1,20 @@
--- A sheet is refused at one of its bytes or at its end, with a number from 3 to 10. Assumes nothing.
+-- A sheet is refused at one of its bytes or at its end, with a number from 3 to 12. Assumes nothing.
 use Prim.Native.Nat.{ℕ, _≤_}
 use native.Mathlib.Omega.{arith}
 use mathlib.Core.Path.{_≡_, refl}
 use mathlib.Core.List.{[]}
+use mathlib.Core.Option.{Option}
 use lib.ListN.{length}
 use lib.Dec.{leb, ltb}
 use borrow.Author.Tests.{leb-true}
-use Rattle.specification.specs.Bytes.{Bytes, feed, inToken}
+use Rattle.specification.specs.Bytes.{Bytes, bytes, feed, inToken}
 use Rattle.specification.specs.Parser.{Reader, refused}
-use Rattle.specification.specs.Words.{wordOf}
+use Rattle.specification.specs.Words.{Word}
 use Rattle.specification.specs.Formula.{Token, numbered, token, has}
-use Rattle.specification.specs.Sheet.{Sheet, sheet, opened, read}
+use Rattle.specification.specs.Sheet.{withProcedures, mostProcedures, Sheet, sheet, opened, read}
 use Rattle.specification.proofs.Laws.Parser.{and-true, Reading, refusal, holds, of-refused, bind-post, present-post, pick-post}
 use Rattle.specification.proofs.Laws.LineReaders.{Composed}
-use Rattle.specification.proofs.Laws.FormulaReaders.{Tokened, formula-by}
+use Rattle.specification.proofs.Laws.FormulaReaders.{Tokened, formula-by, procedures-by}
 use Rattle.specification.proofs.Laws.SheetLines.{sheet-by}
 use Rattle.specification.proofs.Laws.Bounds.{Inside, Refusal, SafeParser, refused-here, mark-safe, exactly-safe, taken-safe, finish-safe}
 
@@ -27,13 +28,13 @@ module _ (N : ℕ) where
   numbered-safe : SafeParser N numbered
   numbered-safe r i = pick-post (ltb (r .tokens) 1024) _ _ (λ e. holds i) (λ e. refusal (refused-here N r i 9 refl))
 
-  token-safe : (edition : ℕ) (r : Reader) → Inside N r → Reading (Refusal N) TokenIn (token edition r)
+  token-safe : (word : Bytes → Option Word) (r : Reader) → Inside N r → Reading (Refusal N) TokenIn (token word r)
   unfolding token
-  token-safe edition r i =
+  token-safe word r i =
       let here = refused-here N r i 4 refl in
       bind-post (numbered-safe r i) λ n r₁ i₁.
       bind-post (taken-safe N r₁ i₁ inToken) λ bs r₂ i₂.
-      bind-post (present-post 4 (r .place) (wordOf edition bs) r₂ here (λ w e. i₂)) λ w r₃ i₃.
+      bind-post (present-post 4 (r .place) (word bs) r₂ here (λ w e. i₂)) λ w r₃ i₃.
       holds (here .1, i₃)
 
   -- ---- the sheet
@@ -54,27 +55,29 @@ module _ (N : ℕ) where
   safe-tokened : Tokened (λ p. p ≤ N) (λ A m. SafeParser N m)
   safe-tokened = record {
     composed = safe-composed;
-    token = λ edition B f k r i. bind-post (token-safe edition r i) λ t r₁ h. k t (h .0) r₁ (h .1);
+    token = λ word B f k r i. bind-post (token-safe word r i) λ t r₁ h. k t (h .0) r₁ (h .1);
     bind = λ p l h r i. pick-post (has l (r .bound)) _ _ (λ e. refusal (refl, h)) (λ e. holds i);
   }
 
   sheet-safe : SafeParser N sheet
   sheet-safe =
       sheet-by safe-composed (SafeParser N) (λ A m f. safe-composed .bind A Sheet m f)
-      (λ D is r i.
-      bind-post (formula-by safe-tokened D 64 [] r i) λ F r₁ i₁.
-      bind-post (mark-safe N r₁ i₁ feed) λ u r₂ i₂.
-      bind-post (finish-safe N r₂ i₂) λ u r₃ i₃. holds i₃)
+      (λ E is r i.
+      bind-post (procedures-by safe-tokened (mostProcedures (E .edition)) E r i) λ Ps r₁ i₁.
+      bind-post (exactly-safe N r₁ i₁ 3 (bytes "formula=") refl) λ u r₂ i₂.
+      bind-post (formula-by safe-tokened (withProcedures Ps E) 64 [] r₂ i₂) λ F r₃ i₃.
+      bind-post (mark-safe N r₃ i₃ feed) λ u r₄ i₄.
+      bind-post (finish-safe N r₄ i₄) λ u r₅ i₅. holds i₅)
 
 -- the numbers 1 and 2 are the call's, not the reader's
 pub record RefusedWell (b : Bytes) (n p : ℕ) : Type 0 where
   pub least : 3 ≤ n
-  pub greatest : n ≤ 10
+  pub greatest : n ≤ 12
   pub place : p ≤ length b
 
 pub read-refused : (b : Bytes) (n p : ℕ) → read b ≡ refused n p → RefusedWell b n p
 unfolding read
 read-refused b n p e =
     let h = of-refused (sheet-safe (length b) (opened b) (omega arith)) e in
-    let t = and-true (leb 3 n) (leb n 10) (h .0) in
-    record { least = leb-true 3 n (t .0); greatest = leb-true n 10 (t .1); place = h .1 }
+    let t = and-true (leb 3 n) (leb n 12) (h .0) in
+    record { least = leb-true 3 n (t .0); greatest = leb-true n 12 (t .1); place = h .1 }

@@ -1,5 +1,6 @@
 -- What the first four lines declare is within document 01's limits. Assumes nothing.
 use Prim.Native.Nat.{ℕ, zero, suc, _-_, _≤_}
+use mathlib.Core.Path.{_≡_}
 use native.Mathlib.Omega.{arith}
 use mathlib.Core.List.{List, [], _∷_}
 use lib.ListN.{length}
@@ -7,7 +8,7 @@ use lib.Dec.{leb}
 use borrow.Author.Tests.{leb-true}
 use Rattle.specification.specs.Bytes.{Bytes, bytes, feed, comma}
 use Rattle.specification.specs.Parser.{Reader, give, _>>_, next, mark, key}
-use Rattle.specification.specs.Lines.{index, count, line, lengths, arraysLine, sum, cells}
+use Rattle.specification.specs.Lines.{index, count, line, Declared, lengths, arraysLine, sum, cells}
 use Rattle.specification.specs.Lists.{Each}
 use Rattle.specification.specs.WellFormed.{Limits}
 use Rattle.specification.proofs.Laws.Parser.{and-true, Post, refusal, holds, bind-post, after, require-post, choose-post}
@@ -68,16 +69,18 @@ arrays-post scalars r =
 
 -- ---- the limits
 
--- from what is known of the four lines
-module _ (edition scalars locals : ℕ) (arrays : List ℕ) where
-  pub limits : (1 ≤ edition) × (edition ≤ 1) → scalars ≤ 64 → locals ≤ 32 → Lengths 16 (512 - scalars) arrays →
-      Limits (record { edition = edition; scalars = scalars; locals = locals; arrays = arrays })
+-- from what is known of these lines, and of the procedures
+module _ (D : Declared) where
+  pub limits : (1 ≤ D .edition) × (D .edition ≤ 2) → D .scalars ≤ 64 → D .locals ≤ 32 → Lengths 16 (512 - D .scalars) (D .arrays) →
+      length (D .procedures) ≤ 16 → D .parameters ≡ 0 → Limits D
   unfolding cells
-  limits e v l a = record {
-    edition = omega arith;
+  limits e v l a p n = record {
+    edition = e;
     scalars = v;
     locals = l;
     arrays = a .few;
     positive = a .positive;
-    cells = omega arith;
+    cells = omega (arith, a .fit, v);
+    procedures = p;
+    parameters = n;
   }

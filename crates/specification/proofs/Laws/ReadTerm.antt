@@ -4,14 +4,15 @@ use Prim.Native.Nat.{ℕ, zero, suc}
 use mathlib.Core.Path.{_≡_, refl, sym, _∙_, fun-ext}
 use mathlib.Core.Bool.{Bool, true, false, _||_}
 use mathlib.Core.List.{_∷_}
+use mathlib.Core.Option.{Option, some as just}
 use lib.ListN.{length}
 use lib.Dec.{ltb, eqb}
 use borrow.Author.Tests.{ltb-true}
-use Rattle.specification.specs.Bytes.{Class, pick, space, inToken}
+use Rattle.specification.specs.Bytes.{Bytes, Class, pick, space, inToken}
 use Rattle.specification.specs.Parser.{Reader, Parser, give, _>>=_, next, mark, taken}
 use Rattle.specification.specs.Lines.{Declared}
 use Rattle.specification.specs.Ast.{Term, apply}
-use Rattle.specification.specs.Words.{TermWord, constantWord, scalarWord, localWord, arrayWord, opWord, Word, formulaWord, termWord, unknown, wordOf}
+use Rattle.specification.specs.Words.{TermWord, constantWord, scalarWord, localWord, arrayWord, parameterWord, opWord, Word, formulaWord, termWord, numberWord, unknown, wordOf}
 use Rattle.specification.specs.Formula.{Token, token, numbered, operand, Locals, has, termOf, termWith, term}
 use Rattle.specification.specs.WellFormed.{Scope, enter, OkTerm}
 use Rattle.specification.proofs.Laws.Parser.{true-T, Post, refusal, holds, bind-post, require-post, present-post, pick-post}
@@ -77,12 +78,13 @@ module _ (S : Locals) where
   unfolding taken
   taken-post r s = holds s
 
-  pub token-post : (edition : ℕ) (r : Reader) → Sub S (r .bound) → Post (Scoped (λ t. WordOk (t .word))) (token edition r)
+  pub token-post : (word : Bytes → Option Word) → ((bs : Bytes) (w : Word) → word bs ≡ just w → WordOk w) → (r : Reader) →
+      Sub S (r .bound) → Post (Scoped (λ t. WordOk (t .word))) (token word r)
   unfolding token
-  token-post edition r s =
+  token-post word ok r s =
       bind-post (numbered-post r s) λ n r₁ s₁.
       bind-post (taken-post r₁ s₁) λ bs r₂ s₂.
-      bind-post (present-post 4 (r .place) (wordOf edition bs) r₂ tt (λ w e. (word-ok edition bs w e, s₂))) λ w r₃ h.
+      bind-post (present-post 4 (r .place) (word bs) r₂ tt (λ w e. (ok bs w e, s₂))) λ w r₃ h.
       holds h
 
   module _ {A : Type 0} {P : A → Reader → Type 0} (p : Parser A) (h : (r : Reader) → Sub S (r .bound) → Post P (p r)) where
@@ -115,6 +117,7 @@ module _ (D : Declared) (S R : Locals) where
         require-post (ltb l (D .locals)) _ _ _ _ tt λ d.
         require-post (has l S) _ _ _ _ tt λ e.
         holds (true-T (has l S) e, s)
+    term-of q (parameterWord n) r k s = require-post (ltb n (D .parameters)) _ _ _ _ tt λ e. holds (ltb-true n (D .parameters) e, s)
     term-of q (arrayWord a) r k s =
         require-post (ltb a (length (D .arrays))) _ _ _ _ tt λ e.
         bind-post (operand-post R p h r s) λ i r₁ h₁.
@@ -125,11 +128,12 @@ module _ (D : Declared) (S R : Locals) where
         Post (Scoped R TermIn) (termWith D p S t w r)
     term-with t (termWord w) r k s = term-of (t .place) w r k s
     term-with t (formulaWord w) r k s = refusal tt
+    term-with t (numberWord n) r k s = refusal tt
     term-with t unknown r k s = refusal tt
 
   pub term-post : (k : ℕ) (r : Reader) → Sub R (r .bound) → Post (Scoped R TermIn) (term D k S r)
   unfolding term
   term-post zero r s = refusal tt
   term-post (suc k) r s =
-      bind-post (token-post R (D .edition) r s) λ t r₁ h.
+      bind-post (token-post R (wordOf (D .edition)) (word-ok (D .edition)) r s) λ t r₁ h.
       term-with (λ r. term D k S r) (λ r₂ s₂. term-post k r₂ s₂) t (t .word) r₁ (h .0) (h .1)

@@ -4,11 +4,11 @@ use mathlib.Core.Path.{_≡_, refl, subst}
 use mathlib.Core.Bool.{Bool, true, false}
 use mathlib.Core.List.{List, [], _∷_}
 use mathlib.Core.Option.{Option, none, some as just}
-use lib.Dec.{T}
+use lib.Dec.{T, eqb}
 use lib.IntN.{ℤ}
 use Rattle.specification.specs.Bytes.{Bytes, bytes, pick, inNumber, same, begins}
 use Rattle.specification.specs.Number.{natural, integer, in32}
-use Rattle.specification.specs.Words.{TermWord, constantWord, scalarWord, localWord, arrayWord, opWord, Word, formulaWord, termWord, unknown, Entry, words, named, nameOf, find, constantOf, wordOf}
+use Rattle.specification.specs.Words.{callWord, TermWord, constantWord, scalarWord, localWord, arrayWord, parameterWord, opWord, Word, formulaWord, termWord, numberWord, unknown, Entry, _means_, firstWords, words, named, nameOf, find, constantOf, wordOf, numeral, numberOf}
 use Rattle.specification.specs.Lists.{Each}
 use Rattle.specification.proofs.Laws.Contradiction.{contradiction}
 use Rattle.specification.proofs.Laws.Parser.{true-T}
@@ -16,11 +16,13 @@ use Rattle.specification.proofs.Laws.Parser.{true-T}
 -- a constant lies in 32 bits; of another word nothing is asked
 abbrev pub InBits : Word → Type 0
 InBits (formulaWord w) = Unit {0}
+InBits (numberWord n) = Unit {0}
 InBits unknown = Unit {0}
 InBits (termWord (constantWord z)) = T (in32 z)
 InBits (termWord (scalarWord n)) = Unit {0}
 InBits (termWord (localWord n)) = Unit {0}
 InBits (termWord (arrayWord n)) = Unit {0}
+InBits (termWord (parameterWord n)) = Unit {0}
 InBits (termWord (opWord o)) = Unit {0}
 
 pub record WordOk (w : Word) : Type 0 where
@@ -37,25 +39,36 @@ named-ok : (w : ℕ → TermWord) (o : Option ℕ) → ((n : ℕ) → InBits (te
 named-ok w none h = record { inBits = tt }
 named-ok w (just n) h = record { inBits = h n }
 
-name-ok : (t : Bytes) → WordOk (nameOf t)
+name-ok : (edition : ℕ) (t : Bytes) → WordOk (nameOf edition t)
 unfolding nameOf
-name-ok [] = record { inBits = tt }
-name-ok (b ∷ bs) =
+name-ok edition [] = record { inBits = tt }
+name-ok edition (b ∷ bs) =
     either (begins (bytes "v") (b ∷ bs)) (named-ok scalarWord (natural bs) λ n. tt)
     (either (begins (bytes "l") (b ∷ bs)) (named-ok localWord (natural bs) λ n. tt)
-    (either {x = unknown} (begins (bytes "a") (b ∷ bs)) (named-ok arrayWord (natural bs) λ n. tt) (record { inBits = tt })))
+    (either (begins (bytes "a") (b ∷ bs)) (named-ok arrayWord (natural bs) λ n. tt)
+    (either {x = unknown} (begins (bytes "p") (b ∷ bs))
+    (either {w = unknown} (eqb edition 1) (record { inBits = tt }) (named-ok parameterWord (natural bs) λ n. tt))
+    (record { inBits = tt }))))
 
 abbrev Entries : List Entry → Type 0
 Entries = Each (λ e. InBits (e .word))
 
-find-ok : (t : Bytes) (es : List Entry) → Entries es → WordOk (find t es)
+find-ok : (edition : ℕ) (t : Bytes) (es : List Entry) → Entries es → WordOk (find edition t es)
 unfolding find Each
-find-ok t [] h = name-ok t
-find-ok t (e ∷ es) h = either (same t (e .text)) (record { inBits = h .0 }) (find-ok t es (h .1))
+find-ok edition t [] h = name-ok edition t
+find-ok edition t (e ∷ es) h = either (same t (e .text)) (record { inBits = h .0 }) (find-ok edition t es (h .1))
+
+first-ok : Entries firstWords
+unfolding firstWords Each
+first-ok = (tt, (tt, (tt, (tt, (tt, (tt, (tt, (tt, (tt, (tt, (tt, (tt, (tt, (tt, (tt, (tt, (tt, (tt, (tt, tt)))))))))))))))))))
 
 words-ok : (edition : ℕ) → Entries (words edition)
 unfolding words Each
-words-ok edition = (tt, (tt, (tt, (tt, (tt, (tt, (tt, (tt, (tt, (tt, (tt, (tt, (tt, (tt, (tt, (tt, (tt, (tt, (tt, tt)))))))))))))))))))
+words-ok edition = go (eqb edition 1)
+  where
+    go : (b : Bool) → Entries (pick b firstWords (bytes "call" means formulaWord callWord ∷ firstWords))
+    go true = first-ok
+    go false = (tt, first-ok)
 
 -- ---- constants and tokens
 
@@ -72,6 +85,17 @@ unfolding wordOf
 word-ok edition [] w e = let s : unknown ≡ w = cc in subst WordOk s (record { inBits = tt })
 word-ok edition (b ∷ bs) w e = go (inNumber b) e
   where
-    go : (d : Bool) → pick d (constantOf (integer (b ∷ bs))) (just (find (b ∷ bs) (words edition))) ≡ just w → WordOk w
+    go : (d : Bool) → pick d (constantOf (integer (b ∷ bs))) (just (find edition (b ∷ bs) (words edition))) ≡ just w → WordOk w
     go true q = constant-ok (integer (b ∷ bs)) w q
-    go false q = let s : find (b ∷ bs) (words edition) ≡ w = cc in subst WordOk s (find-ok (b ∷ bs) (words edition) (words-ok edition))
+    go false q = let s : find edition (b ∷ bs) (words edition) ≡ w = cc in subst WordOk s (find-ok edition (b ∷ bs) (words edition) (words-ok edition))
+
+-- the word of a procedure's number is no constant
+pub number-ok : (t : Bytes) (w : Word) → numberOf t ≡ just w → WordOk w
+unfolding numberOf
+number-ok [] w e = let s : unknown ≡ w = cc in subst WordOk s (record { inBits = tt })
+number-ok (b ∷ bs) w e = go (inNumber b) (natural (b ∷ bs)) e
+  where
+    go : (d : Bool) (o : Option ℕ) → pick d (numeral o) (just unknown) ≡ just w → WordOk w
+    go true none q = contradiction cc
+    go true (just n) q = let s : numberWord n ≡ w = cc in subst WordOk s (record { inBits = tt })
+    go false o q = let s : unknown ≡ w = cc in subst WordOk s (record { inBits = tt })

@@ -9,7 +9,7 @@ use Rattle.specification.specs.Parser.{Reader, Read, refused, found, Par
 use Rattle.specification.specs.Lines.{line, Declared, arraysLine}
 use Rattle.specification.specs.Given.{Item, givenLine}
 use Rattle.specification.specs.Formula.{formula}
-use Rattle.specification.specs.Sheet.{Sheet, sheet}
+use Rattle.specification.specs.Sheet.{withProcedures, procedureLines, mostProcedures, Sheet, sheet}
 use Rattle.specification.proofs.Laws.Parser.{Post, refusal, holds, of-found}
 use Rattle.specification.proofs.Laws.LineReaders.{Composed, line-by, arrays-by, given-by}
 
@@ -20,14 +20,27 @@ pub record Gives {A : Type 0} (m : Parser A) (r : Reader) (a : A) : Type 0 where
   pub after : Reader
   pub is : m r ≡ found a after
 
+-- what is declared before the procedures
+abbrev pub firstDeclared : Declared → Declared
+firstDeclared D = record {
+  edition = D .edition;
+  scalars = D .scalars;
+  locals = D .locals;
+  arrays = D .arrays;
+  procedures = [];
+  parameters = 0;
+}
+
 -- each line gives its part of the sheet, from where the line before it ended
 pub record Lines (r : Reader) (s : Sheet) : Type 0 where
-  pub edition : Gives (line (bytes "edition=") 1 1) r (s .declared .edition)
+  pub edition : Gives (line (bytes "edition=") 1 2) r (s .declared .edition)
   pub scalars : Gives (line (bytes "scalars=") 0 64) (edition .after) (s .declared .scalars)
   pub locals : Gives (line (bytes "locals=") 0 32) (scalars .after) (s .declared .locals)
   pub arrays : Gives (arraysLine (s .declared .scalars)) (locals .after) (s .declared .arrays)
-  pub given : Gives (givenLine (s .declared)) (arrays .after) (s .given)
-  pub start : Gives (key (bytes "formula=")) (given .after) tt
+  pub given : Gives (givenLine (firstDeclared (s .declared))) (arrays .after) (s .given)
+  pub procedures : Gives (procedureLines (mostProcedures (s .declared .edition)) (firstDeclared (s .declared))) (given .after) (s .declared .procedures)
+  pub parameters : s .declared .parameters ≡ 0
+  pub start : Gives (key (bytes "formula=")) (procedures .after) tt
   pub formula : Gives (formula (s .declared) 64 []) (start .after) (s .formula)
   pub feed : Gives (mark feed) (formula .after) tt
   pub end : Gives finish (feed .after) tt
@@ -40,26 +53,30 @@ module _ {A B : Type 0} {Q : B → Reader → Type 0} {f : A → Parser B} where
 sheet-known : (r : Reader) → Post (λ s r′. Lines r s) (sheet r)
 unfolding sheet
 sheet-known r =
-    known (line (bytes "edition=") 1 1 r) λ edition r₁ e.
+    known (line (bytes "edition=") 1 2 r) λ edition r₁ e.
     known (line (bytes "scalars=") 0 64 r₁) λ scalars r₂ v.
     known (line (bytes "locals=") 0 32 r₂) λ locals r₃ l.
     known (arraysLine scalars r₃) λ arrays r₄ a.
-    let D : Declared = record { edition = edition; scalars = scalars; locals = locals; arrays = arrays } in
-    known (givenLine D r₄) λ is r₅ g.
-    known (key (bytes "formula=") r₅) λ u r₆ k.
-    known (formula D 64 [] r₆) λ F r₇ f.
-    known (mark feed r₇) λ u r₈ m.
-    known (finish r₈) λ u r₉ n.
+    let E : Declared = record { edition = edition; scalars = scalars; locals = locals; arrays = arrays; procedures = []; parameters = 0 } in
+    known (givenLine E r₄) λ is r₅ g.
+    known (procedureLines (mostProcedures edition) E r₅) λ Ps r₆ p.
+    let D : Declared = withProcedures Ps E in
+    known (key (bytes "formula=") r₆) λ u r₇ k.
+    known (formula D 64 [] r₇) λ F r₈ f.
+    known (mark feed r₈) λ u r₉ m.
+    known (finish r₉) λ u r₁₀ n.
     holds (record {
       edition = record { after = r₁; is = e };
       scalars = record { after = r₂; is = v };
       locals = record { after = r₃; is = l };
       arrays = record { after = r₄; is = a };
       given = record { after = r₅; is = g };
-      start = record { after = r₆; is = k };
-      formula = record { after = r₇; is = f };
-      feed = record { after = r₈; is = m };
-      end = record { after = r₉; is = n };
+      procedures = record { after = r₆; is = p };
+      parameters = refl;
+      start = record { after = r₇; is = k };
+      formula = record { after = r₈; is = f };
+      feed = record { after = r₉; is = m };
+      end = record { after = r₁₀; is = n };
     })
 
 pub sheet-lines : {r : Reader} {s : Sheet} {r′ : Reader} → sheet r ≡ found s r′ → Lines r s
@@ -72,16 +89,20 @@ abbrev pub fromFormula : Declared → List Item → Parser Sheet
 fromFormula D is =
     formula D 64 [] >>= λ F. mark feed >> (finish >> give (record { declared = D; given = is; formula = F }))
 
--- W of the whole sheet: it goes back over each line that has Q, and holds from the formula on
+-- from the procedures on, where E is declared before them
+abbrev pub fromProcedures : Declared → List Item → Parser Sheet
+fromProcedures E is =
+    procedureLines (mostProcedures (E .edition)) E >>= λ Ps. key (bytes "formula=") >> fromFormula (withProcedures Ps E) is
+
+-- W of the whole sheet: it goes back over each line that has Q, and holds from the procedures on
 module _ {P : ℕ → Type 0} {Q : (A : Type 0) → Parser A → Type 0} (c : Composed P Q) (W : Parser Sheet → Type 0)
     (back : (A : Type 0) (m : Parser A) (f : A → Parser Sheet) → Q A m → ((a : A) → W (f a)) → W (m >>= f)) where
-  pub sheet-by : ((D : Declared) (is : List Item) → W (fromFormula D is)) → W sheet
+  pub sheet-by : ((E : Declared) (is : List Item) → W (fromProcedures E is)) → W sheet
   unfolding sheet
   sheet-by rest =
-      back _ _ _ (line-by c (bytes "edition=") 1 1) λ edition.
+      back _ _ _ (line-by c (bytes "edition=") 1 2) λ edition.
       back _ _ _ (line-by c (bytes "scalars=") 0 64) λ scalars.
       back _ _ _ (line-by c (bytes "locals=") 0 32) λ locals.
       back _ _ _ (arrays-by c scalars) λ arrays.
-      let D : Declared = record { edition = edition; scalars = scalars; locals = locals; arrays = arrays } in
-      back _ _ _ (given-by c D) λ given.
-      back _ _ _ (c .exactly 3 (bytes "formula=") refl) λ u. rest D given
+      let E : Declared = record { edition = edition; scalars = scalars; locals = locals; arrays = arrays; procedures = []; parameters = 0 } in
+      back _ _ _ (given-by c E) λ given. rest E given

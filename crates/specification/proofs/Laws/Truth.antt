@@ -1,12 +1,12 @@
 -- The tree is sound and complete for truth: the induction over all formulas; and what an inner tree tells of any formula. Assumes nothing.
 use mathlib.Core.Path.{_≡_}
 use Rattle.specification.specs.Lines.{Declared}
-use Rattle.specification.specs.Ast.{Formula, truth, and, or, imp, neg, eq, compare, ex, some, all}
+use Rattle.specification.specs.Ast.{Formula, truth, and, or, imp, neg, eq, compare, ex, some, all, call}
 use Rattle.specification.specs.Value.{Valuation}
 use Rattle.specification.specs.WellFormed.{Scope, Ok, Valid}
 use Rattle.specification.specs.Tree.{succeeds, fails, verdict}
 use Rattle.specification.proofs.Laws.Outside.{Covers}
-use Rattle.specification.proofs.Laws.Correct.{Proves, Sound, Complete, truth-sound, truth-complete, and-sound, and-complete, or-sound, or-complete}
+use Rattle.specification.proofs.Laws.Correct.{Proves, Sound, Complete, truth-sound, truth-complete, and-sound, and-complete, or-sound, or-complete, call-sound, call-complete}
 use Rattle.specification.proofs.Laws.Atoms.{eq-sound, eq-complete, compare-sound, compare-complete}
 use Rattle.specification.proofs.Laws.Quantifiers.{ex-sound, ex-complete, some-sound, some-complete, all-sound, all-complete}
 use Rattle.specification.proofs.Laws.Negation.{innerTree, Refutes, succeeds-proves, fails-refutes, neg-sound, neg-complete, imp-sound, imp-complete}
@@ -28,6 +28,7 @@ laws D (compare tok r s t) = (compare-sound D tok r s t, compare-complete D tok 
 laws D (ex l F) = let (sF, cF) = laws D F in (ex-sound D l F sF, ex-complete D l F cF)
 laws D (some tok l a b F) = let (sF, cF) = laws D F in (some-sound D tok l a b F sF, some-complete D tok l a b F cF)
 laws D (all tok l a b F) = let (sF, cF) = laws D F in (all-sound D tok l a b F sF, all-complete D tok l a b F cF)
+laws D (call K ts F) = let (sF, cF) = laws D F in (call-sound D K ts F sF, call-complete D K ts F cF)
 
 -- ---- both directions of an inner tree
 

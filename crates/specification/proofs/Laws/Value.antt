@@ -10,7 +10,7 @@ use lib.Signed.{quotZ}
 use Rattle.specification.specs.Bytes.{pick}
 use Rattle.specification.specs.Number.{in32}
 use Rattle.specification.specs.Lines.{Declared, cells, firstOf, lengthOf}
-use Rattle.specification.specs.Ast.{Op, add, sub, mul, div, modulo, Term, constant, scalarAt, localAt, elementAt, apply}
+use Rattle.specification.specs.Ast.{Op, add, sub, mul, div, modulo, Term, constant, scalarAt, localAt, parameter, elementAt, apply}
 use Rattle.specification.specs.Arithmetic.{noValue, outsideArray, outside32, Computed, value, fault, fit, divided, compute}
 use Rattle.specification.specs.Place.{Place, cell, local}
 use Rattle.specification.specs.Value.{Slot, empty, full, Valuation, Side, val, bare, err, look, Pair, values, faulty, pairOf, sideOf, operate, inArray, elementSide, side}
@@ -65,6 +65,7 @@ module _ (D : Declared) (S : Scope) (ρ : Env) (α : Valuation) (a : Agree D S �
   side-tells (constant z) h = refl
   side-tells (scalarAt c) h = look-tells ρ (cell c) (α (cell c)) (a (cell c) (scalar-declared D c h))
   side-tells (localAt l) h = look-tells ρ (local l) (α (local l)) (a (local l) h)
+  side-tells (parameter n) h = tt
   side-tells (elementAt n t) h = element-tells n (side D α t) (valueOf D ρ t) (side-tells t (h .1))
   side-tells (apply o s t) h =
       operate-tells o (side D α s) (side D α t) (valueOf D ρ s) (valueOf D ρ t) (side-tells s (h .0)) (side-tells t (h .1))
@@ -131,6 +132,7 @@ module _ (D : Declared) (S : Scope) (α : Valuation) (G : Side → Type 0) (firm
   side-firm (constant z) h = firm (val z) h
   side-firm (scalarAt c) h = looked (cell c) (scalar-declared D c h) (α (cell c)) refl
   side-firm (localAt l) h = looked (local l) h (α (local l)) refl
+  side-firm (parameter n) h = firm (err noValue) tt
   side-firm (elementAt n t) h = element-firm n (side D α t)
   side-firm (apply o s t) h = operate-firm o (pairOf (side D α s) (side D α t))
 
