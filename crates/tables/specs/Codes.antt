@@ -52,6 +52,9 @@ someCode = 13
 abbrev pub allCode : ℕ
 allCode = 14
 
+abbrev pub callCode : ℕ
+callCode = 15
+
 -- ---- terms
 
 abbrev pub firstTerm : ℕ
@@ -88,6 +91,9 @@ localCode = 42
 abbrev pub arrayCode : ℕ
 arrayCode = 43
 
+abbrev pub parameterCode : ℕ
+parameterCode = 44
+
 -- ---- no token: bytes that are no word of the set, and a constant in bad form or outside 32 bits
 
 abbrev pub unknownCode : ℕ
@@ -95,3 +101,12 @@ unknownCode = 64
 
 abbrev pub badConstantCode : ℕ
 badConstantCode = 65
+
+-- ---- neither a formula nor a term: the procedure's number in a call, whose code is this one and the procedure's number of parameters
+
+abbrev pub procedureCode : ℕ
+procedureCode = 66
+
+-- that of a procedure with eight parameters
+abbrev pub lastCode : ℕ
+lastCode = 74

@@ -4,12 +4,15 @@
 --   cells      2 words each, a slot: whether it has a value, and the value's word; without a value its mark (the walker's specs/Site.antt)
 --   locals     2 words each, the same
 --   firsts     the first cell of each array, and the end of the cells after the last
+--   procs      2 words each, for a procedure: the first token of its formula and the number of its parameters
 --   dues       3 words each: what is due while a formula is read; afterwards the results of terms that are being valued
---   procs      2 words each, room for procedures: the first token and the number of parameters
+--   arguments  2 words for each procedure and parameter: the result of a parameter that is valued again for each atom, its tag and its word
+--   chain      pointers to the calls that are active where a term is valued, the innermost first
 --   ranges     2 words each, room for the ranges of scalars and arrays: the lowest and the highest value
 --   spare      up to the path
---   path       12 words for each node (specs/Node.antt); the results of a call's parameters have room there
+--   path       12 words for each node (specs/Node.antt)
 --
+-- The words of dues, arguments and chain are those that the valuing of terms may change.
 -- Every other file says these by name; src/lib.rt has the same numbers for the code, and proofs/Laws/Layout.antt the law that each table ends
 -- where the next begins. Assumes nothing.
 use Prim.Native.Nat.{ℕ, _+_, _*_}
@@ -39,12 +42,15 @@ maxArrays = 16
 abbrev pub maxNesting : ℕ
 maxNesting = 64
 
--- two more are due at each level of nesting
-abbrev pub maxDues : ℕ
-maxDues = 2 * maxNesting + 1
-
 abbrev pub maxProcs : ℕ
 maxProcs = 16
+
+abbrev pub maxParameters : ℕ
+maxParameters = 8
+
+-- two more are due at each level of nesting, since a word has at most three operands; a call's eight arguments are five more than that
+abbrev pub maxDues : ℕ
+maxDues = 2 * maxNesting + 1 + 5
 
 abbrev pub maxPath : ℕ
 maxPath = 32768
@@ -60,6 +66,15 @@ slotWords = 2
 abbrev pub dueWords : ℕ
 dueWords = 3
 
+abbrev pub procWords : ℕ
+procWords = 2
+
+abbrev pub argumentWords : ℕ
+argumentWords = 2
+
+abbrev pub rangeWords : ℕ
+rangeWords = 2
+
 abbrev pub nodeWords : ℕ
 nodeWords = 12
 
@@ -74,24 +89,34 @@ localsAt = 5120
 abbrev pub firstsAt : ℕ
 firstsAt = 5184
 
+abbrev pub procsAt : ℕ
+procsAt = 5201
+
 abbrev pub duesAt : ℕ
-duesAt = 5201
+duesAt = 5233
 
 -- the last result of a term stands outside the words, so the first that stands in them is the second
 abbrev pub resultsAt : ℕ
 resultsAt = duesAt + 2
 
 abbrev pub duesEnd : ℕ
-duesEnd = 5588
+duesEnd = 5635
 
-abbrev pub procsAt : ℕ
-procsAt = 5588
+abbrev pub argumentsAt : ℕ
+argumentsAt = 5635
+
+abbrev pub chainAt : ℕ
+chainAt = 5891
+
+-- the end of the words that the valuing of terms may change, which begin with the dues
+abbrev pub valuedEnd : ℕ
+valuedEnd = 5907
 
 abbrev pub rangesAt : ℕ
-rangesAt = 5620
+rangesAt = 5907
 
 abbrev pub spareAt : ℕ
-spareAt = 5780
+spareAt = 6067
 
 abbrev pub pathAt : ℕ
 pathAt = 6144
@@ -110,8 +135,18 @@ localSlot l = localsAt + slotWords * l
 abbrev pub firstSlot : ℕ → ℕ
 firstSlot a = firstsAt + a
 
+abbrev pub procSlot : ℕ → ℕ
+procSlot k = procsAt + procWords * k
+
 abbrev pub dueSlot : ℕ → ℕ
 dueSlot i = duesAt + dueWords * i
+
+-- parameter n of procedure k
+abbrev pub argumentSlot : ℕ → ℕ → ℕ
+argumentSlot k n = argumentsAt + argumentWords * maxParameters * k + argumentWords * n
+
+abbrev pub chainSlot : ℕ → ℕ
+chainSlot j = chainAt + j
 
 abbrev pub nodeSlot : ℕ → ℕ
 nodeSlot d = pathAt + nodeWords * d
@@ -120,7 +155,7 @@ nodeSlot d = pathAt + nodeWords * d
 abbrev pub nodeEnd : ℕ → ℕ
 nodeEnd d = pathAt + nodeWords + nodeWords * d
 
--- ---- the words of tokens, cells and arrays
+-- ---- the words of tokens, cells, arrays, procedures and their arguments
 
 abbrev pub codeAt : Words → ℕ → ℕ
 codeAt w i = getD w (tokenSlot i) 0
@@ -143,3 +178,22 @@ valueAt w c = getD w (cellSlot c + 1) 0
 -- the first cell of array a
 abbrev pub firstAt : Words → ℕ → ℕ
 firstAt w a = getD w (firstSlot a) 0
+
+-- the first token of the formula of procedure k
+abbrev pub procAt : Words → ℕ → ℕ
+procAt w k = getD w (procSlot k) 0
+
+-- the number of its parameters
+abbrev pub parametersAt : Words → ℕ → ℕ
+parametersAt w k = getD w (procSlot k + 1) 0
+
+-- the tag and the word of the result of its parameter n
+abbrev pub argumentTagAt : Words → ℕ → ℕ → ℕ
+argumentTagAt w k n = getD w (argumentSlot k n) 0
+
+abbrev pub argumentAt : Words → ℕ → ℕ → ℕ
+argumentAt w k n = getD w (argumentSlot k n + 1) 0
+
+-- the pointer to the active call j, of which the innermost is 0
+abbrev pub activeAt : Words → ℕ → ℕ
+activeAt w j = getD w (chainSlot j) 0

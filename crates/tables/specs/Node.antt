@@ -1,9 +1,9 @@
 -- The words of a path node, and what the functions of src/nodes.rt leave. Assumes nothing.
-use Prim.Native.Nat.{ℕ, _+_, _<_}
+use Prim.Native.Nat.{ℕ, _+_, _*_, _<_}
 use mathlib.Core.Path.{_≡_}
 use lib.ListN.{length, getD}
 use Rattle.tables.specs.declared.nodes.Node.{Node}
-use Rattle.tables.specs.Layout.{Words, nodeSlot}
+use Rattle.tables.specs.Layout.{Words, nodeSlot, maxParameters}
 
 -- ---- which word is which
 
@@ -19,29 +19,33 @@ restWord d = nodeSlot d + 1
 abbrev pub todoWord : ℕ → ℕ
 todoWord d = nodeSlot d + 2
 
+-- the environment of its first formula: 0 in the sheet's own formula, else one more than the number of the node of the call around it
+abbrev pub envWord : ℕ → ℕ
+envWord d = nodeSlot d + 3
+
 -- the first word of the slot that the node changed, and the two words it held
 abbrev pub slotWord : ℕ → ℕ
-slotWord d = nodeSlot d + 3
+slotWord d = nodeSlot d + 4
 
 abbrev pub hadWord : ℕ → ℕ
-hadWord d = nodeSlot d + 4
+hadWord d = nodeSlot d + 5
 
 abbrev pub oldWord : ℕ → ℕ
-oldWord d = nodeSlot d + 5
+oldWord d = nodeSlot d + 6
 
 -- the present value of a quantifier's local, and the last one
 abbrev pub currentWord : ℕ → ℕ
-currentWord d = nodeSlot d + 6
+currentWord d = nodeSlot d + 7
 
 abbrev pub lastWord : ℕ → ℕ
-lastWord d = nodeSlot d + 7
+lastWord d = nodeSlot d + 8
 
 -- the walk's register `inner` at the node, and whether the tree there has had an error leaf
 abbrev pub innerWord : ℕ → ℕ
-innerWord d = nodeSlot d + 8
+innerWord d = nodeSlot d + 9
 
 abbrev pub badWord : ℕ → ℕ
-badWord d = nodeSlot d + 9
+badWord d = nodeSlot d + 10
 
 -- ---- what they hold
 
@@ -50,6 +54,9 @@ restAt w d = getD w (restWord d) 0
 
 abbrev pub todoAt : Words → ℕ → ℕ
 todoAt w d = getD w (todoWord d) 0
+
+abbrev pub envAt : Words → ℕ → ℕ
+envAt w d = getD w (envWord d) 0
 
 abbrev pub slotAt : Words → ℕ → ℕ
 slotAt w d = getD w (slotWord d) 0
@@ -72,6 +79,26 @@ innerAt w d = getD w (innerWord d) 0
 abbrev pub badAt : Words → ℕ → ℕ
 badAt w d = getD w (badWord d) 0
 
+-- ---- a call's node: its head is the call's token, its environment the one around the call, and it has no list
+
+-- what the results of its parameters are, a set (specs/Locals.antt): n is in it where the result of parameter n is a place, maxParameters + n
+-- where it is open, neither where it is a value; and `anyOpen` where this call, or one around it, has an open one
+abbrev pub tagsAt : Words → ℕ → ℕ
+tagsAt w d = restAt w d
+
+abbrev pub openAt : ℕ → ℕ
+openAt n = maxParameters + n
+
+abbrev pub anyOpen : ℕ
+anyOpen = 2 * maxParameters
+
+-- the result of parameter n: a value's word, or the first word of a place's slot
+abbrev pub resultWord : ℕ → ℕ → ℕ
+resultWord d n = nodeSlot d + 4 + n
+
+abbrev pub resultAt : Words → ℕ → ℕ → ℕ
+resultAt w d n = getD w (resultWord d n) 0
+
 -- ---- a node goes onto the path
 
 -- every word below n is kept
@@ -84,15 +111,16 @@ pub record Marked (w w' : Words) (d todo : ℕ) : Type 0 where
   pub left : todoAt w' d ≡ todo
   pub size : length w' ≡ length w
 
--- and its token and list
-pub record Linked (w w' : Words) (d h p todo : ℕ) : Type 0 where
+-- and its token, list and environment
+pub record Linked (w w' : Words) (d h p todo e : ℕ) : Type 0 where
   pub marked : Marked w w' d todo
   pub head : headAt w' d ≡ h
   pub rest : restAt w' d ≡ p
+  pub env : envAt w' d ≡ e
 
 -- and all its words
 pub record Pushed (w w' : Words) (d : ℕ) (n : Node) : Type 0 where
-  pub linked : Linked w w' d (n .head) (n .rest) (n .todo)
+  pub linked : Linked w w' d (n .head) (n .rest) (n .todo) (n .env)
   pub place : slotAt w' d ≡ n .slot
   pub saved : hadAt w' d ≡ n .had
   pub value : oldAt w' d ≡ n .old

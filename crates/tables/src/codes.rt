@@ -41,6 +41,8 @@ pub const SOME: u32 = 13;
 
 pub const ALL: u32 = 14;
 
+pub const CALL: u32 = 15;
+
 // ---- terms
 
 pub const FIRST_TERM: u32 = 32;
@@ -66,11 +68,20 @@ pub const LOCAL: u32 = 42;
 
 pub const ARRAY: u32 = 43;
 
+pub const PARAMETER: u32 = 44;
+
 // ---- no token: bytes that are no word of the set, and a constant in bad form or outside 32 bits
 
 pub const UNKNOWN: u32 = LAST_TERM + 1;
 
 pub const BAD_CONSTANT: u32 = LAST_TERM + 2;
+
+// ---- neither a formula nor a term: the procedure's number in a call, whose code is this one and the procedure's number of parameters
+
+pub const PROCEDURE: u32 = BAD_CONSTANT + 1;
+
+// That of a procedure with eight parameters.
+pub const LAST: u32 = PROCEDURE + crate::MAX_PARAMETERS;
 
 // ---- the ranges
 

@@ -1,4 +1,4 @@
-// Sets of locals, each a word: bit l says whether the local l is in the set.
+// Sets of small numbers, of locals above all, each a word: bit l says whether l is in the set.
 ghost use mathlib.Core.Path.{_≡_};
 ghost use Prim.Native.Nat.{_<_, _^_};
 ghost use lib.Bits.{bitOr};

@@ -1,11 +1,11 @@
--- A word written here is kept there: which tables a write to a node, or to the dues, leaves as they were. Assumes nothing.
+-- A word written here is kept there: which tables a write to a node, or the valuing of terms, leaves as they were. Assumes nothing.
 use Prim.Native.Nat.{ℕ, _≤_, _<_}
 use native.Mathlib.Omega.{arith}
 use mathlib.Core.Path.{_≡_, _∙_}
 use mathlib.Core.Logic.{_⊎_, inl, inr}
 use lib.ListN.{length, getD, set, length-set}
 use lib.Seq.{getD-set-other}
-use Rattle.tables.specs.Layout.{Words, duesAt, duesEnd, pathAt, nodeSlot}
+use Rattle.tables.specs.Layout.{Words, duesAt, valuedEnd, pathAt, nodeSlot}
 use Rattle.tables.specs.Node.{Marked}
 use Rattle.tables.specs.Kept.{SameSlots, SameNodes, Kept}
 
@@ -47,9 +47,9 @@ word-kept {w} {w'} n j x h e = record {
 pub word-slots : {w w' : Words} (j x : ℕ) → pathAt ≤ j → w' ≡ set w j x → SameSlots w w'
 word-slots {w} j x h e = record { same = λ k a b. rw (e, getD-set-other w j k x 0 (λ y. omega arith)) }
 
--- ---- by words of the dues
+-- ---- by the words that the valuing of terms may change
 
-module _ (w w' : Words) (u : (k : ℕ) → (k < duesAt) ⊎ (duesEnd ≤ k) → getD w' k 0 ≡ getD w k 0) where
+module _ (w w' : Words) (u : (k : ℕ) → (k < duesAt) ⊎ (valuedEnd ≤ k) → getD w' k 0 ≡ getD w k 0) where
   pub spare-kept : length w' ≡ length w → (n : ℕ) → Kept n w w'
   spare-kept z n = record {
     tokens = λ j h. u j (inl (omega arith));

@@ -1,4 +1,4 @@
--- Laws of sets of locals: the bits of the empty set, and of a set that has one local more. Assumes nothing.
+-- Laws of sets of small numbers: the bits of the empty set, and of a set that has one number more. Assumes nothing.
 use Prim.Native.Nat.{ℕ, zero, suc, _/_, _%_, _^_, _<_}
 use native.Mathlib.Omega.{arith}
 use native.Mathlib.Nat.{mod-lt, div-div-eq-div-mul, pow-succ', one-mul}

@@ -49,10 +49,11 @@ module _ (w : Words) (a d : ℕ) (e : a ≡ nodeSlot d) (z : nodeEnd d ≤ lengt
         let size = length-set w a h in
         stores-at xs (set w a h) a 1 n (nodeSlot d + (1 + n)) (omega arith) k (omega arith)
 
-  -- its token, its list, what is left to do there, and more words after these
-  pub linked : (h p todo : ℕ) (xs : List ℕ) → length xs + 2 < nodeWords → Linked w (stores (set w a h) a 1 (p ∷ todo ∷ xs)) d h p todo
-  linked h p todo xs fits =
-      let ys : List ℕ = p ∷ todo ∷ xs in
+  -- its token, its list, what is left to do there, its environment, and more words after these
+  pub linked : (h p todo env : ℕ) (xs : List ℕ) → length xs + 3 < nodeWords →
+      Linked w (stores (set w a h) a 1 (p ∷ todo ∷ env ∷ xs)) d h p todo env
+  linked h p todo env xs fits =
+      let ys : List ℕ = p ∷ todo ∷ env ∷ xs in
       let w1 : Words = set w a h in
       record {
         marked = record {
@@ -62,20 +63,24 @@ module _ (w : Words) (a d : ℕ) (e : a ≡ nodeSlot d) (z : nodeEnd d ≤ lengt
         };
         head = rw (← e) (stores-off ys w1 a 1 a (omega arith) ∙ getD-set-same w a h 0 (omega arith));
         rest = word-at h ys (omega arith) 0 (omega arith);
+        env = word-at h ys (omega arith) 2 (omega arith);
       }
 
   pub pushed : (n : Node) →
-      Pushed w (stores (set w a (n .head)) a 1 (n .rest ∷ n .todo ∷ n .slot ∷ n .had ∷ n .old ∷ n .current ∷ n .last ∷ n .inner ∷ n .bad ∷ [])) d n
+      Pushed w
+      (stores (set w a (n .head)) a 1
+      (n .rest ∷ n .todo ∷ n .env ∷ n .slot ∷ n .had ∷ n .old ∷ n .current ∷ n .last ∷ n .inner ∷ n .bad ∷ []))
+      d n
   pushed n =
       let more : List ℕ = n .slot ∷ n .had ∷ n .old ∷ n .current ∷ n .last ∷ n .inner ∷ n .bad ∷ [] in
-      let at = word-at (n .head) (n .rest ∷ n .todo ∷ more) (omega arith) in
+      let at = word-at (n .head) (n .rest ∷ n .todo ∷ n .env ∷ more) (omega arith) in
       record {
-        linked = linked (n .head) (n .rest) (n .todo) more (omega arith);
-        place = at 2 (omega arith);
-        saved = at 3 (omega arith);
-        value = at 4 (omega arith);
-        now = at 5 (omega arith);
-        upper = at 6 (omega arith);
-        inner = at 7 (omega arith);
-        bad = at 8 (omega arith);
+        linked = linked (n .head) (n .rest) (n .todo) (n .env) more (omega arith);
+        place = at 3 (omega arith);
+        saved = at 4 (omega arith);
+        value = at 5 (omega arith);
+        now = at 6 (omega arith);
+        upper = at 7 (omega arith);
+        inner = at 8 (omega arith);
+        bad = at 9 (omega arith);
       }

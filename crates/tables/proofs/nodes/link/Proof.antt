@@ -1,4 +1,4 @@
--- `nodes::link` meets its contract: three words one after the other.
+-- `nodes::link` meets its contract: four words one after the other.
 use borrow.Author.Needs.{needs}
 use native.Mathlib.Omega.{arith}
 use mathlib.Core.List.{[]}
@@ -34,11 +34,36 @@ mul-w-3 c = search needs
 slice-write-w-3 : tie.Need-slice-write-w-3
 slice-write-w-3 c = simp length-set (omega arith)
 
+add-w-3 : tie.Need-add-w-3
+add-w-3 c = search needs
+
+mul-w-4 : tie.Need-mul-w-4
+mul-w-4 c = search needs
+
+slice-write-w-4 : tie.Need-slice-write-w-4
+slice-write-w-4 c = simp length-set (omega arith)
+
 same-length : tie.Need-same-length
 same-length c = simp length-set
 
 returns : tie.Need-returns
-returns c = linked _ _ _ (c .place .ensures) (c .before .before .pre) _ _ _ [] (omega arith)
+returns c = linked _ _ _ (c .place .ensures) (c .before .before .pre) _ _ _ _ [] (omega arith)
 
 pub link-spec : {M : Type 1} → statement M
-link-spec = tie.close (tie.spec place-requires mul-w slice-write-w add-w mul-w-2 slice-write-w-2 add-w-2 mul-w-3 slice-write-w-3 same-length returns)
+link-spec =
+    tie.close
+    (tie.spec
+    place-requires
+    mul-w
+    slice-write-w
+    add-w
+    mul-w-2
+    slice-write-w-2
+    add-w-2
+    mul-w-3
+    slice-write-w-3
+    add-w-3
+    mul-w-4
+    slice-write-w-4
+    same-length
+    returns)

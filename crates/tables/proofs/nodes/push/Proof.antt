@@ -1,4 +1,4 @@
--- `nodes::push` meets its contract: ten words one after the other. For each the checker asks that its number is small enough and that it
+-- `nodes::push` meets its contract: eleven words one after the other. For each the checker asks that its number is small enough and that it
 -- lies in the slice.
 use borrow.Author.Needs.{needs}
 use native.Mathlib.Omega.{arith}
@@ -16,6 +16,7 @@ push-spec =
     (tie.spec
     (λ c κs. search needs)
     (λ c. search needs) (λ c. search needs)
+    (λ c. search needs) (λ c. search needs) (λ c. simp length-set (omega arith))
     (λ c. search needs) (λ c. search needs) (λ c. simp length-set (omega arith))
     (λ c. search needs) (λ c. search needs) (λ c. simp length-set (omega arith))
     (λ c. search needs) (λ c. search needs) (λ c. simp length-set (omega arith))
