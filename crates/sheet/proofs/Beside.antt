@@ -1,11 +1,12 @@
--- Words that are the same beside the stack: so they stay where the same words, tokens or ends are written in both. Assumes nothing.
+-- Words that are the same beside the stack: so they stay where the same words, tokens or ends are written in both. Tokens that are written
+-- after others, and before other words. Assumes nothing.
 use Prim.Native.Nat.{ℕ, suc, _+_, _-_, _<_, _≤_}
 use native.Mathlib.Omega.{arith}
 use mathlib.Core.Path.{_≡_, refl, sym, _∙_}
 use mathlib.Core.Bool.{Bool, true, false}
 use mathlib.Core.List.{List, [], _∷_, _++_}
 use lib.ListN.{length, getD, set, length-set}
-use lib.Seq.{getD-set-same, getD-set-other}
+use lib.Seq.{getD-set-same, getD-set-other, set-comm}
 use lib.Dec.{eqb}
 use Rattle.tables.specs.Layout.{tokenSlot}
 use borrow.Author.Tests.{eqb-true, eqb-false}
@@ -60,3 +61,22 @@ tokens-more [] i t w = let e : i + 0 ≡ i = omega arith in rw e
 tokens-more (x ∷ ts) i t w =
     let e : i + suc (length ts) ≡ suc i + length ts = omega arith in
     rw e (tokens-more ts (suc i) t (stored w i x))
+
+-- ---- tokens behind others, and other words
+
+pub tokens-both : (xs ys : List Token) (i : ℕ) (w : Words) → laidTokens i (xs ++ ys) w ≡ laidTokens (i + length xs) ys (laidTokens i xs w)
+unfolding laidTokens
+tokens-both [] ys i w = let e : i + 0 ≡ i = omega arith in rw e
+tokens-both (x ∷ xs) ys i w =
+    let e : i + suc (length xs) ≡ suc i + length xs = omega arith in
+    rw e (tokens-both xs ys (suc i) (stored w i x))
+
+pub tokens-set : (ts : List Token) (i j x : ℕ) (w : Words) → tokenSlot (i + length ts) ≤ j → laidTokens i ts (set w j x) ≡ set (laidTokens i ts w) j x
+unfolding laidTokens
+tokens-set [] i j x w h = refl
+tokens-set (t ∷ ts) i j x w h =
+    rw (
+      set-comm w j (tokenSlot i) x (t .code) (λ q. omega arith),
+      set-comm (set w (tokenSlot i) (t .code)) j (tokenSlot i + 1) x (t .operand) (λ q. omega arith),
+    )
+    (tokens-set ts (suc i) j x (stored w i t) (omega arith))

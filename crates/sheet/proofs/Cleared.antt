@@ -1,4 +1,4 @@
--- The reading of a sheet from what the six lines leave: words that are made zero, and the sheet's tables, once what was due is cleared. Assumes nothing.
+-- The reading of a sheet from what its lines leave: words that are made zero, and the sheet's tables, once what was due is cleared. Assumes nothing.
 use Prim.Native.Nat.{ℕ, _+_, _<_, _≤_}
 use native.Mathlib.Omega.{arith}
 use mathlib.Core.Path.{_≡_, refl, sym, ap, _∙_}
@@ -8,11 +8,12 @@ use lib.Seq.{getD-set-same, getD-set-other, ext-getD}
 use lib.Dec.{ltb}
 use borrow.Author.Tests.{ltb-true, ltb-false}
 use Rattle.specification.specs.Bytes.{Bytes}
-use Rattle.specification.specs.Parser.{Read, refused, found}
-use Rattle.specification.specs.Sheet.{sheet, read}
+use Rattle.specification.specs.Parser.{Read, found}
+use Rattle.specification.specs.Sheet.{read}
 use Rattle.specification.proofs.Laws.ReadSheet.{read-well-formed}
 use Rattle.tables.specs.Layout.{duesAt, duesEnd, pathAt}
 use Rattle.sheet.specs.declared.formula.Limits.{Limits}
+use Rattle.sheet.specs.declared.formula.Reached.{Reached}
 use Rattle.sheet.specs.declared.Reading.{Reading}
 use Rattle.sheet.specs.declared.Reading.the-variants as reading
 use Rattle.sheet.specs.declared.whole.Progress.{Progress}
@@ -59,17 +60,17 @@ Leaves s n r w = (r ≡ readingOf (read s)) × (w ≡ wordsOf n (read s))
 pub cleared : (w w₁ : Words) → w₁ ≡ replicate (length w) 0 → (length w₁ ≡ length w) × (w₁ ≡ replicate (length w₁) 0)
 cleared w w₁ e = let l : length w₁ ≡ length w = ap length e ∙ length-replicate (length w) 0 in (l, e ∙ ap (λ n. replicate n 0) (sym l))
 
--- the words are w after the six lines, over n words, and w₁ at the end
-module _ (s : Bytes) (n : ℕ) (w : Words) (p : Progress) (h : Went 6 s n p w) (w₁ : Words) where
+-- the words are w after all lines, over n words, and w₁ at the end
+module _ (s : Bytes) (n : ℕ) (w : Words) (p : Progress) (h : Went 7 s n p w) (w₁ : Words) where
   -- refused, and all words cleared
   pub refused-whole : (k q : ℕ) → p ≡ progress.Refused k q → w₁ ≡ replicate (length w) 0 → Leaves s n (reading.Refused k q) w₁
   unfolding read
   refused-whole k q i e =
-      let x : Went 6 s n (progress.Refused k q) w = rw i at h in
+      let x : Went 7 s n (progress.Refused k q) w = rw i at h in
       (sym (ap readingOf (x .0)), e ∙ ap (λ m. replicate m 0) (x .1) ∙ sym (ap (wordsOf n) (x .0)))
 
-  module _ (d : Limits) (t e : ℕ) (i : p ≡ progress.Read d t e) (long : pathAt ≤ n) (z : Zeroed w w₁ duesAt duesEnd) where
-    f : Tabled s n d t w
+  module _ (d : Limits) (x : Reached) (i : p ≡ progress.Read d x) (long : pathAt ≤ n) (z : Zeroed w w₁ duesAt duesEnd) where
+    f : Tabled s n d x w
     f = rw i at h
 
     is : read s ≡ found (f .whole) (f .after)
@@ -80,7 +81,7 @@ module _ (s : Bytes) (n : ℕ) (w : Words) (p : Progress) (h : Went 6 s n p w) (
     T = tables (f .whole) n
 
     zero-there : (j : ℕ) → duesAt ≤ j → getD T j 0 ≡ 0
-    zero-there j a = rest-zero (f .whole) n long (read-counts s (f .whole) (f .after) is .1) (read-well-formed s (f .whole) (f .after) is) j a
+    zero-there j a = rest-zero (f .whole) n long (read-counts s (f .whole) (f .after) is .few) (read-well-formed s (f .whole) (f .after) is) j a
 
     by-place : (j : ℕ) (a : Bool) → ltb j duesAt ≡ a → (b : Bool) → ltb j duesEnd ≡ b → getD w₁ j 0 ≡ getD T j 0
     by-place j true e b d = z .below j (ltb-true j duesAt e) ∙ f .words .below j (ltb-true j duesAt e)
@@ -88,5 +89,5 @@ module _ (s : Bytes) (n : ℕ) (w : Words) (p : Progress) (h : Went 6 s n p w) (
     by-place j false e false d = z .above j (ltb-false j duesEnd d) ∙ f .words .above j (ltb-false j duesEnd d)
 
     -- read, and what was due cleared
-    pub found-whole : Leaves s n (reading.Read (d .scalars) (d .arrays) t) w₁
-    found-whole = (rw (is, f .scalars, f .arrays, f .tokens), ext-getD 0 w₁ T (z .long ∙ f .words .long) (λ j _. by-place j (ltb j duesAt) refl (ltb j duesEnd) refl) ∙ sym (ap (wordsOf n) is))
+    pub found-whole : Leaves s n (reading.Read (d .scalars) (d .arrays) (x .tokens) (x .first)) w₁
+    found-whole = (rw (is, f .scalars, f .arrays, f .tokens, f .first), ext-getD 0 w₁ T (z .long ∙ f .words .long) (λ j _. by-place j (ltb j duesAt) refl (ltb j duesEnd) refl) ∙ sym (ap (wordsOf n) is))

@@ -1,85 +1,93 @@
 -- The reading with a list of what is due is the specification's reading: where something is due and nesting may go deeper, a token is
 -- read, and then what it makes due. Assumes nothing.
-use Prim.Native.Nat.{ℕ, suc}
+use Prim.Native.Nat.{ℕ, suc, _+_, _≤_}
+use native.Mathlib.Omega.{arith}
 use mathlib.Core.Path.{_≡_, refl, _∙_}
-use mathlib.Core.Bool.{false}
 use mathlib.Core.List.{List, [], _∷_}
 use mathlib.Core.Option.{some as just}
-use lib.Dec.{eqb}
-use Rattle.specification.specs.Bytes.{between}
-use Rattle.specification.specs.Parser.{Reader, Parser, andThen, _>>=_}
-use Rattle.specification.specs.Lines.{Declared}
+use lib.ListN.{length, replicate}
+use lib.Dec.{ltb}
+use borrow.Author.Tests.{ne-eqb}
+use Rattle.specification.specs.Bytes.{pick}
+use Rattle.specification.specs.Parser.{Reader, Parser, give, require, andThen, _>>=_}
+use Rattle.specification.specs.Lines.{Declared, procedureOf}
 use Rattle.specification.specs.Ast.{Term, Formula, ne, lt, le, gt, ge, add, sub, mul, div, modulo}
-use Rattle.specification.specs.Words.{FormulaWord, trueWord, andWord, orWord, impWord, notWord, eqWord, exWord, someWord, allWord, relWord, TermWord, constantWord, scalarWord, localWord, arrayWord, opWord, Word, formulaWord, termWord, unknown}
-use Rattle.specification.specs.Formula.{Token as WordToken, token as readToken, Locals, binderWith, binder, termWith, term, formulaWith, formula}
-use Rattle.tables.specs.Codes.{firstFormula, lastFormula, firstTerm, lastTerm, localCode, badConstantCode}
+use Rattle.specification.specs.Words.{FormulaWord, trueWord, andWord, orWord, impWord, notWord, eqWord, exWord, someWord, allWord, callWord, relWord, TermWord, constantWord, scalarWord, localWord, arrayWord, parameterWord, opWord, Word, formulaWord, termWord, numberWord, unknown, wordOf, numberOf}
+use Rattle.specification.specs.Formula.{Token as WordToken, token as readToken, Locals, binderWith, binder, procedureWith, procedure, termWith, term, formulaWith, formula}
+use Rattle.tables.specs.Layout.{maxParameters}
+use Rattle.tables.specs.Codes.{firstFormula, lastFormula, firstTerm, lastTerm, scalarCode, localCode, arrayCode, parameterCode, badConstantCode, procedureCode, lastCode}
 use Rattle.sheet.specs.declared.Token.{Token}
-use Rattle.sheet.specs.Codes.{token, formulaCode, termToken, tokenOf}
-use Rattle.sheet.specs.Dues.{Due, dueFormula, dueTerm, dueEx, dueRange, parse}
-use Rattle.sheet.specs.Turn.{Limited, faultOf, opens, left}
+use Rattle.sheet.specs.Codes.{token, indexWord, formulaCode, termToken, tokenOf}
+use Rattle.sheet.specs.Dues.{Due, dueFormula, dueTerm, dueProcedure, dueEx, dueRange, parse}
+use Rattle.sheet.specs.Turn.{Limited, declared, undeclared, faultOf, dueBy, dues, opens, tokenBy, left}
 use Rattle.sheet.proofs.Left.{then-assoc, then-same}
 use Rattle.sheet.proofs.Operands.{admitted, spellFormula, spellTerm}
-use Rattle.sheet.proofs.FormulaWord.{readEx, readRange, ex-brings, range-brings, formula-word}
-use Rattle.sheet.proofs.TermWord.{term-word, admitLocal, binder-word}
+use Rattle.sheet.proofs.Ranges.{inside, under, over}
+use Rattle.sheet.proofs.CodeOperands.{number-operands}
+use Rattle.sheet.proofs.FormulaWord.{readEx, readRange, ex-brings, range-brings, readCall, call-brings, formula-word}
+use Rattle.sheet.proofs.TermWord.{declared-index, term-word, admitLocal, binder-word}
 
 -- ---- words of another sort
 
--- a formula's code is neither a term's nor a local's
-formula-code : (w : FormulaWord) →
-    (eqb (formulaCode w) badConstantCode ≡ false) × (between firstTerm lastTerm (formulaCode w) ≡ false) × (eqb (formulaCode w) localCode ≡ false)
-formula-code trueWord = (refl, refl, refl)
-formula-code andWord = (refl, refl, refl)
-formula-code orWord = (refl, refl, refl)
-formula-code impWord = (refl, refl, refl)
-formula-code notWord = (refl, refl, refl)
-formula-code eqWord = (refl, refl, refl)
-formula-code exWord = (refl, refl, refl)
-formula-code someWord = (refl, refl, refl)
-formula-code allWord = (refl, refl, refl)
-formula-code (relWord ne) = (refl, refl, refl)
-formula-code (relWord lt) = (refl, refl, refl)
-formula-code (relWord le) = (refl, refl, refl)
-formula-code (relWord gt) = (refl, refl, refl)
-formula-code (relWord ge) = (refl, refl, refl)
+formula-code : (w : FormulaWord) → formulaCode w ≤ lastFormula
+formula-code trueWord = omega arith
+formula-code andWord = omega arith
+formula-code orWord = omega arith
+formula-code impWord = omega arith
+formula-code notWord = omega arith
+formula-code eqWord = omega arith
+formula-code exWord = omega arith
+formula-code someWord = omega arith
+formula-code allWord = omega arith
+formula-code callWord = omega arith
+formula-code (relWord ne) = omega arith
+formula-code (relWord lt) = omega arith
+formula-code (relWord le) = omega arith
+formula-code (relWord gt) = omega arith
+formula-code (relWord ge) = omega arith
 
-term-code : (w : TermWord) → (eqb (termToken w .code) badConstantCode ≡ false) × (between firstFormula lastFormula (termToken w .code) ≡ false)
-term-code (constantWord z) = (refl, refl)
-term-code (scalarWord n) = (refl, refl)
-term-code (localWord l) = (refl, refl)
-term-code (arrayWord a) = (refl, refl)
-term-code (opWord add) = (refl, refl)
-term-code (opWord sub) = (refl, refl)
-term-code (opWord mul) = (refl, refl)
-term-code (opWord div) = (refl, refl)
-term-code (opWord modulo) = (refl, refl)
+term-code : (w : TermWord) → (firstTerm ≤ termToken w .code) × (termToken w .code ≤ lastTerm)
+term-code (constantWord z) = (omega arith, omega arith)
+term-code (scalarWord n) = (omega arith, omega arith)
+term-code (localWord l) = (omega arith, omega arith)
+term-code (arrayWord a) = (omega arith, omega arith)
+term-code (parameterWord n) = (omega arith, omega arith)
+term-code (opWord add) = (omega arith, omega arith)
+term-code (opWord sub) = (omega arith, omega arith)
+term-code (opWord mul) = (omega arith, omega arith)
+term-code (opWord div) = (omega arith, omega arith)
+term-code (opWord modulo) = (omega arith, omega arith)
 
 -- ---- the step: where something is due and nesting may go deeper, a token is read, and then what it makes due
 
 module _ (D : Declared) where
   abbrev pub admits : Due → WordToken → Parser (List Token)
-  admits d t = admitted D d (t .place) (tokenOf (just (t .word)))
+  admits d t = admitted D d (t .place) (tokenBy D d (t .word))
 
 module _ (D : Declared) (small : Limited D) (k : ℕ) (S : Locals) where
-  pub step-formula : (r : Reader) → parse D (dueFormula (suc k) S) r ≡ (readToken (D .edition) >>= admits D (dueFormula (suc k) S)) r
+  pub step-formula : (r : Reader) → parse D (dueFormula (suc k) S) r ≡ (readToken (wordOf (D .edition)) >>= admits D (dueFormula (suc k) S)) r
   unfolding parse formula admitted faultOf tokenOf
   step-formula r =
-      then-assoc (λ t. with-word t (t .word)) spellFormula (readToken (D .edition) r) ∙
-      then-same (λ t r′. by-word t (t .word) r′) (readToken (D .edition) r)
+      then-assoc (λ t. with-word t (t .word)) spellFormula (readToken (wordOf (D .edition)) r) ∙
+      then-same (λ t r′. by-word t (t .word) r′) (readToken (wordOf (D .edition)) r)
     where
       with-word : WordToken → Word → Parser Formula
-      with-word = formulaWith D (λ S′ r. formula D k S′ r) (λ r. term D k S r) (λ r. binder D k r) S
+      with-word = formulaWith D (λ S′ r. formula D k S′ r) (λ r. term D k S r) (λ r. binder D k r) (λ r. procedure D k r) S
 
       by-word : (t : WordToken) (w : Word) (r : Reader) →
           andThen spellFormula (with-word t w r) ≡ admitted D (dueFormula (suc k) S) (t .place) (tokenOf (just w)) r
       by-word t (formulaWord w) r = formula-word D k S (t .place) (t .number) w r
-      by-word t (termWord w) r = rw (term-code w .0, term-code w .1)
+      by-word t (termWord w) r =
+          let c = term-code w in
+          rw (ne-eqb (termToken w .code) badConstantCode (λ q. omega arith), over firstFormula lastFormula (termToken w .code) (omega arith))
+      by-word t (numberWord n) r = refl
       by-word t unknown r = refl
 
-  pub step-term : (r : Reader) → parse D (dueTerm (suc k) S) r ≡ (readToken (D .edition) >>= admits D (dueTerm (suc k) S)) r
+  pub step-term : (r : Reader) → parse D (dueTerm (suc k) S) r ≡ (readToken (wordOf (D .edition)) >>= admits D (dueTerm (suc k) S)) r
   unfolding parse term admitted faultOf tokenOf
   step-term r =
-      then-assoc (λ t. with-word t (t .word)) spellTerm (readToken (D .edition) r) ∙
-      then-same (λ t r′. by-word t (t .word) r′) (readToken (D .edition) r)
+      then-assoc (λ t. with-word t (t .word)) spellTerm (readToken (wordOf (D .edition)) r) ∙
+      then-same (λ t r′. by-word t (t .word) r′) (readToken (wordOf (D .edition)) r)
     where
       with-word : WordToken → Word → Parser Term
       with-word = termWith D (λ r. term D k S r) S
@@ -87,27 +95,93 @@ module _ (D : Declared) (small : Limited D) (k : ℕ) (S : Locals) where
       by-word : (t : WordToken) (w : Word) (r : Reader) →
           andThen spellTerm (with-word t w r) ≡ admitted D (dueTerm (suc k) S) (t .place) (tokenOf (just w)) r
       by-word t (termWord w) r = term-word D small k S (t .place) w r
-      by-word t (formulaWord w) r = rw (formula-code w .0, formula-code w .1)
+      by-word t (formulaWord w) r =
+          let c = formula-code w in
+          rw (ne-eqb (formulaCode w) badConstantCode (λ q. omega arith), under firstTerm lastTerm (formulaCode w) (omega arith))
+      by-word t (numberWord n) r = refl
       by-word t unknown r = refl
 
   step-binder : (κ : ℕ → Parser (List Token)) (ds : ℕ → List Due) → ((l : ℕ) (r : Reader) → κ l r ≡ left D (ds l) (token localCode l ∷ []) r) →
-      (r : Reader) → (binder D (suc k) >>= κ) r ≡ (readToken (D .edition) >>= λ t. admitLocal D ds (t .place) (tokenOf (just (t .word)))) r
+      (r : Reader) → (binder D (suc k) >>= κ) r ≡ (readToken (wordOf (D .edition)) >>= λ t. admitLocal D ds (t .place) (tokenOf (just (t .word)))) r
   unfolding binder faultOf tokenOf
   step-binder κ ds brings r =
-      then-assoc (λ t. binderWith D t (t .word)) κ (readToken (D .edition) r) ∙
-      then-same (λ t r′. by-word t (t .word) r′) (readToken (D .edition) r)
+      then-assoc (λ t. binderWith D t (t .word)) κ (readToken (wordOf (D .edition)) r) ∙
+      then-same (λ t r′. by-word t (t .word) r′) (readToken (wordOf (D .edition)) r)
     where
       by-word : (t : WordToken) (w : Word) (r : Reader) → andThen κ (binderWith D t w r) ≡ admitLocal D ds (t .place) (tokenOf (just w)) r
       by-word t (termWord w) r = binder-word D ds small κ brings (t .place) w r
-      by-word t (formulaWord w) r = rw (formula-code w .0, formula-code w .2)
+      by-word t (formulaWord w) r =
+          let c = formula-code w in
+          rw (ne-eqb (formulaCode w) badConstantCode (λ q. omega arith), ne-eqb (formulaCode w) localCode (λ q. omega arith))
+      by-word t (numberWord n) r = refl
       by-word t unknown r = refl
 
-  pub step-ex : (r : Reader) → parse D (dueEx (suc k) S) r ≡ (readToken (D .edition) >>= admits D (dueEx (suc k) S)) r
+  pub step-ex : (r : Reader) → parse D (dueEx (suc k) S) r ≡ (readToken (wordOf (D .edition)) >>= admits D (dueEx (suc k) S)) r
   unfolding parse admitted opens faultOf
   step-ex r = step-binder (readEx D (suc k) S) (λ l. dueFormula (suc k) (l ∷ S) ∷ []) (ex-brings D (suc k) S) r
 
-  pub step-range : (r : Reader) → parse D (dueRange (suc k) S) r ≡ (readToken (D .edition) >>= admits D (dueRange (suc k) S)) r
+  pub step-range : (r : Reader) → parse D (dueRange (suc k) S) r ≡ (readToken (wordOf (D .edition)) >>= admits D (dueRange (suc k) S)) r
   unfolding parse admitted opens faultOf
   step-range r =
       step-binder (readRange D (suc k) S) (λ l. dueTerm (suc k) S ∷ dueTerm (suc k) S ∷ dueFormula (suc k) (l ∷ S) ∷ [])
       (range-brings D (suc k) S) r
+
+  -- ---- a procedure's number
+
+  -- its refusal: only 11
+  fault-number : (n K : ℕ) (B : Locals) → n ≤ maxParameters →
+      faultOf D (dueProcedure (suc k) S) B (token (procedureCode + n) K) ≡ pick (ltb K (length (D .procedures))) 0 11
+  unfolding faultOf declared undeclared
+  fault-number n K B h =
+      rw (
+        ne-eqb (procedureCode + n) badConstantCode (λ q. omega arith),
+        ne-eqb (procedureCode + n) scalarCode (λ q. omega arith),
+        ne-eqb (procedureCode + n) localCode (λ q. omega arith),
+        ne-eqb (procedureCode + n) arrayCode (λ q. omega arith),
+        ne-eqb (procedureCode + n) parameterCode (λ q. omega arith),
+        inside procedureCode lastCode (procedureCode + n) (omega arith) (omega arith),
+      )
+
+  number-opens : (n K : ℕ) → opens (dueProcedure (suc k) S) (token (procedureCode + n) K) ≡ replicate n (dueTerm (suc k) S)
+  unfolding opens dues dueBy
+  number-opens n K = rw (number-operands n)
+
+  -- the token of a procedure's number
+  abbrev number : ℕ → Token
+  number K = token (procedureCode + procedureOf D K .parameters) K
+
+  number-word : (p K : ℕ) (r : Reader) →
+      andThen (readCall D (suc k) S) (require (ltb K (length (D .procedures))) 11 p (give K) r) ≡
+      admitted D (dueProcedure (suc k) S) p (number (indexWord K)) r
+  unfolding admitted
+  number-word p K r =
+      rw (fault-number (procedureOf D (indexWord K) .parameters) (indexWord K) (r .bound) (small .each (indexWord K)))
+      (declared-index (readCall D (suc k) S) p 10 K (length (D .procedures)) (give K) (λ i. 0)
+      (λ i. left D (opens (dueProcedure (suc k) S) (number i)) (number i ∷ []) r) r (omega (arith, small .procedures))
+      (call-brings D (suc k) S K r ∙ rw (number-opens (procedureOf D K .parameters) K)))
+
+  pub step-procedure : (r : Reader) → parse D (dueProcedure (suc k) S) r ≡ (readToken numberOf >>= admits D (dueProcedure (suc k) S)) r
+  unfolding parse procedure admitted faultOf tokenOf
+  step-procedure r =
+      then-assoc (λ t. procedureWith D t (t .word)) (readCall D (suc k) S) (readToken numberOf r) ∙
+      then-same (λ t r′. by-word t (t .word) r′) (readToken numberOf r)
+    where
+      by-word : (t : WordToken) (w : Word) (r : Reader) →
+          andThen (readCall D (suc k) S) (procedureWith D t w r) ≡
+          admitted D (dueProcedure (suc k) S) (t .place) (tokenBy D (dueProcedure (suc k) S) w) r
+      by-word t (numberWord K) r = number-word (t .place) K r
+      by-word t (formulaWord w) r =
+          let c = formula-code w in
+          rw (
+            ne-eqb (formulaCode w) procedureCode (λ q. omega arith),
+            ne-eqb (formulaCode w) badConstantCode (λ q. omega arith),
+            under procedureCode lastCode (formulaCode w) (omega arith),
+          )
+      by-word t (termWord w) r =
+          let c = term-code w in
+          rw (
+            ne-eqb (termToken w .code) procedureCode (λ q. omega arith),
+            ne-eqb (termToken w .code) badConstantCode (λ q. omega arith),
+            under procedureCode lastCode (termToken w .code) (omega arith),
+          )
+      by-word t unknown r = refl

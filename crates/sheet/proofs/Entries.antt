@@ -1,15 +1,15 @@
 -- Laws of the stack: an entry put on top, and what is beside the stack. Assumes nothing.
-use Prim.Native.Nat.{ℕ, _+_, _<_, _≤_}
+use Prim.Native.Nat.{ℕ, suc, _+_, _-_, _<_, _≤_}
 use native.Mathlib.Omega.{arith}
-use mathlib.Core.Path.{_≡_, refl, _∙_}
-use mathlib.Core.List.{List, [], _∷_}
-use lib.ListN.{length, getD, set, length-set}
+use mathlib.Core.Path.{_≡_, refl, subst, _∙_}
+use mathlib.Core.List.{List, [], _∷_, _++_}
+use lib.ListN.{length, getD, set, replicate, length-set, length-append, length-replicate}
 use lib.Seq.{getD-set-same, getD-set-other}
-use Rattle.tables.specs.Layout.{maxDues, dueSlot, duesAt}
+use Rattle.tables.specs.Layout.{maxDues, dueSlot, duesAt, pathAt}
 use Rattle.sheet.specs.declared.stack.Entry.{Entry}
 use Rattle.sheet.specs.Dues.{Due}
 use Rattle.sheet.specs.Tables.{Words}
-use Rattle.sheet.specs.Stack.{Means, entry, entryAt, entered, Stacked, Beside}
+use Rattle.sheet.specs.Stack.{Means, entry, entryAt, entered, Stacked, Beside, Repeated}
 
 -- ---- one entry
 
@@ -84,3 +84,30 @@ beside-put w n e h = record {
   below = λ j l. entered-other w n e j (λ r. omega arith) (λ r. omega arith) (λ r. omega arith);
   above = λ j l. entered-other w n e j (λ r. omega arith) (λ r. omega arith) (λ r. omega arith);
 }
+
+-- ---- the same entry more than once
+
+module _ (w : Words) (n : ℕ) (e : Entry) where
+  pub repeated-none : Repeated w w n e 0
+  repeated-none = record { beside = beside-self w; stack = λ d ds m q s. s }
+
+  pub repeated-more : (w′ : Words) (i : ℕ) → n + i < maxDues → pathAt ≤ length w → Repeated w w′ n e i → Repeated w (entered w′ (n + i) e) n e (suc i)
+  repeated-more w′ i h l p = record {
+    beside = beside-then (p .beside) (beside-put w′ (n + i) e h);
+    stack = λ d ds m q s.
+        let k : length (replicate i d ++ ds) ≡ n + i = rw (length-append, length-replicate) (omega arith) in
+        stacked-put w′ d (replicate i d ++ ds) (n + i) e k (omega (arith, p .beside .long)) m (p .stack d ds m q s);
+  }
+
+  -- by the place of the next: i - n were put
+  pub repeated-start : Repeated w w n e (n - n)
+  repeated-start = let z : n - n ≡ 0 = omega arith in rw z repeated-none
+
+  pub repeated-next : (w′ : Words) (i : ℕ) → n ≤ i → i < maxDues → pathAt ≤ length w → Repeated w w′ n e (i - n) → Repeated w (entered w′ i e) n e (i + 1 - n)
+  repeated-next w′ i l h k p =
+      let at : n + (i - n) ≡ i = omega arith in
+      let more : i + 1 - n ≡ suc (i - n) = omega arith in
+      rw more (subst (λ j. Repeated w (entered w′ j e) n e (suc (i - n))) at (repeated-more w′ (i - n) (omega arith) k p))
+
+  pub repeated-end : (w′ : Words) (count i : ℕ) → i ≡ n + count → Repeated w w′ n e (i - n) → Repeated w w′ n e count
+  repeated-end w′ count i q p = let z : i - n ≡ count = omega arith in rw z at p

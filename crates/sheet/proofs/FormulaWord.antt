@@ -1,21 +1,23 @@
--- The operands of each formula word, and what a binder's local brings, are what is made due. Assumes nothing.
-use Prim.Native.Nat.{ℕ, suc}
+-- The operands of each formula word, and what a binder's local or a procedure's number brings, are what is made due. Assumes nothing.
+use Prim.Native.Nat.{ℕ, suc, _+_}
 use mathlib.Core.Path.{_≡_, refl, sym}
 use mathlib.Core.List.{List, [], _∷_, _++_, append-assoc}
 use mathlib.Core.Option.{some as just}
+use lib.ListN.{length, replicate}
 use Rattle.specification.specs.Parser.{Reader, Parser, give, andThen, _>>=_}
-use Rattle.specification.specs.Lines.{Declared}
-use Rattle.specification.specs.Ast.{Rel, ne, lt, le, gt, ge, Term, Formula, and, or, imp, neg, eq, compare, ex, some, all}
-use Rattle.specification.specs.Words.{FormulaWord, trueWord, andWord, orWord, impWord, notWord, eqWord, exWord, someWord, allWord, relWord, formulaWord}
-use Rattle.specification.specs.Formula.{Locals, operand, binder, term, formulaOf, formula}
-use Rattle.tables.specs.Codes.{trueCode, andCode, orCode, impCode, notCode, eqCode, exCode, someCode, allCode, localCode}
+use Rattle.specification.specs.Lines.{Declared, procedureOf}
+use Rattle.specification.specs.Ast.{Rel, ne, lt, le, gt, ge, Term, Formula, and, or, imp, neg, eq, compare, ex, some, all, call}
+use Rattle.specification.specs.Fill.{fill}
+use Rattle.specification.specs.Words.{FormulaWord, trueWord, andWord, orWord, impWord, notWord, eqWord, exWord, someWord, allWord, callWord, relWord, formulaWord}
+use Rattle.specification.specs.Formula.{Locals, operand, binder, procedure, term, arguments, formulaOf, formula}
+use Rattle.tables.specs.Codes.{trueCode, andCode, orCode, impCode, notCode, eqCode, exCode, someCode, allCode, callCode, localCode, procedureCode}
 use Rattle.sheet.specs.declared.Token.{Token}
-use Rattle.sheet.specs.Codes.{token, relCode, tokenOf, termTokens, formulaTokens}
-use Rattle.sheet.specs.Sorts.{operandsOf}
-use Rattle.sheet.specs.Dues.{dueFormula, dueTerm, dueEx, dueRange, parse}
-use Rattle.sheet.specs.Turn.{declared, faultOf, dueBy, dues, opens, left}
+use Rattle.sheet.specs.Codes.{token, relCode, tokenOf, termTokens, termsTokens, formulaTokens}
+use Rattle.sheet.specs.Sorts.{wordOperands, operandsOf}
+use Rattle.sheet.specs.Dues.{dueFormula, dueTerm, dueProcedure, dueEx, dueRange, parse}
+use Rattle.sheet.specs.Turn.{declared, undeclared, faultOf, dueBy, dues, opens, left}
 use Rattle.sheet.proofs.Left.{then-both, left-none}
-use Rattle.sheet.proofs.Operands.{admitted, spellFormula, spellTerm, first-due, first-then, one-due, two-formulas, two-terms}
+use Rattle.sheet.proofs.Operands.{admitted, spellFormula, spellTerm, first-due, first-then, one-due, two-formulas, two-terms, arguments-due}
 
 module _ (D : Declared) (k : ℕ) (S : Locals) where
   -- ---- binders
@@ -87,6 +89,34 @@ module _ (D : Declared) (k : ℕ) (S : Locals) where
       rest : List Token → Parser (List Token)
       rest xs = left D [] (t ∷ xs)
 
+  -- ---- calls
+
+  -- the arguments of a call of procedure J, and the tokens from its number on
+  abbrev pub given : ℕ → Parser (List Term)
+  given J = arguments D (term D k S) (procedureOf D J .parameters)
+
+  abbrev pub spellCall : ℕ → List Term → Parser (List Token)
+  spellCall J ts = give (token (procedureCode + length ts) J ∷ termsTokens ts)
+
+  abbrev pub readCall : ℕ → Parser (List Token)
+  readCall J = given J >>= λ ts. spellCall J ts
+
+  pub call-brings : (J : ℕ) (r : Reader) → let n = procedureOf D J .parameters in
+      readCall J r ≡ left D (replicate n (dueTerm k S)) (token (procedureCode + n) J ∷ []) r
+  call-brings J r =
+      let n = procedureOf D J .parameters in
+      arguments-due D k S n (λ ts. spellCall J ts) (token (procedureCode + n) J ∷ []) (λ ts r₁ e. rw e) r
+
+  calling : (r : Reader) →
+      andThen spellFormula ((operand (procedure D k) >>= λ J. given J >>= λ ts. give (call J ts (fill ts (procedureOf D J .formula)))) r) ≡
+      left D (dueProcedure k S ∷ []) (token callCode 0 ∷ []) r
+  unfolding parse formulaTokens
+  calling =
+      first-then D (dueProcedure k S) (procedure D k) readCall (λ r. refl) spellFormula
+      (λ J. given J >>= λ ts. give (call J ts (fill ts (procedureOf D J .formula)))) [] (token callCode 0 ∷ []) λ J r.
+      then-both (λ ts. give (call J ts (fill ts (procedureOf D J .formula)))) spellFormula (λ ts. spellCall J ts) (λ xs. left D [] (token callCode 0 ∷ xs))
+      (λ ts r₁. sym (left-none D (token callCode 0 ∷ token (procedureCode + length ts) J ∷ termsTokens ts) r₁)) (given J r)
+
   -- ---- each word
 
   relation : (n : ℕ) (c : Rel) (r : Reader) → andThen spellFormula ((bound >>= λ x. bound >>= λ y. give (compare n c x y)) r) ≡
@@ -95,9 +125,9 @@ module _ (D : Declared) (k : ℕ) (S : Locals) where
   relation n c = two-terms D k S formulaTokens (compare n c) (token (relCode c) 0) (λ x y. refl)
 
   pub formula-word : (p n : ℕ) (w : FormulaWord) (r : Reader) →
-      andThen spellFormula (formulaOf D (λ S′ r. formula D k S′ r) (λ r. term D k S r) (λ r. binder D k r) S n w r) ≡
+      andThen spellFormula (formulaOf D (λ S′ r. formula D k S′ r) (λ r. term D k S r) (λ r. binder D k r) (λ r. procedure D k r) S n w r) ≡
       admitted D (dueFormula (suc k) S) p (tokenOf (just (formulaWord w))) r
-  unfolding admitted faultOf declared opens operandsOf dues dueBy tokenOf parse formulaTokens
+  unfolding admitted faultOf declared undeclared opens operandsOf wordOperands dues dueBy tokenOf parse formulaTokens
   formula-word p n trueWord r = sym (left-none D (token trueCode 0 ∷ []) r)
   formula-word p n andWord r = two-formulas D k S and (token andCode 0) (λ F G. refl) r
   formula-word p n orWord r = two-formulas D k S or (token orCode 0) (λ F G. refl) r
@@ -113,3 +143,4 @@ module _ (D : Declared) (k : ℕ) (S : Locals) where
   formula-word p n exWord r = existential r
   formula-word p n someWord r = quantified (some n) (token someCode 0) (λ l a b F. refl) r
   formula-word p n allWord r = quantified (all n) (token allCode 0) (λ l a b F. refl) r
+  formula-word p n callWord r = calling r

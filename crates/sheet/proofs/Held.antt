@@ -4,16 +4,16 @@ use native.Mathlib.Omega.{arith}
 use mathlib.Core.Path.{_≡_, refl, sym, _∙_, subst}
 use mathlib.Core.List.{List, [], _∷_, _++_, append-assoc}
 use lib.ListN.{length, length-append}
-use Rattle.specification.specs.Ast.{Term, constant, scalarAt, localAt, elementAt, apply, Formula, truth, and, or, imp, neg, eq, compare, ex, some, all}
+use Rattle.specification.specs.Ast.{Term, constant, scalarAt, localAt, parameter, elementAt, apply, Formula, truth, and, or, imp, neg, eq, compare, ex, some, all, call}
 use Rattle.values.specs.Word.{biased}
 use Rattle.tables.specs.Layout.{maxTokens}
-use Rattle.tables.specs.Codes.{trueCode, andCode, orCode, impCode, notCode, eqCode, exCode, someCode, allCode, constantCode, scalarCode, localCode, arrayCode}
+use Rattle.tables.specs.Codes.{trueCode, andCode, orCode, impCode, notCode, eqCode, exCode, someCode, allCode, callCode, constantCode, scalarCode, localCode, arrayCode, parameterCode, procedureCode}
 use Rattle.sheet.specs.declared.Token.{Token}
-use Rattle.sheet.specs.Codes.{token, opCode, relCode, termTokens, formulaTokens}
+use Rattle.sheet.specs.Codes.{token, opCode, relCode, termTokens, termsTokens, formulaTokens}
 use Rattle.sheet.specs.Tables.{Words}
-use Rattle.sheet.specs.Held.{operandAt, endAt, TokenAt, TermAt, TermsAt, LocalAt, FormulaAt}
-use Rattle.sheet.specs.Numbered.{termSize, formulaSize, Numbered}
-use Rattle.sheet.proofs.After.{Subtrees, term-subtree, formula-subtree}
+use Rattle.sheet.specs.Held.{operandAt, endAt, TokenAt, TermAt, TermsAt, ArgumentsAt, LocalAt, FormulaAt}
+use Rattle.sheet.specs.Numbered.{termSize, termsSize, formulaSize, Numbered}
+use Rattle.sheet.proofs.After.{Subtrees, term-subtree, number-subtree, formula-subtree}
 use Rattle.sheet.proofs.Numbered.{renumbered}
 use Rattle.sheet.proofs.Laid.{Along, Entry, subtree}
 
@@ -76,6 +76,7 @@ module _ (w : Words) where
   term-at (constant z) rest i a h = leaf (token constantCode (biased z)) rest i (term-subtree (constant z)) a h
   term-at (scalarAt c) rest i a h = leaf (token scalarCode c) rest i (term-subtree (scalarAt c)) a h
   term-at (localAt l) rest i a h = leaf (token localCode l) rest i (term-subtree (localAt l)) a h
+  term-at (parameter n) rest i a h = leaf (token parameterCode n) rest i (term-subtree (parameter n)) a h
   term-at (elementAt b t) rest i a h = (
     one-operand (token arrayCode b) (termTokens t) rest i (term-subtree (elementAt b t)) (term-subtree t) a h,
     a .0 .operand,
@@ -85,6 +86,19 @@ module _ (w : Words) where
       let whole = term-subtree (apply o s t) in
       let p = two-operands (token (opCode o) 0) (termTokens s) (termTokens t) rest i whole (term-subtree s) (term-subtree t) a h in
       (p .head, term-at s (termTokens t ++ rest) (suc i) (p .first) (p .few), term-at t rest (endAt w (suc i)) (p .second) (p .fewer))
+
+  -- one after the other
+  arguments-at : (ts : List Term) (rest : List Token) (i e : ℕ) → Laid i (termsTokens ts ++ rest) → e ≡ i + termsSize ts → e ≤ maxTokens →
+      ArgumentsAt w i e ts
+  unfolding termsTokens
+  arguments-at [] rest i e a q h = omega arith
+  arguments-at (t ∷ ts) rest i e a q h =
+      let l = length-append (termTokens t) (termsTokens ts) in
+      let b : Laid i (termTokens t ++ (termsTokens ts ++ rest)) = rw (append-assoc (termTokens t) (termsTokens ts) rest) at a in
+      let first = subtree w (termTokens t) (termsTokens ts ++ rest) i (term-subtree t) b in (
+        term-at t (termsTokens ts ++ rest) i b (omega (arith, l)),
+        arguments-at ts rest (endAt w i) e (first .1) (omega (arith, l, first .0)) h,
+      )
 
   -- ---- formulas
 
@@ -196,3 +210,11 @@ module _ (w : Words) where
       let p = range allCode l x y (formulaTokens F) rest i (formula-subtree (all m l x y F)) (formula-subtree F) a h in
       let f = formula-at F rest (endAt w (endAt w (suc (suc i)))) (p .body) (renumbered F (p .start) (n .1)) (p .few) in
       (p .head, n .0, p .binds, p .bounds, f)
+  formula-at (call K ts F) rest i a n h =
+      let number = token (procedureCode + length ts) K in
+      let e = subtree w (number ∷ termsTokens ts) rest (suc i) (number-subtree K ts) (a .1) .0 in (
+        token-at (token callCode 0) (number ∷ termsTokens ts) rest i (endAt w (suc i)) (formula-subtree (call K ts F)) a (omega arith) (omega arith),
+        token-at number (termsTokens ts) rest (suc i) (endAt w (suc i)) (number-subtree K ts) (a .1) (omega arith) (omega arith),
+        a .1 .0 .operand,
+        arguments-at ts rest (suc (suc i)) (endAt w (suc i)) (a .1 .1) (omega arith) (omega arith),
+      )

@@ -1,15 +1,15 @@
 -- Laws of the readers of keys and marks that the first five lines share: parts of the sheet, keys byte by byte, a reader that goes on after
 -- a key or a mark, and a line's end. Assumes nothing.
 use Prim.Native.Nat.{ℕ, suc, _+_, _-_, _<_, _≤_}
-use mathlib.Core.Path.{_≡_, sym, ap, _∙_}
+use mathlib.Core.Path.{_≡_, refl, sym, ap, _∙_}
 use mathlib.Core.Bool.{Bool, true, false, _&&_}
 use mathlib.Core.List.{[], _∷_}
 use native.Mathlib.Numerals.{add-one}
 use native.Mathlib.Omega.{arith}
-use lib.Dec.{eqb}
+use lib.Dec.{eqb, ltb}
 use lib.ListN.{length, getD, take, drop, drop-of-length-le, length-drop}
 use lib.Seq.{drop-cons, drop-drop, drop-length, take-length}
-use borrow.Author.Tests.{eq-eqb, ne-eqb}
+use borrow.Author.Tests.{eq-eqb, ne-eqb, ltb-true, ltb-false}
 use Rattle.specification.specs.Bytes.{Bytes, Class, feed, classNumber, begins}
 use Rattle.specification.specs.Parser.{Read, refused, found, Parser, andThen, _>>_, give, mark, exactly}
 use Rattle.specification.proofs.Laws.Contradiction.{contradiction}
@@ -88,13 +88,32 @@ module _ (s : Bytes) (at : ℕ) where
 
 -- ---- the end of a line
 
--- after what was read on it
+-- after what was read on it comes a byte of a class: a line feed, or a colon before a procedure's formula
+abbrev pub closedWith : {A : Type 0} → Class → Read A → Read A
+closedWith c r = andThen (λ a. mark c >> give a) r
+
 abbrev pub closed : {A : Type 0} → Read A → Read A
-closed r = andThen (λ a. mark feed >> give a) r
+closed r = closedWith feed r
 
 module _ (s : Bytes) (e : ℕ) {A : Type 0} (a : A) where
+  module _ (c : Class) where
+    pub closed-with-yes : classAt s e ≡ classNumber c → found a (lineAt s (e + 1)) ≡ closedWith c (found a (lineAt s e))
+    closed-with-yes h = sym (mark-yes s e c (give a) h)
+
+    pub closed-with-no : (classAt s e ≡ classNumber c → ⊥) → refused 5 e ≡ closedWith c (found a (lineAt s e))
+    closed-with-no h = sym (mark-no s e c (give a) h)
+
   pub closed-yes : classAt s e ≡ classNumber feed → found a (lineAt s (e + 1)) ≡ closed (found a (lineAt s e))
-  closed-yes h = sym (mark-yes s e feed (give a) h)
+  closed-yes h = closed-with-yes feed h
 
   pub closed-no : (classAt s e ≡ classNumber feed → ⊥) → refused 5 e ≡ closed (found a (lineAt s e))
-  closed-no h = sym (mark-no s e feed (give a) h)
+  closed-no h = closed-with-no feed h
+
+-- a byte of a class lies within the sheet
+pub class-below : (s : Bytes) (e : ℕ) → classAt s e < 10 → e < length s
+unfolding classAt
+class-below s e h = by (ltb e (length s)) refl
+  where
+    by : (t : Bool) → ltb e (length s) ≡ t → e < length s
+    by true q = ltb-true e (length s) q
+    by false q = absurd (omega (arith, ap headClass (drop-of-length-le s {i = e} (ltb-false e (length s) q))))

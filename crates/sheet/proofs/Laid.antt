@@ -7,15 +7,12 @@ use mathlib.Core.Logic.{_≢_}
 use mathlib.Core.List.{List, [], _∷_, _++_}
 use lib.ListN.{length, getD, set, length-set, length-append}
 use lib.Seq.{getD-set-same, getD-set-other}
-use Rattle.specification.proofs.Laws.Contradiction.{contradiction}
 use Rattle.tables.specs.Layout.{tokenSlot}
-use Rattle.tables.specs.Codes.{trueCode}
 use Rattle.sheet.specs.declared.Token.{Token}
-use Rattle.sheet.specs.Codes.{token}
 use Rattle.sheet.specs.Sorts.{arity}
 use Rattle.sheet.specs.Tables.{Words, laidTokens, after, laidEnds}
 use Rattle.sheet.specs.Held.{codeAt, operandAt, endAt}
-use Rattle.sheet.proofs.After.{Subtrees, after-subtree}
+use Rattle.sheet.proofs.After.{Subtrees, after-subtree, some-token}
 
 -- the end of the subtree of token i, where the tokens ts follow
 abbrev pub endOf : ℕ → Token → List Token → ℕ
@@ -136,7 +133,7 @@ module _ (w : Words) where
 
   first-end : (xs rest : List Token) (i : ℕ) → Subtrees 1 xs → Along (Entry w) i (xs ++ rest) → endAt w i ≡ i + length xs
   unfolding Along after
-  first-end [] rest i s a = contradiction (ap length (s (token trueCode 0 ∷ []) 0))
+  first-end [] rest i s a = absurd (omega (arith, some-token [] s))
   first-end (t ∷ xs) rest i s a =
       let f : after (xs ++ rest) (arity (t .code)) ≡ rest =
       ap (after (xs ++ rest)) (sym (add-zero (arity (t .code)))) ∙ after-subtree (t ∷ xs) rest s in

@@ -1,13 +1,13 @@
 -- The laws of the reader's definitions, in the order in which they lean on each other.
 -- the list of what is due
 pub mod Left
+pub mod Ranges
+pub mod CodeOperands
 pub mod Operands
 pub mod FormulaWord
 pub mod TermWord
 pub mod Dues
 pub mod Turn
-pub mod Ranges
-pub mod CodeOperands
 pub mod Bounds
 -- the numbers of tokens
 pub mod Counted
@@ -17,9 +17,12 @@ pub mod After
 pub mod Laid
 pub mod Held
 pub mod Regions
+pub mod Procs
 pub mod Tables
-pub mod ReadSheet
 pub mod Shallow
+pub mod Stays
+pub mod Bodies
+pub mod ReadSheet
 -- the first five lines
 pub mod Keys
 pub mod Answers
@@ -29,9 +32,10 @@ pub mod CellNames
 pub mod GivenItems
 pub mod GivenLine
 pub mod Declares
--- the formula's line
+-- a formula's line
 pub mod Packed
 pub mod Lexed
+pub mod Spelt
 pub mod Bits
 pub mod Entries
 pub mod Opened
@@ -41,8 +45,12 @@ pub mod Loop
 pub mod Scan
 pub mod Subtrees
 pub mod FormulaRest
--- the six lines in order
-pub mod SixLines
+-- the lines in order
+pub mod FirstLines
+pub mod AllLines
+pub mod Alike
+pub mod ProcedureLines
+pub mod ProcedureBody
 pub mod Cleared
 -- for the walks by hand
 pub mod Standing

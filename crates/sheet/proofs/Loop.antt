@@ -15,18 +15,20 @@ use Rattle.text.specs.Class.{classAt}
 use Rattle.text.proofs.Laws.Class.{class-next, class-not-next, class-inside}
 use Rattle.tables.specs.Layout.{maxTokens, maxNesting, maxDues, pathAt}
 use Rattle.sheet.specs.declared.Token.{Token}
+use Rattle.sheet.specs.declared.formula.Limits.{Limits}
 use Rattle.sheet.specs.Reader.{readerAt}
 use Rattle.sheet.specs.Sorts.{formulaSort}
 use Rattle.sheet.specs.Dues.{Due, dueFormula}
 use Rattle.sheet.specs.Turn.{room, left, leftHere, Fits}
 use Rattle.sheet.specs.Tables.{Words, laidTokens}
 use Rattle.sheet.specs.Stack.{Bits, entry, entered, Stacked, Beside}
-use Rattle.sheet.specs.FormulaLine.{Counts, Begin, whole, Through}
+use Rattle.sheet.specs.FormulaLine.{Small, Sized, Known, Begin, whole, Through}
 use Rattle.sheet.proofs.Left.{left-none, left-space, left-no-space}
 use Rattle.sheet.proofs.Bounds.{fits-start, fits-length}
 use Rattle.sheet.proofs.Bits.{bits-none}
 use Rattle.sheet.proofs.Entries.{stacked-put, beside-self, beside-then, beside-put}
 use Rattle.sheet.proofs.Beside.{beside-tokens}
+use Rattle.sheet.proofs.Procs.{sized-same, known-same}
 
 -- ---- what the variables stand for
 
@@ -47,7 +49,7 @@ module _ (b : Begin) (w₀ w : Words) (n count bound at : ℕ) where
     pub fits : Fits (due ∷ dues)
     pub stack : Stacked w (due ∷ dues)
     pub table : Beside (laidTokens (b .tokens) read w₀) w
-    pub rest : (D : Declared) → Counts (b .limits) D → whole b D ≡ leftHere D due dues read (readerAt (b .bytes) at count locals)
+    pub rest : (D : Declared) → Known (b .limits) w₀ D → whole b D ≡ leftHere D due dues read (readerAt (b .bytes) at count locals)
 
   -- behind a token
   pub record Taken : Type 0 where
@@ -63,7 +65,7 @@ module _ (b : Begin) (w₀ w : Words) (n count bound at : ℕ) where
     pub fits : Fits dues
     pub stack : Stacked w dues
     pub table : Beside (laidTokens (b .tokens) read w₀) w
-    pub rest : (D : Declared) → Counts (b .limits) D → whole b D ≡ left D dues read (readerAt (b .bytes) at count locals)
+    pub rest : (D : Declared) → Known (b .limits) w₀ D → whole b D ≡ left D dues read (readerAt (b .bytes) at count locals)
 
 -- ---- the start
 
@@ -108,7 +110,7 @@ module _ {b : Begin} {w₀ w : Words} {n count bound e : ℕ} (i : Taken b w₀ 
       none (d ∷ ds) q = absurd (omega arith)
 
   module _ (h : n ≡ 0 → ⊥) where
-    pub taken-stops : (classAt (b .bytes) e ≡ 3 → ⊥) → (D : Declared) → Counts (b .limits) D → whole b D ≡ refused 5 e
+    pub taken-stops : (classAt (b .bytes) e ≡ 3 → ⊥) → (D : Declared) → Known (b .limits) w₀ D → whole b D ≡ refused 5 e
     unfolding classNumber
     taken-stops c D g = i .rest D g ∙ by (i .dues) (i .depth)
       where
@@ -121,7 +123,7 @@ module _ {b : Begin} {w₀ w : Words} {n count bound e : ℕ} (i : Taken b w₀ 
     taken-next c = by (i .dues) (i .depth) (i .fits) (i .stack) (i .rest)
       where
         by : (ds : List Due) → n ≡ length ds → Fits ds → Stacked w ds →
-            ((D : Declared) → Counts (b .limits) D → whole b D ≡ left D ds (i .read) (readerAt (b .bytes) e count (i .locals))) → Reading b w₀ w n count bound (e + 1)
+            ((D : Declared) → Known (b .limits) w₀ D → whole b D ≡ left D ds (i .read) (readerAt (b .bytes) e count (i .locals))) → Reading b w₀ w n count bound (e + 1)
         by [] q f k r = absurd (h q)
         by (d ∷ ds) q f k r = record {
           locals = i .locals;
@@ -142,6 +144,12 @@ module _ {b : Begin} {w₀ w : Words} {n count bound e : ℕ} (i : Taken b w₀ 
         }
 
 -- the words before the first entry was put
+pub known-start : {l : Limits} {D : Declared} (w w₀ : Words) → w₀ ≡ entered w 0 (entry formulaSort maxNesting 0) → Known l w D → Known l w₀ D
+known-start w w₀ q g = known-same w w₀ (λ j a c. rw q (beside-put w 0 (entry formulaSort maxNesting 0) (omega arith) .below j c)) g
+
+pub sized-start : {l : Limits} (w w₀ : Words) → w₀ ≡ entered w 0 (entry formulaSort maxNesting 0) → Small l → Sized l w → Sized l w₀
+sized-start w w₀ q s h = sized-same w w₀ (λ j a c. rw q (beside-put w 0 (entry formulaSort maxNesting 0) (omega arith) .below j c)) s h
+
 pub through-start : {b : Begin} {w₀ w w′ : Words} {n e m : ℕ} → w₀ ≡ entered w 0 (entry formulaSort maxNesting 0) → pathAt ≤ length w →
     Through b w₀ w′ n e m → Through b w w′ n e m
 through-start {b} {w = w} q h p =
@@ -154,5 +162,5 @@ through-start {b} {w = w} q h p =
       within = p .within;
       set = p .set;
       words = beside-then (beside-tokens (p .tokens) (b .tokens) (omega (arith, p .count, p .few)) (rw q put)) (p .words);
-      all = p .all;
+      all = λ D g. p .all D (known-start w _ q g);
     }

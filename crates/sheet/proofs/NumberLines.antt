@@ -9,10 +9,10 @@ use lib.IntN.{ℤ}
 use lib.ListN.{length, take, drop, length-drop}
 use lib.Seq.{drop-drop, length-take-le}
 use borrow.Author.Tests.{leb-true, leb-false, le-leb, lt-leb}
-use Rattle.specification.specs.Bytes.{Bytes, pick, between, inNumber, run, begins}
+use Rattle.specification.specs.Bytes.{Bytes, Class, pick, between, inNumber, run, begins}
 use Rattle.specification.specs.Number.{natural, integer, in32}
 use Rattle.specification.specs.Parser.{Reader, Read, refused, found, present, require, andThen, give, taken}
-use Rattle.specification.specs.Lines.{index, count, value, line}
+use Rattle.specification.specs.Lines.{index, count, value}
 use Rattle.specification.proofs.Laws.Contradiction.{contradiction}
 use Rattle.text.specs.Decimal.{capped, worded}
 use Rattle.text.specs.declared.Decimal.the-variants as decimal
@@ -24,8 +24,8 @@ use Rattle.sheet.specs.declared.lines.Index.{Index}
 use Rattle.sheet.specs.declared.lines.Index.the-variants as indexed
 use Rattle.sheet.specs.declared.lines.Count.{Count}
 use Rattle.sheet.specs.Reader.{lineAt}
-use Rattle.sheet.specs.Answers.{heldIndex, indexRead, countRead}
-use Rattle.sheet.proofs.Keys.{exactly-yes, exactly-no, closed}
+use Rattle.sheet.specs.Answers.{numberTo, heldIndex, indexRead, countRead}
+use Rattle.sheet.proofs.Keys.{exactly-yes, exactly-no, closedWith}
 
 -- ---- numerals
 
@@ -141,15 +141,13 @@ module _ (s : Bytes) (at lo hi : ℕ) (few : hi < 4294967295) where
       pub count-within : lo ≤ n → n ≤ hi → found n (lineAt s e) ≡ count lo hi (lineAt s at)
       count-within l h = rw (le-leb lo n l, le-leb n hi h) at (count-read (indexed.Is n e) told)
 
--- ---- lines
+-- ---- a key and a number, up to a byte of the class
 
-module _ (s key : Bytes) (at lo hi : ℕ) where
-  pub line-no : begins key (drop at s) ≡ false → refused 3 at ≡ line key lo hi (lineAt s at)
-  unfolding line
+module _ (s key : Bytes) (at lo hi : ℕ) (c : Class) where
+  pub line-no : begins key (drop at s) ≡ false → refused 3 at ≡ numberTo key lo hi c (lineAt s at)
   line-no h = sym (exactly-no s at key 3 _ h)
 
   -- of what the count is told to be
   pub line-yes : begins key (drop at s) ≡ true → (x y : Count) → countRead s x ≡ count lo hi (lineAt s (at + length key)) → x ≡ y
-      → closed (countRead s y) ≡ line key lo hi (lineAt s at)
-  unfolding line
-  line-yes h x y is told = ap closed (ap (countRead s) (sym told) ∙ is) ∙ sym (exactly-yes s at key 3 _ h)
+      → closedWith c (countRead s y) ≡ numberTo key lo hi c (lineAt s at)
+  line-yes h x y is told = ap (closedWith c) (ap (countRead s) (sym told) ∙ is) ∙ sym (exactly-yes s at key 3 _ h)

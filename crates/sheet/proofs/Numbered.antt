@@ -5,14 +5,14 @@ use mathlib.Core.Path.{_≡_, refl, subst}
 use mathlib.Core.List.{_∷_, _++_}
 use lib.ListN.{length, length-append}
 use Rattle.specification.specs.Parser.{Reader, Parser, give, _>>=_}
-use Rattle.specification.specs.Lines.{Declared}
+use Rattle.specification.specs.Lines.{Declared, procedureOf}
 use Rattle.specification.specs.Ast.{Term, Formula, and, or, imp, eq, compare, some, all}
-use Rattle.specification.specs.Words.{FormulaWord, trueWord, andWord, orWord, impWord, notWord, eqWord, exWord, someWord, allWord, relWord, Word, formulaWord, termWord, unknown}
-use Rattle.specification.specs.Formula.{Token, operand, Locals, binder, term, formulaOf, formulaWith, formula}
+use Rattle.specification.specs.Words.{FormulaWord, trueWord, andWord, orWord, impWord, notWord, eqWord, exWord, someWord, allWord, callWord, relWord, Word, formulaWord, termWord, numberWord, unknown, wordOf}
+use Rattle.specification.specs.Formula.{Token, operand, Locals, binder, procedure, term, formulaOf, formulaWith, formula}
 use Rattle.specification.proofs.Laws.Parser.{Post, refusal, holds, bind-post}
 use Rattle.sheet.specs.Codes.{termTokens, formulaTokens}
 use Rattle.sheet.specs.Numbered.{termSize, formulaSize, Numbered}
-use Rattle.sheet.proofs.Counted.{Counted, Counting, operand-counts, token-counts, term-operand-counts, local-operand-counts}
+use Rattle.sheet.proofs.Counted.{Counted, Counting, operand-counts, token-counts, term-operand-counts, arguments-count, local-operand-counts, number-operand-counts}
 
 -- counted from a number that is equal
 pub renumbered : {m n : ℕ} (F : Formula) → m ≡ n → Numbered m F → Numbered n F
@@ -33,6 +33,9 @@ module _ (D : Declared) (k : ℕ) (ih : (S : Locals) (r : Reader) → Post (Form
 
   abbrev L : Parser ℕ
   L r = binder D k r
+
+  abbrev K : Parser ℕ
+  K r = procedure D k r
 
   formula-operand-counts : (S : Locals) (r : Reader) → Post (FormulaFrom (r .tokens)) (operand (F S) r)
   formula-operand-counts S = operand-counts formulaSize Numbered (F S) (ih S)
@@ -74,7 +77,7 @@ module _ (D : Declared) (k : ℕ) (ih : (S : Locals) (r : Reader) → Post (Form
         record { tokens = omega (arith, size l a b f, whole, part); few = h₄ .1 .few },
       )
 
-  formula-of : (m : ℕ) (w : FormulaWord) → m ≡ n → Post (FormulaFrom n) (formulaOf D F T L S m w r)
+  formula-of : (m : ℕ) (w : FormulaWord) → m ≡ n → Post (FormulaFrom n) (formulaOf D F T L K S m w r)
   unfolding Numbered formulaTokens
   formula-of m trueWord e = holds (tt, c)
   formula-of m andWord e = two-formulas and (λ f g x y. (x, y)) (λ f g. refl)
@@ -91,10 +94,15 @@ module _ (D : Declared) (k : ℕ) (ih : (S : Locals) (r : Reader) → Post (Form
       holds (renumbered f (omega arith) (h₂ .0), record { tokens = omega arith; few = h₂ .1 .few })
   formula-of m someWord e = quantified (some m) (λ l a b f x. (e, x)) (λ l a b f. refl)
   formula-of m allWord e = quantified (all m) (λ l a b f x. (e, x)) (λ l a b f. refl)
+  formula-of m callWord e =
+      bind-post (number-operand-counts D k r) λ J r₁ h₁.
+      bind-post (arguments-count D k S (procedureOf D J .parameters) r₁ (h₁ .1 .few)) λ ts r₂ h₂.
+      holds (tt, record { tokens = omega (arith, h₁ .1 .tokens, h₂ .1 .tokens); few = h₂ .1 .few })
 
-  formula-with : (t : Token) (w : Word) → t .number ≡ n → Post (FormulaFrom n) (formulaWith D F T L S t w r)
+  formula-with : (t : Token) (w : Word) → t .number ≡ n → Post (FormulaFrom n) (formulaWith D F T L K S t w r)
   formula-with t (formulaWord w) e = formula-of (t .number) w e
   formula-with t (termWord w) e = refusal tt
+  formula-with t (numberWord n) e = refusal tt
   formula-with t unknown e = refusal tt
 
 -- ---- the formula
@@ -104,5 +112,5 @@ module _ (D : Declared) where
   unfolding formula
   formula-counts zero S r = refusal tt
   formula-counts (suc k) S r =
-      bind-post (token-counts (D .edition) r) λ t r₁ h.
+      bind-post (token-counts (wordOf (D .edition)) r) λ t r₁ h.
       formula-with D k (λ S′ r′. formula-counts k S′ r′) S (r .tokens) r₁ (h .1) t (t .word) (h .0)

@@ -1,14 +1,15 @@
 -- A token where something is due, and its operands: what is due first is read first, and the rest follows it. Assumes nothing.
 use Prim.Native.Nat.{ℕ, zero, suc}
-use mathlib.Core.Path.{_≡_, refl, sym, _∙_}
-use mathlib.Core.List.{List, [], _∷_, _++_}
+use mathlib.Core.Path.{_≡_, refl, sym, _∙_, ap}
+use mathlib.Core.List.{List, [], _∷_, _++_, append-nil, append-assoc}
+use lib.ListN.{length, replicate}
 use Rattle.specification.specs.Bytes.{space}
 use Rattle.specification.specs.Parser.{Reader, Read, refused, found, Parser, give, andThen, _>>=_, mark}
 use Rattle.specification.specs.Lines.{Declared}
 use Rattle.specification.specs.Ast.{Term, Formula}
-use Rattle.specification.specs.Formula.{Locals, operand, term, formula}
+use Rattle.specification.specs.Formula.{Locals, operand, term, arguments, formula}
 use Rattle.sheet.specs.declared.Token.{Token}
-use Rattle.sheet.specs.Codes.{termTokens, formulaTokens}
+use Rattle.sheet.specs.Codes.{termTokens, termsTokens, formulaTokens}
 use Rattle.sheet.specs.Dues.{Due, dueFormula, dueTerm, parse}
 use Rattle.sheet.specs.Turn.{faultOf, opens, binds, left, leftHere}
 use Rattle.sheet.proofs.Left.{then-assoc, left-none, left-cons}
@@ -92,3 +93,15 @@ module _ (D : Declared) (k : ℕ) (S : Locals) where
       left D (dueTerm k S ∷ dueTerm k S ∷ []) (t ∷ []) r
   unfolding parse
   two-terms out make t h = two-dues D (dueTerm k S) (term D k S) termTokens (λ r. refl) out (t ∷ []) make h
+
+  -- the arguments of a call, after which comes g
+  pub arguments-due : (n : ℕ) (g : List Term → Parser (List Token)) (xs : List Token) →
+      ((ts : List Term) (r : Reader) → length ts ≡ n → g ts r ≡ found (xs ++ termsTokens ts) r) →
+      (r : Reader) → andThen g (arguments D (term D k S) n r) ≡ left D (replicate n (dueTerm k S)) xs r
+  unfolding parse arguments termsTokens
+  arguments-due zero g xs h r = h [] r refl ∙ rw (append-nil, left-none)
+  arguments-due (suc n) g xs h r =
+      first-then D (dueTerm k S) (term D k S) spellTerm (λ r₁. refl) g (λ t. arguments D (term D k S) n >>= λ ts. give (t ∷ ts)) (replicate n (dueTerm k S)) xs
+      (λ t r₁.
+      then-assoc (λ ts. give (t ∷ ts)) g (arguments D (term D k S) n r₁) ∙
+      arguments-due n (λ ts r₂. g (t ∷ ts) r₂) (xs ++ termTokens t) (λ ts r₂ e. h (t ∷ ts) r₂ (ap suc e) ∙ rw append-assoc) r₁) r

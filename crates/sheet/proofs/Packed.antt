@@ -12,8 +12,8 @@ use lib.Dec.{T, eqb, ltb, leb, ltb→lt, leb→le, eqb→eq}
 use lib.ListN.{length, getD, drop}
 use lib.Seq.{drop-cons, drop-length}
 use borrow.Author.Tests.{eq-eqb, ne-eqb, eqb-true, eqb-false}
-use Rattle.specification.specs.Bytes.{Bytes, same}
-use Rattle.specification.specs.Words.{Entry, words}
+use Rattle.specification.specs.Bytes.{Bytes, bytes, pick, same}
+use Rattle.specification.specs.Words.{callWord, formulaWord, Entry, _means_, firstWords, words}
 use Rattle.sheet.specs.Codes.{tokenOf}
 use Rattle.sheet.specs.Packed.{packed, entryCode, codeBy, codeIn}
 
@@ -150,11 +150,24 @@ by-number (e ∷ es) t b s =
 
 module _ (edition : ℕ) where
   pub all-brief : T (brief (words edition))
-  unfolding brief sound small words tokenOf
-  all-brief = tt
+  unfolding brief sound small firstWords words tokenOf
+  all-brief = by (eqb edition 1)
+    where
+      by : (b : Bool) → T (brief (pick b firstWords (bytes "call" means formulaWord callWord ∷ firstWords)))
+      by true = tt
+      by false = tt
 
   pub code-long : (t : Bytes) → 4 < length t → codeIn t (words edition) ≡ 0
   code-long t h = long (words edition) t all-brief h
 
   pub code-packed : (t : Bytes) → Small t → codeIn t (words edition) ≡ codeBy (packed t) (words edition)
   code-packed t s = by-number (words edition) t all-brief s
+
+-- which set it is
+pub first-words : (edition k : ℕ) → edition ≡ 1 → codeBy k firstWords ≡ codeBy k (words edition)
+unfolding words
+first-words edition k e = rw (eq-eqb edition 1 e)
+
+pub later-words : (edition k : ℕ) → (edition ≡ 1 → ⊥) → codeBy k (words 2) ≡ codeBy k (words edition)
+unfolding words
+later-words edition k n = rw (ne-eqb edition 1 n)

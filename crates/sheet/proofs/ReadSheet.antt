@@ -1,96 +1,116 @@
--- A sheet that is read: the first five lines read no token, so that its formula's tokens count from 0, and the tables hold the sheet.
--- Assumes nothing.
-use Prim.Native.Nat.{ℕ, _≤_}
+-- A sheet that is read: the first lines read no token, so that the tokens of its procedures and then of its formula count from 0, and the tables
+-- hold the sheet. Assumes nothing.
+use Prim.Native.Nat.{ℕ, _+_, _≤_}
 use native.Mathlib.Omega.{arith}
-use mathlib.Core.Path.{_≡_, refl}
-use mathlib.Core.Bool.{Bool}
+use mathlib.Core.Path.{_≡_, refl, sym, subst, _∙_}
 use mathlib.Core.List.{[]}
-use Rattle.specification.specs.Bytes.{Bytes, Class, feed, begins}
-use Rattle.specification.specs.Parser.{Reader, found, Parser, next, mark, exactly, taken, finish}
-use Rattle.specification.specs.Sheet.{Sheet, sheet, opened, read}
+use lib.ListN.{length, length-append}
+use Rattle.specification.specs.Bytes.{Bytes, bytes}
+use Rattle.specification.specs.Lists.{Each}
+use Rattle.specification.specs.Parser.{Reader, found}
+use Rattle.specification.specs.Lines.{procedureOf}
+use Rattle.specification.specs.Sheet.{mostProcedures, Sheet, opened, read}
+use Rattle.specification.specs.WellFormed.{WellFormed}
 use Rattle.specification.specs.Outcome.{start}
-use Rattle.specification.proofs.Laws.Parser.{Post, refusal, holds, of-found, bind-post, after, pick-post}
-use Rattle.specification.proofs.Laws.LineReaders.{Composed}
-use Rattle.specification.proofs.Laws.SheetLines.{sheet-by}
+use Rattle.specification.proofs.Laws.Parser.{of-found}
+use Rattle.specification.proofs.Laws.LineReaders.{line-by, arrays-by, given-by}
+use Rattle.specification.proofs.Laws.SheetLines.{firstDeclared, Lines, sheet-lines}
 use Rattle.specification.proofs.Laws.ReadSheet.{read-well-formed}
-use Rattle.tables.specs.Layout.{maxTokens, maxNesting, pathAt}
-use Rattle.sheet.specs.Tables.{tables}
-use Rattle.sheet.specs.Held.{FormulaAt, Holds, Unmarked, ArraysAt}
-use Rattle.sheet.specs.Numbered.{formulaSize, Numbered}
+use Rattle.tables.specs.Layout.{maxTokens, maxNesting, maxProcs, pathAt}
+use Rattle.sheet.specs.Codes.{formulaTokens, proceduresTokens}
+use Rattle.sheet.specs.Tables.{sheetTokens, formulaStart, tables}
+use Rattle.sheet.specs.Held.{FormulaAt, Shallow, ProceduresAt, Holds, Unmarked, ArraysAt}
+use Rattle.sheet.specs.Numbered.{Numbered}
+use Rattle.sheet.proofs.After.{some-token, formula-subtree}
+use Rattle.sheet.proofs.Stays.{exactly-stays, stays-composed}
 use Rattle.sheet.proofs.Numbered.{renumbered, formula-counts}
-use Rattle.sheet.proofs.Tables.{held, arrays-held, start-held, start-unmarked}
+use Rattle.sheet.proofs.Shallow.{formula-shallow}
+use Rattle.sheet.proofs.Procs.{firstToken, few-parameters}
+use Rattle.sheet.proofs.Bodies.{Bodies, Read, bodies-at, procedures-read}
+use Rattle.sheet.proofs.Tables.{held, body-inside, body-held, first-held, arrays-held, start-held, start-unmarked}
 
--- ---- readers that read no token
+-- ---- the tokens of a sheet
 
--- no token was read
-abbrev Fresh : Reader → Type 0
-Fresh r = r .tokens ≡ 0
+-- its procedures' and its formula's tokens count from 0, and are at most 1,024; every call names an earlier procedure
+pub record FromZero (s : Sheet) : Type 0 where
+  pub bodies : Bodies 0 0 (s .declared .procedures)
+  pub formula : Numbered (formulaStart s) (s .formula)
+  pub shallow : Shallow maxProcs (s .formula)
+  pub few : length (sheetTokens s) ≤ maxTokens
 
-abbrev Stays : {A : Type 0} → Parser A → Type 0
-Stays p = (r : Reader) → Fresh r → Post (λ a r′. Fresh r′) (p r)
+module _ (b : Bytes) (s : Sheet) (l : Lines (opened b) s) (ok : WellFormed s) where
+  -- no token before the procedures
+  fresh : l .given .after .tokens ≡ 0
+  fresh =
+      let stays = stays-composed 0 in
+      let e = of-found (line-by stays (bytes "edition=") 1 2 (opened b) refl) (l .edition .is) in
+      let v = of-found (line-by stays (bytes "scalars=") 0 64 (l .edition .after) e) (l .scalars .is) in
+      let w = of-found (line-by stays (bytes "locals=") 0 32 (l .scalars .after) v) (l .locals .is) in
+      let a = of-found (arrays-by stays (s .declared .scalars) (l .locals .after) w) (l .arrays .is) in
+      of-found (given-by stays (firstDeclared (s .declared)) (l .arrays .after) a) (l .given .is)
 
-mark-stays : (c : Class) → Stays (mark c)
-unfolding mark
-mark-stays c r h = pick-post (next c (r .rest)) _ _ (λ e. holds h) (λ e. refusal tt)
+  procedures : Read (s .declared .procedures) (l .procedures .after .tokens)
+  unfolding Bodies Each proceduresTokens
+  procedures =
+      of-found
+      (procedures-read (firstDeclared (s .declared)) (ok .limits .locals) (mostProcedures (s .declared .edition)) [] (l .given .after)
+      (record { bodies = tt; parameters = tt; tokens = fresh; few = omega (arith, fresh) }))
+      (l .procedures .is)
 
-exactly-stays : (n : ℕ) (k : Bytes) → Stays (exactly n k)
-unfolding exactly
-exactly-stays n k r h = pick-post (begins k (r .rest)) _ _ (λ e. holds h) (λ e. refusal tt)
-
-taken-stays : (f : ℕ → Bool) → Stays (taken f)
-unfolding taken
-taken-stays f r h = holds h
-
-stays-composed : Composed (λ p. Unit {0}) (λ A m. Stays m)
-stays-composed = record {
-  give = λ A a r h. holds h;
-  refuse = λ A n p t i r h. refusal tt;
-  bind = λ A B m f h k r i. bind-post (h r i) λ a r₁ i₁. k a r₁ i₁;
-  here = λ B f k r h. k (r .place) tt r h;
-  sees = λ c r h. holds h;
-  spells = λ k r h. holds h;
-  mark = mark-stays;
-  exactly = λ n k t. exactly-stays n k;
-  taken = taken-stays;
-}
-
--- ---- the whole sheet
-
--- its formula's tokens count from 0, and are at most 1,024
-abbrev pub FromZero : Sheet → Type 0
-FromZero s = Numbered 0 (s .formula) × (formulaSize (s .formula) ≤ maxTokens)
-
--- it is so if no token was read before the sheet
-abbrev Counts : Parser Sheet → Type 0
-Counts m = (r : Reader) → Fresh r → Post (λ s r′. FromZero s) (m r)
-
-sheet-counts : Counts sheet
-sheet-counts =
-    sheet-by stays-composed Counts (λ A m f h k r i. bind-post (h r i) λ a r₁ i₁. k a r₁ i₁)
-    (λ D is r h.
-    bind-post (formula-counts D maxNesting [] r) λ F r₁ c.
-    after (mark feed r₁) λ u r₂.
-    after (finish r₂) λ u r₃.
-    holds (renumbered F h (c .0), omega (arith, c .1 .tokens, c .1 .few)))
+  lines-count : FromZero s
+  lines-count =
+      let D = s .declared in
+      let p = procedures in
+      let t = of-found (exactly-stays (l .procedures .after .tokens) 3 (bytes "formula=") (l .procedures .after) refl) (l .start .is) in
+      let c = of-found (formula-counts D maxNesting [] (l .start .after)) (l .formula .is) in
+      let e : l .start .after .tokens ≡ formulaStart s = t ∙ p .tokens in
+      record {
+        bodies = p .bodies;
+        formula = renumbered (s .formula) e (c .0);
+        shallow = of-found
+            (formula-shallow D maxProcs (ok .limits .procedures) (few-parameters (D .procedures) (ok .parameters)) (ok .limits .locals) maxNesting (omega arith) [] (l .start .after))
+            (l .formula .is);
+        few = omega (arith, length-append (proceduresTokens (D .procedures)) (formulaTokens (s .formula)), c .1 .tokens, c .1 .few, e);
+      }
 
 pub read-counts : (b : Bytes) (s : Sheet) (r : Reader) → read b ≡ found s r → FromZero s
 unfolding read
-read-counts b s r e = of-found (sheet-counts (opened b) refl) e
+read-counts b s r e = lines-count b s (sheet-lines e) (read-well-formed b s r e)
 
--- what a walk leans on
+-- ---- what a walk leans on
+
 pub record Ready (s : Sheet) (n : ℕ) : Type 0 where
-  pub formula : FormulaAt (tables s n) 0 (s .formula)
+  pub formula : FormulaAt (tables s n) (formulaStart s) (s .formula)
+  pub shallow : Shallow maxProcs (s .formula)
+  pub procedures : ProceduresAt (tables s n) (s .declared)
   pub values : Holds (tables s n) (start (s .given))
   pub unmarked : Unmarked (tables s n) (start (s .given))
   pub arrays : ArraysAt (tables s n) (s .declared)
+
+bodies-held : (s : Sheet) (n : ℕ) → pathAt ≤ n → FromZero s → WellFormed s → ProceduresAt (tables s n) (s .declared)
+bodies-held s n h c ok K l =
+    let Ps = s .declared .procedures in
+    let e : firstToken Ps K ≡ _ = sym (first-held s n h (c .few) ok K l) in
+    let b = bodies-at Ps 0 0 K l (c .bodies) in
+    let F = procedureOf (s .declared) K .formula in
+    let f : 0 + firstToken Ps K ≡ firstToken Ps K = omega arith in
+    let size = body-inside s K l in
+    let held = body-held s n h (c .few) K l (renumbered F f (b .numbered)) in
+    record {
+      inside = omega (arith, e, size, c .few, some-token (formulaTokens F) (formula-subtree F));
+      formula = subst (λ i. FormulaAt (tables s n) i F) e held;
+      shallow = subst (λ k. Shallow k F) (omega arith) (b .shallow);
+    }
 
 pub read-ready : (b : Bytes) (s : Sheet) (r : Reader) (n : ℕ) → read b ≡ found s r → pathAt ≤ n → Ready s n
 read-ready b s r n e h =
     let c = read-counts b s r e in
     let ok = read-well-formed b s r e in
     record {
-      formula = held s n h (c .1) (c .0);
-      values = start-held s n h (c .1) ok;
-      unmarked = start-unmarked s n h (c .1) ok;
-      arrays = arrays-held s n h (c .1) ok;
+      formula = held s n h (c .few) (c .formula);
+      shallow = c .shallow;
+      procedures = bodies-held s n h c ok;
+      values = start-held s n h (c .few) ok;
+      unmarked = start-unmarked s n h (c .few) ok;
+      arrays = arrays-held s n h (c .few) ok;
     }

@@ -9,36 +9,37 @@ use lib.Seq.{drop-drop, getD-set-other}
 use Rattle.specification.specs.Bytes.{inToken, run}
 use Rattle.specification.specs.Parser.{Reader, refused}
 use Rattle.specification.specs.Lines.{Declared}
-use Rattle.specification.specs.Words.{wordOf}
 use Rattle.text.proofs.Laws.Run.{end-le, end-part}
 use Rattle.tables.specs.Layout.{maxTokens, maxLocals, maxDues, tokenSlot, duesAt, pathAt}
 use Rattle.sheet.specs.declared.Token.{Token}
 use Rattle.sheet.specs.declared.stack.Entry.{Entry}
-use Rattle.sheet.specs.Codes.{tokenOf}
 use Rattle.sheet.specs.Reader.{readerAt}
-use Rattle.sheet.specs.Sorts.{termSort}
-use Rattle.sheet.specs.Dues.{Due, dueFormula, dueTerm, dueEx, dueRange}
-use Rattle.sheet.specs.Turn.{room, opens, binds, tokenAt, faultAt, behind, weights, Fits}
+use Rattle.sheet.specs.Sorts.{procedureSort, operandsOf}
+use Rattle.sheet.specs.Dues.{Due, dueFormula, dueTerm, dueProcedure, dueEx, dueRange}
+use Rattle.sheet.specs.Turn.{room, opens, binds, wordFor, tokenIn, tokenAt, faultAt, behind, weights, Fits}
 use Rattle.sheet.specs.Tables.{Words, laidTokens}
-use Rattle.sheet.specs.Stack.{Means, entryAt, Stacked, Opened}
-use Rattle.sheet.specs.FormulaLine.{Small, Counts, Refuses, Binds, Begin, whole}
+use Rattle.sheet.specs.Stack.{Means, Coded, entryAt, Stacked, Opened}
+use Rattle.sheet.specs.FormulaLine.{Small, Sized, Known, Spells, Refuses, Binds, Begin, whole}
 use Rattle.sheet.proofs.Turn.{turn-refused, turn-taken}
 use Rattle.sheet.proofs.Bounds.{fits-turn, fits-length}
+use Rattle.sheet.proofs.Opened.{opens-length}
 use Rattle.sheet.proofs.Entries.{stacked-same, beside-then}
 use Rattle.sheet.proofs.Beside.{stored, beside-stored, tokens-more}
-use Rattle.sheet.proofs.Faults.{fault-counted, Stands, stands}
+use Rattle.sheet.proofs.Faults.{fault-counted, suits-coded, Stands, stands}
 use Rattle.sheet.proofs.Laid.{tokens-length}
+use Rattle.sheet.proofs.Procs.{SameProcs, sized-same, known-same, same-tokens}
 use Rattle.sheet.proofs.Loop.{Reading, Taken}
 
 -- room for three more entries where nesting may go deeper
 three : (ds : List Due) → weights ds + 3 ≤ maxDues → Fits ds → length ds + 3 ≤ maxDues
 unfolding Fits weights
-three ds h f = let x = dueFormula 0 [] in omega (arith, fits-length (x ∷ x ∷ x ∷ ds) (omega arith, (omega arith, (omega arith, f))))
+three ds h f = let x = dueTerm 0 [] in omega (arith, fits-length (x ∷ x ∷ x ∷ ds) (omega arith, (omega arith, (omega arith, f))))
 
 fits-three : (d : Due) (ds : List Due) → 1 ≤ room d → Fits (d ∷ ds) → length ds + 3 ≤ maxDues
 unfolding Fits weights
 fits-three (dueFormula k S) ds h f = three ds (omega arith) (f .1)
 fits-three (dueTerm k S) ds h f = three ds (omega arith) (f .1)
+fits-three (dueProcedure k S) ds h f = three ds (omega arith) (f .1)
 fits-three (dueEx k S) ds h f = three ds (omega arith) (f .1)
 fits-three (dueRange k S) ds h f = three ds (omega arith) (f .1)
 
@@ -51,12 +52,22 @@ pub record May (e : Entry) (t : Token) (n count : ℕ) : Type 0 where
   pub room : 0 < e .room
   pub low : n - 1 + 3 ≤ maxDues
   pub number : count < maxTokens
-  pub index : termSort < e .sort → t .operand < maxLocals
+  pub index : procedureSort < e .sort → t .operand < maxLocals
+  pub operands : e .sort ≤ procedureSort → n - 1 + operandsOf (t .code) .count ≤ maxDues
+  pub coded : Coded e (t .code)
+
+-- the procedures' words stay
+module _ {b : Begin} {w₀ w : Words} {n count bound at : ℕ} (i : Reading b w₀ w n count bound at) where
+  pub same-procs : SameProcs w₀ w
+  same-procs = same-tokens (b .tokens) (i .read) w₀ w (omega (arith, i .number, i .few)) (i .table)
+
+  pub sized-here : Small (b .limits) → Sized (b .limits) w₀ → Sized (b .limits) w
+  sized-here s h = sized-same w₀ w same-procs s h
 
 -- the token at a place, with k its refusal
 module _ {b : Begin} {w₀ w : Words} {n count bound at : ℕ} (i : Reading b w₀ w n count bound at)
     (small : Small (b .limits)) (wide : pathAt ≤ length w₀) (e : ℕ) (is : e ≡ at + length (run inToken (drop at (b .bytes))))
-    (en : Entry) (top : en ≡ entryAt w (n - 1)) (t : Token) (spelt : t ≡ tokenOf (wordOf (b .limits .edition) (take (e - at) (drop at (b .bytes)))))
+    (en : Entry) (top : en ≡ entryAt w (n - 1)) (t : Token) (spelt : Spells (take (e - at) (drop at (b .bytes))) (en .sort) (b .limits) w t)
     (k : ℕ) (judged : Refuses (b .limits) en bound count t k) where
   means : Means en (i .due)
   unfolding Stacked
@@ -65,20 +76,22 @@ module _ {b : Begin} {w₀ w : Words} {n count bound at : ℕ} (i : Reading b w�
   abbrev here : Reader
   here = readerAt (b .bytes) at count (i .locals)
 
-  token-here : (D : Declared) → Counts (b .limits) D → tokenAt D here ≡ t
+  token-here : (D : Declared) → Known (b .limits) w₀ D → tokenAt D (i .due) here ≡ t
   unfolding tokenAt
-  token-here D g = rw (g .edition) (ap (λ bs. tokenOf (wordOf (b .limits .edition) bs)) (sym (end-part inToken (b .bytes) at e is)) ∙ sym spelt)
+  token-here D g =
+      ap (λ bs. tokenIn D (i .due) (wordFor D (i .due) bs)) (sym (end-part inToken (b .bytes) at e is)) ∙
+      sym (spelt D (i .due) (known-same w₀ w (same-procs i) g) (means .sort))
 
-  fault-here : (D : Declared) → Counts (b .limits) D → faultAt D (i .due) here ≡ k
+  fault-here : (D : Declared) → Known (b .limits) w₀ D → faultAt D (i .due) here ≡ k
   unfolding faultAt
-  fault-here D g = rw (token-here D g, fault-counted g (i .due) (i .locals) t) (sym (judged (i .due) (i .locals) means (i .set)))
+  fault-here D g = rw (token-here D g, fault-counted (g .counts) (i .due) (i .locals) t) (sym (judged (i .due) (i .locals) means (i .set)))
 
-  pub turn-stops : (k ≡ 0 → ⊥) → (D : Declared) → Counts (b .limits) D → whole b D ≡ refused k at
+  pub turn-stops : (k ≡ 0 → ⊥) → (D : Declared) → Known (b .limits) w₀ D → whole b D ≡ refused k at
   turn-stops h D g = by k h (fault-here D g)
     where
       by : (k : ℕ) → (k ≡ 0 → ⊥) → faultAt D (i .due) here ≡ k → whole b D ≡ refused k at
       by zero h q = absurd (h refl)
-      by (suc m) h q = i .rest D g ∙ turn-refused D (g .limited) (i .due) (i .dues) (i .read) here m q
+      by (suc m) h q = i .rest D g ∙ turn-refused D (g .counts .limited) (i .due) (i .dues) (i .read) here m q
 
   -- where it may stand
   module _ (z : k ≡ 0) where
@@ -91,9 +104,16 @@ module _ {b : Begin} {w₀ w : Words} {n count bound at : ℕ} (i : Reading b w�
       low = omega (arith, i .depth, fits-three (i .due) (i .dues) (standing .room) (i .fits));
       number = standing .number;
       index = λ h. omega (arith, standing .index (omega (arith, means .sort)), small .locals);
+      operands = λ h. omega (
+        arith,
+        i .depth,
+        opens-length (i .due) t (i .dues) (omega (arith, means .sort)),
+        fits-length _ (fits-turn (i .due) (i .dues) t (standing .suits) (standing .room) (i .fits)),
+      );
+      coded = suits-coded (i .due) en (t .code) means (standing .suits);
     }
 
-    behind-here : (D : Declared) → Counts (b .limits) D → behind D (i .due) here ≡ readerAt (b .bytes) e (count + 1) (binds (i .due) t (i .locals))
+    behind-here : (D : Declared) → Known (b .limits) w₀ D → behind D (i .due) here ≡ readerAt (b .bytes) e (count + 1) (binds (i .due) t (i .locals))
     behind-here D g = rw (token-here D g, is, drop-drop, add-one)
 
     module _ (w₁ w₂ : Words) (n′ bound′ : ℕ) (put : w₁ ≡ stored w count t) (opened : Opened w₁ w₂ (n - 1) en t n′) (bounds : Binds en t bound bound′) where
@@ -115,11 +135,11 @@ module _ {b : Begin} {w₀ w : Words} {n count bound at : ℕ} (i : Reading b w�
             within = end-le inToken (b .bytes) at e is (i .within);
             long = opened .beside .long ∙ rw put (simp length-set (i .long));
             set = bounds d (i .locals) means (i .set);
-            fits = fits-turn d ds t (standing .room) (i .fits);
+            fits = fits-turn d ds t (standing .suits) (standing .room) (i .fits);
             stack = opened .stack d ds means q (rw put (stacked-same w (stored w count t) ds (λ j a b. other j (omega arith)) (stacked-rest w d ds (i .stack))));
             table = rw (tokens-more (i .read) (b .tokens) t w₀, i .number) (beside-then (rw put (beside-stored count t laid (i .table))) (opened .beside));
             rest = λ D g.
-                i .rest D g ∙ turn-taken D (g .limited) d ds (i .read) here (fault-here D g ∙ z) ∙ rw (behind-here D g, token-here D g);
+                i .rest D g ∙ turn-taken D (g .counts .limited) d ds (i .read) here (fault-here D g ∙ z) ∙ rw (behind-here D g, token-here D g);
           }
         where
           other : (j : ℕ) → duesAt ≤ j → getD (stored w count t) j 0 ≡ getD w j 0

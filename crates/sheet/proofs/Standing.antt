@@ -1,4 +1,4 @@
--- Where the reader stands while the six lines are read: what it has read, of which sheet, over how many words. A call of `line` takes it from
+-- Where the reader stands while the lines are read: what it has read, of which sheet, over how many words. A call of `line` takes it from
 -- one line to the next. Assumes nothing.
 use Prim.Native.Nat.{ℕ, _+_, _≤_}
 use mathlib.Core.Path.{_≡_, sym, subst, _∙_}
@@ -11,7 +11,7 @@ use Rattle.sheet.specs.Whole.{Went}
 
 -- what `line` needs of a reader and the words, and what it says of the reader and the words after it
 abbrev pub Needs : ℕ → Reader → List ℕ → Type 0
-Needs k r zs = (k ≤ 5) × Went k (now (r .sheet)) (length zs) (r .read) zs
+Needs k r zs = (k ≤ 6) × Went k (now (r .sheet)) (length zs) (r .read) zs
 
 abbrev pub Found : ℕ → Reader → List ℕ → Reader → List ℕ → Type 0
 Found k r zs r′ zs′ = (r′ .sheet ≡ r .sheet) × Went (k + 1) (now (r .sheet)) (length zs) (r′ .read) zs′
@@ -24,7 +24,7 @@ module _ (s : RefT (List ℕ)) (n : ℕ) where
   moved : (k : ℕ) (p : Progress) (zs : List ℕ) (z y : RefT (List ℕ)) (m l : ℕ) → z ≡ y → m ≡ l → Went k (now z) m p zs → Went k (now y) l p zs
   moved k p zs z y m l e f h = subst (λ (i : ℕ). Went k (now y) i p zs) f (subst (λ (x : RefT (List ℕ)). Went k (now x) m p zs) e h)
 
-  pub asks : (k : ℕ) (r : Reader) (zs : List ℕ) → k ≤ 5 → Stands k r zs → Needs k r zs
+  pub asks : (k : ℕ) (r : Reader) (zs : List ℕ) → k ≤ 6 → Stands k r zs → Needs k r zs
   asks k r zs few h = (few, moved k (r .read) zs s (r .sheet) n (length zs) (sym (h .1)) (sym (h .2)) (h .0))
 
   pub onward : (k : ℕ) (r : Reader) (zs : List ℕ) (r′ : Reader) (zs′ : List ℕ) → Stands k r zs → Found k r zs r′ zs′ → length zs′ ≡ length zs → Stands (k + 1) r′ zs′

@@ -5,7 +5,7 @@ use native.Mathlib.Nat.{add-zero}
 use native.Mathlib.Omega.{arith}
 use mathlib.Core.Path.{_≡_, refl, sym, ap, _∙_}
 use mathlib.Core.Bool.{Bool, true, false}
-use mathlib.Core.List.{List, [], _∷_}
+use mathlib.Core.List.{List, [], _∷_, _++_}
 use lib.ListN.{length, getD, set, drop, length-set, length-drop, drop-of-length-le}
 use lib.Seq.{drop-cons, drop-drop, getD-set-same, getD-set-other, set-comm}
 use lib.Dec.{ltb}
@@ -62,6 +62,29 @@ pub beside-tokens-in : (ts : List Token) (w w′ : Words) → length ts ≤ maxT
 beside-tokens-in ts w w′ h l b =
     tokens-in-same (laidTokens 0 ts w) w′ 0 (length ts) (λ j p q. (b .below (tokenSlot j) (omega arith), b .below (tokenSlot j + 1) (omega arith))) ∙
     laid-tokens-in ts 0 w (omega arith)
+
+-- those that stand there, and behind them those that were laid
+tokens-in-both : (w : Words) (i m n : ℕ) → tokensIn w i (m + n) ≡ tokensIn w i m ++ tokensIn w (i + m) n
+unfolding tokensIn
+tokens-in-both w i zero n = let e : i + 0 ≡ i = omega arith in let f : 0 + n ≡ n = omega arith in rw (e, f)
+tokens-in-both w i (suc m) n =
+    let e : i + suc m ≡ suc i + m = omega arith in
+    let f : suc m + n ≡ suc (m + n) = omega arith in
+    rw (e, f) (ap (λ xs. token (codeAt w i) (operandAt w i) ∷ xs) (tokens-in-both w (suc i) m n))
+
+pub beside-tokens-behind : (ts : List Token) (w w′ : Words) (m n : ℕ) → m + length ts ≡ n → n ≤ maxTokens → pathAt ≤ length w →
+    Beside (laidTokens m ts w) w′ → tokensIn w′ 0 n ≡ tokensIn w 0 m ++ ts
+beside-tokens-behind ts w w′ m n q h l b =
+    let e : 0 + m ≡ m = omega arith in
+    let before : tokensIn w′ 0 m ≡ tokensIn w 0 m =
+    tokens-in-same w w′ 0 m (λ j p r. (
+      b .below (tokenSlot j) (omega arith) ∙ tokens-other (tokenSlot j) m ts w (λ k x y. (omega arith, omega arith)),
+      b .below (tokenSlot j + 1) (omega arith) ∙ tokens-other (tokenSlot j + 1) m ts w (λ k x y. (omega arith, omega arith)),
+    )) in
+    let own : tokensIn w′ m (length ts) ≡ ts =
+    tokens-in-same (laidTokens m ts w) w′ m (length ts) (λ j p r. (b .below (tokenSlot j) (omega arith), b .below (tokenSlot j + 1) (omega arith))) ∙
+    laid-tokens-in ts m w (omega arith) in
+    rw (sym q, tokens-in-both w′ 0 m (length ts), e, before, own)
 
 -- ---- one subtree
 

@@ -1,13 +1,13 @@
--- What the tables hold. A list of tokens: a formula among them, from its first token on. A sheet: its formula from token 0 on, the given
--- values and no others, the arrays' first cells; every other word is zero. Assumes nothing.
+-- What the tables hold. A list of tokens: a formula among them, from its first token on. A sheet: its procedures and then its formula, the
+-- given values and no others, the arrays' first cells; every other word is zero. Assumes nothing.
 use Prim.Native.Nat.{ℕ, suc, _+_, _≤_, _<_}
 use native.Mathlib.Numerals.{add-one}
 use native.Mathlib.Omega.{arith}
-use mathlib.Core.Path.{_≡_, _∙_, subst}
+use mathlib.Core.Path.{_≡_, sym, _∙_, ap, subst}
 use mathlib.Core.Logic.{_≢_}
-use mathlib.Core.List.{List, [], _++_, append-nil}
-use lib.ListN.{length, getD, replicate, length-replicate, length-append}
-use Rattle.specification.specs.Lines.{Declared}
+use mathlib.Core.List.{List, [], _++_, append-nil, append-assoc}
+use lib.ListN.{length, getD, replicate, take, drop, length-replicate, length-append}
+use Rattle.specification.specs.Lines.{Declared, procedureOf}
 use Rattle.specification.specs.Given.{Item}
 use Rattle.specification.specs.Ast.{Formula}
 use Rattle.specification.specs.Sheet.{Sheet}
@@ -17,15 +17,16 @@ use Rattle.specification.specs.WellFormed.{WellFormed}
 use Rattle.specification.specs.Outcome.{start}
 use Rattle.specification.proofs.Laws.Lists.{each-map}
 use Rattle.specification.proofs.Laws.Start.{start-local}
-use Rattle.tables.specs.Layout.{maxTokens, maxCells, maxArrays, cellSlot, localSlot, firstSlot, tokenSlot, cellsAt, localsAt, firstsAt, duesAt, pathAt}
+use Rattle.tables.specs.Layout.{maxTokens, maxCells, maxArrays, maxProcs, cellSlot, localSlot, firstSlot, procSlot, tokenSlot, cellsAt, localsAt, firstsAt, duesAt, pathAt}
 use Rattle.sheet.specs.declared.Token.{Token}
-use Rattle.sheet.specs.Codes.{formulaTokens}
-use Rattle.sheet.specs.Tables.{Words, laidArrays, laidGiven, laidTokens, tablesOf, sheetTokens, tables}
-use Rattle.sheet.specs.Held.{FormulaAt, SlotAt, Holds, Unmarked, ArraysAt}
+use Rattle.sheet.specs.Codes.{formulaTokens, proceduresTokens}
+use Rattle.sheet.specs.Tables.{Words, laidArrays, laidGiven, laidTokens, declaredTables, tablesOf, sheetTokens, formulaStart, tables}
+use Rattle.sheet.specs.Held.{procAt, FormulaAt, SlotAt, Holds, Unmarked, ArraysAt}
 use Rattle.sheet.specs.Numbered.{Numbered}
 use Rattle.sheet.proofs.Laid.{tokens-other, ends-other, tokens-length, ends-length, Along, Entry, laid, skip}
 use Rattle.sheet.proofs.Held.{formula-at}
 use Rattle.sheet.proofs.Regions.{zeros, firsts-length, firsts-other, firsts-at, given-length, given-other, isFull, wordOf, CellWords, given-at}
+use Rattle.sheet.proofs.Procs.{none, firstToken, tokens-split, procs-length, procs-other, procs-at}
 
 -- arrays and given values, without tokens
 abbrev arrayed : Declared → ℕ → Words
@@ -41,6 +42,9 @@ arrayed-length D n = firsts-length D 0 (suc maxArrays) (replicate n 0) ∙ lengt
 valued-length : (D : Declared) (is : List Item) (n : ℕ) → length (valued D is n) ≡ n
 valued-length D is n = given-length is (arrayed D n) ∙ arrayed-length D n
 
+pub declared-length : (D : Declared) (is : List Item) (n : ℕ) → length (declaredTables D is n) ≡ n
+declared-length D is n = procs-length 0 0 (D .procedures) (valued D is n) ∙ valued-length D is n
+
 -- ---- a formula among the tokens
 
 -- stands from its first token on, if it carries the numbers of its tokens there
@@ -49,29 +53,60 @@ pub formula-held : (D : Declared) (is : List Item) (xs : List Token) (F : Formul
 formula-held D is xs F rest n enough few h =
     let ts = xs ++ (formulaTokens F ++ rest) in
     let w = tablesOf D is ts n in
-    let a = skip w xs (formulaTokens F ++ rest) 0 (laid ts (valued D is n) (omega (arith, valued-length D is n))) in
+    let a = skip w xs (formulaTokens F ++ rest) 0 (laid ts (declaredTables D is n) (omega (arith, declared-length D is n))) in
     let e : 0 + length xs ≡ length xs = omega arith in
     formula-at w F rest (length xs) (subst (λ j. Along (Entry w) j (formulaTokens F ++ rest)) e a) h
     (omega (arith, length-append xs (formulaTokens F ++ rest), length-append (formulaTokens F) rest))
+
+-- a procedure's tokens lie among those of the sheet
+pub body-inside : (s : Sheet) (K : ℕ) → K < length (s .declared .procedures) →
+    firstToken (s .declared .procedures) K + length (formulaTokens (procedureOf (s .declared) K .formula)) ≤ length (sheetTokens s)
+body-inside s K l =
+    let Ps = s .declared .procedures in
+    let xs = proceduresTokens (take K Ps) in
+    let ys = formulaTokens (getD Ps K none .formula) in
+    let zs = proceduresTokens (drop (suc K) Ps) in
+    omega (
+      arith,
+      length-append (proceduresTokens Ps) (formulaTokens (s .formula)),
+      ap length (tokens-split Ps K l),
+      length-append xs (ys ++ zs),
+      length-append ys zs,
+    )
 
 module _ (s : Sheet) (n : ℕ) (enough : pathAt ≤ n) (few : length (sheetTokens s) ≤ maxTokens) where
   abbrev under : Words
   under = arrayed (s .declared) n
 
+  abbrev filled : Words
+  filled = valued (s .declared) (s .given) n
+
   abbrev base : Words
-  base = valued (s .declared) (s .given) n
+  base = declaredTables (s .declared) (s .given) n
 
   pub tables-length : length (tables s n) ≡ n
   unfolding tables
   tables-length =
       let ts = sheetTokens s in
-      ends-length 0 ts (laidTokens 0 ts base) ∙ tokens-length 0 ts base ∙ valued-length (s .declared) (s .given) n
+      ends-length 0 ts (laidTokens 0 ts base) ∙ tokens-length 0 ts base ∙ declared-length (s .declared) (s .given) n
 
-  pub held : Numbered 0 (s .formula) → FormulaAt (tables s n) 0 (s .formula)
+  -- the formula F lies between the tokens xs and rest
+  held-between : (xs : List Token) (F : Formula) (rest : List Token) → sheetTokens s ≡ xs ++ (formulaTokens F ++ rest) → Numbered (length xs) F →
+      FormulaAt (tables s n) (length xs) F
   unfolding tables
-  held h =
-      let e : sheetTokens s ++ [] ≡ sheetTokens s = append-nil (sheetTokens s) in
-      rw e at (formula-held (s .declared) (s .given) [] (s .formula) [] n enough (rw e few) h)
+  held-between xs F rest e h =
+      subst (λ ts. FormulaAt (tablesOf (s .declared) (s .given) ts n) (length xs) F) (sym e)
+      (formula-held (s .declared) (s .given) xs F rest n enough (omega (arith, few, ap length e)) h)
+
+  pub held : Numbered (formulaStart s) (s .formula) → FormulaAt (tables s n) (formulaStart s) (s .formula)
+  held h = held-between (proceduresTokens (s .declared .procedures)) (s .formula) [] (rw append-nil) h
+
+  pub body-held : (K : ℕ) → K < length (s .declared .procedures) → Numbered (firstToken (s .declared .procedures) K) (procedureOf (s .declared) K .formula) →
+      FormulaAt (tables s n) (firstToken (s .declared .procedures) K) (procedureOf (s .declared) K .formula)
+  body-held K l h =
+      let Ps = s .declared .procedures in
+      held-between (proceduresTokens (take K Ps)) (getD Ps K none .formula) (proceduresTokens (drop (suc K) Ps) ++ formulaTokens (s .formula))
+      (ap (λ xs. xs ++ formulaTokens (s .formula)) (tokens-split Ps K l) ∙ rw (append-assoc, append-assoc)) h
 
   -- ---- values and arrays
 
@@ -88,11 +123,24 @@ module _ (s : Sheet) (n : ℕ) (enough : pathAt ≤ n) (few : length (sheetToken
   above j h = beside j (λ m x. (omega arith, omega arith, omega arith))
 
   module _ (ok : WellFormed s) where
-    -- a word that holds neither a given value nor an array
+    -- beside the words of the procedures
+    beside-procs : (j : ℕ) → ((m : ℕ) → m < maxProcs → (j ≢ procSlot m) × (j ≢ procSlot m + 1)) → getD base j 0 ≡ getD filled j 0
+    beside-procs j h = procs-other j 0 0 (s .declared .procedures) filled (λ m a b. h m (omega (arith, ok .limits .procedures)))
+
+    -- the first token of a procedure
+    pub first-held : (K : ℕ) → K < length (s .declared .procedures) → procAt (tables s n) K ≡ firstToken (s .declared .procedures) K
+    first-held K h =
+        let e : 0 + K ≡ K = omega arith in
+        let f : 0 + firstToken (s .declared .procedures) K ≡ firstToken (s .declared .procedures) K = omega arith in
+        above (procSlot K) (omega arith) ∙
+        (rw (e, f) at (procs-at (s .declared .procedures) 0 0 K filled h (omega (arith, ok .limits .procedures, valued-length (s .declared) (s .given) n)) .0))
+
+    -- a word that holds neither a given value nor an array nor a procedure
     zero-base : (j : ℕ) → ((c : ℕ) → c < maxCells → (j ≢ cellSlot c) × (j ≢ cellSlot c + 1)) →
-        ((m : ℕ) → m ≤ maxArrays → j ≢ firstSlot m) → getD base j 0 ≡ 0
+        ((m : ℕ) → m ≤ maxArrays → j ≢ firstSlot m) → ((m : ℕ) → m < maxProcs → (j ≢ procSlot m) × (j ≢ procSlot m + 1)) → getD base j 0 ≡ 0
     unfolding laidArrays
-    zero-base j c a =
+    zero-base j c a p =
+        beside-procs j p ∙
         given-other j (s .given) under (each-map (λ i h. c (i .cell) (omega (arith, ok .limits .cells))) (s .given) (ok .declared)) ∙
         firsts-other (s .declared) j 0 (suc maxArrays) (replicate n 0) (λ m x y. a m (omega arith)) ∙ zeros n j
 
@@ -100,6 +148,7 @@ module _ (s : Sheet) (n : ℕ) (enough : pathAt ≤ n) (few : length (sheetToken
     unfolding laidArrays
     arrays-held a h =
         above (firstSlot a) (omega arith) ∙
+        beside-procs (firstSlot a) (λ m x. (omega arith, omega arith)) ∙
         given-other (firstSlot a) (s .given) under
         (each-map (λ i k. (omega (arith, ok .limits .cells), omega (arith, ok .limits .cells))) (s .given) (ok .declared)) ∙
         firsts-at (s .declared) a 0 (suc maxArrays) (replicate n 0) (omega arith) (omega arith) (rw length-replicate (omega arith))
@@ -111,17 +160,19 @@ module _ (s : Sheet) (n : ℕ) (enough : pathAt ≤ n) (few : length (sheetToken
         let g = given-at c 0 (s .given) under (ok .rising) h (omega (arith, arrayed-length (s .declared) n)) (
           firsts-other (s .declared) (cellSlot c) 0 (suc maxArrays) (replicate n 0) (λ m x y. omega arith) ∙ zeros n (cellSlot c),
           firsts-other (s .declared) (cellSlot c + 1) 0 (suc maxArrays) (replicate n 0) (λ m x y. omega arith) ∙ zeros n (cellSlot c + 1),
-        ) in
-        (above (cellSlot c) (omega arith) ∙ g .0, above (cellSlot c + 1) (omega arith) ∙ g .1)
+        ) in (
+          above (cellSlot c) (omega arith) ∙ beside-procs (cellSlot c) (λ m x. (omega arith, omega arith)) ∙ g .0,
+          above (cellSlot c + 1) (omega arith) ∙ beside-procs (cellSlot c + 1) (λ m x. (omega arith, omega arith)) ∙ g .1,
+        )
 
     -- ---- every other word
 
     pub locals-zero : (j : ℕ) → localsAt ≤ j → j < firstsAt → getD (tables s n) j 0 ≡ 0
-    locals-zero j l h = above j (omega arith) ∙ zero-base j (λ c x. (omega arith, omega arith)) (λ m x. omega arith)
+    locals-zero j l h = above j (omega arith) ∙ zero-base j (λ c x. (omega arith, omega arith)) (λ m x. omega arith) (λ m x. (omega arith, omega arith))
 
     -- what is due while the formula is read, the spare words, and the path
     pub rest-zero : (j : ℕ) → duesAt ≤ j → getD (tables s n) j 0 ≡ 0
-    rest-zero j l = above j (omega arith) ∙ zero-base j (λ c x. (omega arith, omega arith)) (λ m x. omega arith)
+    rest-zero j l = above j (omega arith) ∙ zero-base j (λ c x. (omega arith, omega arith)) (λ m x. omega arith) (λ m x. (omega arith, omega arith))
 
     -- ---- the start valuation
 

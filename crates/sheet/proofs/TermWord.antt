@@ -11,34 +11,34 @@ use borrow.Author.Tests.{leb-true, leb-false, le-ltb}
 use Rattle.specification.specs.Bytes.{pick}
 use Rattle.specification.specs.Parser.{Reader, Read, refused, found, Parser, give, require, andThen, _>>=_}
 use Rattle.specification.specs.Lines.{Declared}
-use Rattle.specification.specs.Ast.{Op, add, sub, mul, div, modulo, Term, scalarAt, localAt, elementAt, apply}
-use Rattle.specification.specs.Words.{TermWord, constantWord, scalarWord, localWord, arrayWord, opWord, termWord}
+use Rattle.specification.specs.Ast.{Op, add, sub, mul, div, modulo, Term, scalarAt, localAt, parameter, elementAt, apply}
+use Rattle.specification.specs.Words.{TermWord, constantWord, scalarWord, localWord, arrayWord, parameterWord, opWord, termWord}
 use Rattle.specification.specs.Formula.{Locals, operand, has, bind, binderOf, termOf, term}
 use Rattle.values.specs.Word.{biased}
-use Rattle.tables.specs.Codes.{constantCode, scalarCode, localCode, arrayCode}
+use Rattle.tables.specs.Codes.{constantCode, scalarCode, localCode, arrayCode, parameterCode}
 use Rattle.sheet.specs.declared.Token.{Token}
 use Rattle.sheet.specs.Codes.{token, opCode, indexWord, termToken, tokenOf, termTokens}
-use Rattle.sheet.specs.Sorts.{operandsOf}
+use Rattle.sheet.specs.Sorts.{wordOperands, operandsOf}
 use Rattle.sheet.specs.Dues.{Due, dueTerm, dueEx, parse}
-use Rattle.sheet.specs.Turn.{Limited, declared, faultOf, dueBy, dues, opens, left}
+use Rattle.sheet.specs.Turn.{Limited, declared, undeclared, faultOf, dueBy, dues, opens, left}
 use Rattle.sheet.proofs.Left.{left-none}
 use Rattle.sheet.proofs.Operands.{judged, admitted, spellTerm, one-due, two-terms}
 
 -- ---- tests of an index
 
 module _ {C : Type 0} (g : C → Parser (List Token)) (p : ℕ) where
-  -- an index is declared if and only if its word is
-  declared-index : (l n : ℕ) (q : Parser C) (fault : ℕ → ℕ) (x : ℕ → Read (List Token)) (r : Reader) → n ≤ 4294967295 →
+  -- an index is declared if and only if its word is; the refusal's number is one more than m
+  pub declared-index : (m l n : ℕ) (q : Parser C) (fault : ℕ → ℕ) (x : ℕ → Read (List Token)) (r : Reader) → n ≤ 4294967295 →
       andThen g (q r) ≡ judged (fault l) p (x l) →
-      andThen g (require (ltb l n) 7 p q r) ≡ judged (pick (ltb (indexWord l) n) (fault (indexWord l)) 7) p (x (indexWord l))
-  declared-index l n q fault x r h same = fits (leb l 4294967295) refl
+      andThen g (require (ltb l n) (suc m) p q r) ≡ judged (pick (ltb (indexWord l) n) (fault (indexWord l)) (suc m)) p (x (indexWord l))
+  declared-index m l n q fault x r h same = fits (leb l 4294967295) refl
     where
-      test : (b : Bool) → andThen g (require b 7 p q r) ≡ judged (pick b (fault l) 7) p (x l)
+      test : (b : Bool) → andThen g (require b (suc m) p q r) ≡ judged (pick b (fault l) (suc m)) p (x l)
       test true = same
       test false = refl
 
       fits : (b : Bool) → leb l 4294967295 ≡ b →
-          andThen g (require (ltb l n) 7 p q r) ≡ judged (pick (ltb (indexWord l) n) (fault (indexWord l)) 7) p (x (indexWord l))
+          andThen g (require (ltb l n) (suc m) p q r) ≡ judged (pick (ltb (indexWord l) n) (fault (indexWord l)) (suc m)) p (x (indexWord l))
       fits true e = let i : indexWord l ≡ l = omega (arith, leb-true l 4294967295 e) in rw i (test (ltb l n))
       fits false e =
           let large : n ≤ l = omega (arith, leb-false l 4294967295 e) in
@@ -64,17 +64,20 @@ module _ (D : Declared) (small : Limited D) (k : ℕ) (S : Locals) where
 
   pub term-word : (p : ℕ) (w : TermWord) (r : Reader) →
       andThen spellTerm (termOf D (λ r. term D k S r) S p w r) ≡ admitted D (dueTerm (suc k) S) p (tokenOf (just (termWord w))) r
-  unfolding admitted faultOf declared opens operandsOf dues dueBy tokenOf parse termTokens
+  unfolding admitted faultOf declared undeclared opens operandsOf wordOperands dues dueBy tokenOf parse termTokens
   term-word p (constantWord z) r = sym (left-none D (token constantCode (biased z) ∷ []) r)
   term-word p (scalarWord n) r =
-      declared-index spellTerm p n (D .scalars) (give (scalarAt n)) (λ i. 0) (λ i. left D [] (token scalarCode i ∷ []) r) r (omega arith)
+      declared-index spellTerm p 6 n (D .scalars) (give (scalarAt n)) (λ i. 0) (λ i. left D [] (token scalarCode i ∷ []) r) r (omega arith)
       (sym (left-none D (token scalarCode n ∷ []) r))
   term-word p (localWord l) r =
-      declared-index spellTerm p l (D .locals) (require (has l S) 8 p (give (localAt l))) (λ i. pick (has i S) 0 8)
+      declared-index spellTerm p 6 l (D .locals) (require (has l S) 8 p (give (localAt l))) (λ i. pick (has i S) 0 8)
       (λ i. left D [] (token localCode i ∷ []) r) r (omega arith)
       (placed-local spellTerm p (has l S) (give (localAt l)) (left D [] (token localCode l ∷ []) r) r (sym (left-none D (token localCode l ∷ []) r)))
+  term-word p (parameterWord n) r =
+      declared-index spellTerm p 11 n (D .parameters) (give (parameter n)) (λ i. 0) (λ i. left D [] (token parameterCode i ∷ []) r) r (omega (arith, small .parameters))
+      (sym (left-none D (token parameterCode n ∷ []) r))
   term-word p (arrayWord a) r =
-      declared-index spellTerm p a (length (D .arrays)) (T >>= λ i. give (elementAt a i)) (λ i. 0)
+      declared-index spellTerm p 6 a (length (D .arrays)) (T >>= λ i. give (elementAt a i)) (λ i. 0)
       (λ i. left D (dueTerm k S ∷ []) (token arrayCode i ∷ []) r) r (omega arith)
       (one-due D (dueTerm k S) (term D k S) termTokens (λ r′. refl) termTokens (token arrayCode a ∷ []) (elementAt a) (λ t. refl) r)
   term-word p (opWord add) r = operation add r
@@ -106,13 +109,14 @@ module _ (D : Declared) (ds : ℕ → List Due) where
         go false = brings l (bindIn r l)
 
     pub binder-word : (p : ℕ) (w : TermWord) (r : Reader) → andThen κ (binderOf D p w r) ≡ admitLocal p (termToken w) r
-    unfolding faultOf declared
+    unfolding faultOf declared undeclared
     binder-word p (localWord l) r =
-        declared-index κ p l (D .locals) (bind p l) (λ i. pick (not (has i (r .bound))) 0 8)
+        declared-index κ p 6 l (D .locals) (bind p l) (λ i. pick (not (has i (r .bound))) 0 8)
         (λ i. left D (ds i) (token localCode i ∷ []) (bindIn r i)) r (omega arith) (free-local p l r)
     binder-word p (constantWord z) r = refl
     binder-word p (scalarWord n) r = refl
     binder-word p (arrayWord a) r = refl
+    binder-word p (parameterWord n) r = refl
     binder-word p (opWord add) r = refl
     binder-word p (opWord sub) r = refl
     binder-word p (opWord mul) r = refl

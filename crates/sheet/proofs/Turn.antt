@@ -10,17 +10,15 @@ use lib.Dec.{ltb, eqb·suc-zero}
 use Rattle.specification.specs.Bytes.{pick, inToken}
 use Rattle.specification.specs.Parser.{Reader, Read, refused, found, Parser, give, present, andThen, _>>=_, taken}
 use Rattle.specification.specs.Lines.{Declared}
-use Rattle.specification.specs.Words.{Word, wordOf}
-use Rattle.specification.specs.Formula.{Token as WordToken, Locals, token, binder, term, formula}
-use Rattle.specification.specs.WellFormed.{Limits}
+use Rattle.specification.specs.Words.{Word}
+use Rattle.specification.specs.Formula.{Token as WordToken, Locals, token, binder, procedure, term, formula}
 use Rattle.tables.specs.Layout.{maxTokens}
 use Rattle.sheet.specs.declared.Token.{Token}
-use Rattle.sheet.specs.Codes.{tokenOf}
-use Rattle.sheet.specs.Dues.{Due, dueFormula, dueTerm, dueEx, dueRange, parse}
-use Rattle.sheet.specs.Turn.{Limited, faultOf, opens, binds, spelling, tokenAt, faultAt, behind, left, leftHere}
+use Rattle.sheet.specs.Dues.{Due, dueFormula, dueTerm, dueProcedure, dueEx, dueRange, parse}
+use Rattle.sheet.specs.Turn.{Limited, faultOf, opens, binds, spelling, wordFor, tokenIn, tokenAt, faultAt, behind, left, leftHere}
 use Rattle.sheet.proofs.Left.{then-assoc, left-front, left-++}
 use Rattle.sheet.proofs.Operands.{judged, admitted}
-use Rattle.sheet.proofs.Dues.{admits, step-formula, step-term, step-ex, step-range}
+use Rattle.sheet.proofs.Dues.{admits, step-formula, step-term, step-procedure, step-ex, step-range}
 
 -- ---- where nothing may nest deeper
 
@@ -32,6 +30,10 @@ module _ (D : Declared) (S : Locals) (r : Reader) where
   pub deep-term : parse D (dueTerm zero S) r ≡ refused 9 (r .place)
   unfolding parse term
   deep-term = refl
+
+  pub deep-procedure : parse D (dueProcedure zero S) r ≡ refused 9 (r .place)
+  unfolding parse procedure
+  deep-procedure = refl
 
   pub deep-ex : parse D (dueEx zero S) r ≡ refused 9 (r .place)
   unfolding parse binder
@@ -54,9 +56,9 @@ module _ (D : Declared) (d : Due) (r : Reader) where
   abbrev taking : Token → Read (List Token)
   taking t = left D (opens d t) (t ∷ []) (passed (binds d t (r .bound)))
 
-  token-turn : (token (D .edition) >>= admits D d) r ≡
-      judged (pick (ltb (r .tokens) maxTokens) (faultOf D d (r .bound) (tokenAt D r)) 9) (r .place) (taking (tokenAt D r))
-  unfolding token taken admitted tokenOf faultOf tokenAt
+  token-turn : (token (wordFor D d) >>= admits D d) r ≡
+      judged (pick (ltb (r .tokens) maxTokens) (faultOf D d (r .bound) (tokenAt D d r)) 9) (r .place) (taking (tokenAt D d r))
+  unfolding token taken admitted faultOf tokenAt
   token-turn = by-count (ltb (r .tokens) maxTokens)
     where
       counted : Reader
@@ -67,30 +69,28 @@ module _ (D : Declared) (d : Due) (r : Reader) where
 
       by-word : (o : Option Word) →
           andThen (admits D d) (andThen (worded (r .tokens)) (present 4 (r .place) o (passed (r .bound)))) ≡
-          judged (faultOf D d (r .bound) (tokenOf o)) (r .place) (taking (tokenOf o))
+          judged (faultOf D d (r .bound) (tokenIn D d o)) (r .place) (taking (tokenIn D d o))
       by-word none = refl
       by-word (just w) = refl
 
       by-count : (b : Bool) →
           andThen (admits D d)
-          (andThen (λ n. taken inToken >>= λ bs. present 4 (r .place) (wordOf (D .edition) bs) >>= worded n)
+          (andThen (λ n. taken inToken >>= λ bs. present 4 (r .place) (wordFor D d bs) >>= worded n)
           (pick b (found (r .tokens) counted) (refused 9 (r .place)))) ≡
-          judged (pick b (faultOf D d (r .bound) (tokenAt D r)) 9) (r .place) (taking (tokenAt D r))
-      by-count true = by-word (wordOf (D .edition) (spelling r))
+          judged (pick b (faultOf D d (r .bound) (tokenAt D d r)) 9) (r .place) (taking (tokenAt D d r))
+      by-count true = by-word (wordFor D d (spelling r))
       by-count false = refl
 
--- the limits are those that are read
-pub limited : (D : Declared) → Limits D → Limited D
-limited D l = record { scalars = l .scalars; locals = l .locals; arrays = l .arrays }
-
 module _ (D : Declared) (small : Limited D) where
-  pub parse-turn : (d : Due) (r : Reader) → let t = tokenAt D r in
+  pub parse-turn : (d : Due) (r : Reader) → let t = tokenAt D d r in
       parse D d r ≡ judged (faultAt D d r) (r .place) (left D (opens d t) (t ∷ []) (behind D d r))
   unfolding faultAt
   parse-turn (dueFormula zero S) r = deep-formula D S r
   parse-turn (dueFormula (suc k) S) r = step-formula D small k S r ∙ token-turn D (dueFormula (suc k) S) r ∙ rw eqb·suc-zero
   parse-turn (dueTerm zero S) r = deep-term D S r
   parse-turn (dueTerm (suc k) S) r = step-term D small k S r ∙ token-turn D (dueTerm (suc k) S) r ∙ rw eqb·suc-zero
+  parse-turn (dueProcedure zero S) r = deep-procedure D S r
+  parse-turn (dueProcedure (suc k) S) r = step-procedure D small k S r ∙ token-turn D (dueProcedure (suc k) S) r ∙ rw eqb·suc-zero
   parse-turn (dueEx zero S) r = deep-ex D S r
   parse-turn (dueEx (suc k) S) r = step-ex D small k S r ∙ token-turn D (dueEx (suc k) S) r ∙ rw eqb·suc-zero
   parse-turn (dueRange zero S) r = deep-range D S r
@@ -103,11 +103,11 @@ module _ (D : Declared) (small : Limited D) where
     unfolding leftHere
     turn-refused n e = rw (parse-turn d r, e)
 
-    pub turn-taken : faultAt D d r ≡ 0 → let t = tokenAt D r in
+    pub turn-taken : faultAt D d r ≡ 0 → let t = tokenAt D d r in
         leftHere D d ds ts r ≡ left D (opens d t ++ ds) (ts ++ (t ∷ [])) (behind D d r)
     unfolding leftHere
     turn-taken e =
-        let t = tokenAt D r in
+        let t = tokenAt D d r in
         rw (parse-turn d r, e)
         (sym
         (left-++ D (opens d t) ds (ts ++ (t ∷ [])) (behind D d r) ∙

@@ -1,7 +1,9 @@
--- The answers of the code that reads the first five lines, put into the specification's words. Assumes nothing.
-use Prim.Native.Nat.{ℕ}
-use Rattle.specification.specs.Bytes.{Bytes}
-use Rattle.specification.specs.Parser.{Read, refused, found}
+-- The answers of the code that reads the lines before the formula's, put into the specification's words. Assumes nothing.
+use Prim.Native.Nat.{ℕ, _≤_}
+use lib.ListN.{length}
+use Rattle.specification.specs.Bytes.{Bytes, Class}
+use Rattle.specification.specs.Parser.{Read, refused, found, Parser, give, _>>=_, _>>_, mark, key}
+use Rattle.specification.specs.Lines.{count}
 use lib.IntN.{ℤ}
 use Rattle.values.specs.Word.{signed}
 use Rattle.sheet.specs.declared.lines.Index.{Index}
@@ -14,6 +16,11 @@ use Rattle.sheet.specs.Codes.{indexWord}
 use Rattle.sheet.specs.Reader.{lineAt}
 
 -- ---- numbers
+
+-- a key, a number within limits, and a byte of the class: with a line feed a line with one number, with a colon a procedure's line up to its
+-- formula
+abbrev pub numberTo : Bytes → ℕ → ℕ → Class → Parser ℕ
+numberTo k lo hi c = key k >> (count lo hi >>= λ n. mark c >> give n)
 
 -- what was read, made into another thing
 abbrev pub mapped : {A B : Type 0} → (A → B) → Read A → Read B
@@ -31,6 +38,11 @@ indexRead s (index.Is n e) = found n (lineAt s e)
 abbrev pub integerRead : Bytes → Integer → Read ℤ
 integerRead s (integer.Refused k p) = refused k p
 integerRead s (integer.Is w e) = found (signed w) (lineAt s e)
+
+-- what was read lies within the sheet
+abbrev pub Inside : Bytes → Count → Type 0
+Inside s (count.Refused k p) = Unit {0}
+Inside s (count.Is n e) = e ≤ length s
 
 abbrev pub countRead : Bytes → Count → Read ℕ
 countRead s (count.Refused k p) = refused k p

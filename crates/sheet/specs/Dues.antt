@@ -1,17 +1,19 @@
 -- The formula read with a list of what is due instead of recursive descent, giving the tokens that were read. The laws that this is the
 -- specification's reading are in proofs/Dues.antt. Assumes nothing.
-use Prim.Native.Nat.{ℕ}
+use Prim.Native.Nat.{ℕ, _+_}
 use mathlib.Core.List.{List, [], _∷_, _++_}
+use lib.ListN.{length}
 use Rattle.specification.specs.Parser.{Parser, give, _>>=_}
-use Rattle.specification.specs.Lines.{Declared}
-use Rattle.specification.specs.Formula.{Locals, operand, binder, term, formula}
-use Rattle.tables.specs.Codes.{localCode}
+use Rattle.specification.specs.Lines.{Declared, procedureOf}
+use Rattle.specification.specs.Formula.{Locals, operand, binder, procedure, term, arguments, formula}
+use Rattle.tables.specs.Codes.{localCode, procedureCode}
 use Rattle.sheet.specs.declared.Token.{Token}
-use Rattle.sheet.specs.Codes.{token, termTokens, formulaTokens}
+use Rattle.sheet.specs.Codes.{token, termTokens, termsTokens, formulaTokens}
 
--- what is due: nesting may go k deeper, and S is in scope. A binder's other operands become due when its local is read
+-- what is due: nesting may go k deeper, and S is in scope. A binder's other operands become due when its local is read, and a call's
+-- arguments when the procedure's number is read
 pub data Due : Type 0 where
-  dueFormula dueTerm dueEx dueRange : ℕ → Locals → Due
+  dueFormula dueTerm dueProcedure dueEx dueRange : ℕ → Locals → Due
 
 module _ (D : Declared) where
   unfoldable pub parse : Due → Parser (List Token)
@@ -21,6 +23,10 @@ module _ (D : Declared) where
   parse (dueTerm k S) = do
     t ← term D k S
     give (termTokens t)
+  parse (dueProcedure k S) = do
+    K ← procedure D k
+    ts ← arguments D (term D k S) (procedureOf D K .parameters)
+    give (token (procedureCode + length ts) K ∷ termsTokens ts)
   parse (dueEx k S) = do
     l ← binder D k
     F ← operand (formula D k (l ∷ S))

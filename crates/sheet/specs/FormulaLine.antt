@@ -1,16 +1,16 @@
--- The formula's line, and what the code's answers say of it: a refusal, or the tokens laid in the table with the ends of their subtrees.
--- Assumes nothing.
-use Prim.Native.Nat.{ℕ, _+_, _≤_}
+-- A formula's line, and what the code's answers say of it: a refusal, or the tokens laid in the table, at the end of the sheet with the ends
+-- of their subtrees. Assumes nothing.
+use Prim.Native.Nat.{ℕ, _+_, _≤_, _<_}
 use mathlib.Core.Path.{_≡_}
-use mathlib.Core.List.{List, []}
+use mathlib.Core.List.{List, [], _++_}
 use lib.ListN.{length, replicate}
 use lib.Dec.{eqb, ltb}
 use Rattle.specification.specs.Bytes.{Bytes, bytes, pick, feed}
 use Rattle.specification.specs.Parser.{Reader, Read, refused, found, Parser, give, _>>=_, _>>_, mark, key, finish}
-use Rattle.specification.specs.Lines.{Declared}
-use Rattle.specification.specs.Ast.{Formula}
+use Rattle.specification.specs.Lines.{Declared, procedureOf}
+use Rattle.specification.specs.Ast.{truth, Formula}
 use Rattle.specification.specs.Formula.{Locals, formula}
-use Rattle.tables.specs.Layout.{maxTokens, maxScalars, maxLocals, maxArrays, maxNesting}
+use Rattle.tables.specs.Layout.{maxTokens, maxScalars, maxLocals, maxArrays, maxNesting, maxProcs, maxParameters, parametersAt}
 use Rattle.sheet.specs.declared.Token.{Token}
 use Rattle.sheet.specs.declared.stack.Entry.{Entry}
 use Rattle.sheet.specs.declared.formula.Limits.{Limits}
@@ -19,23 +19,33 @@ use Rattle.sheet.specs.declared.formula.Parsed.the-variants as parsed
 use Rattle.sheet.specs.declared.formula.Scanned.{Scanned}
 use Rattle.sheet.specs.declared.formula.Scanned.the-variants as scanned
 use Rattle.sheet.specs.Codes.{formulaTokens}
-use Rattle.sheet.specs.Reader.{readerAt, lineAt}
+use Rattle.sheet.specs.Reader.{readerAt}
 use Rattle.sheet.specs.Dues.{Due, dueFormula}
-use Rattle.sheet.specs.Turn.{Limited, room, faultOf, binds, leftHere}
+use Rattle.sheet.specs.Turn.{Limited, room, faultOf, binds, wordFor, tokenIn, leftHere}
 use Rattle.sheet.specs.Tables.{Words, laidTokens, laidEnds}
-use Rattle.sheet.specs.Stack.{Bits, Means, Beside}
+use Rattle.sheet.specs.Ends.{tokensIn}
+use Rattle.sheet.specs.Stack.{Bits, sortOf, Means, Beside}
+
+-- a formula and the line feed after it
+unfoldable pub lineFormula : Declared → Parser Formula
+lineFormula D = formula D maxNesting [] >>= λ F. mark feed >> give F
 
 -- the sheet from the formula's line on
 unfoldable pub formulaRest : Declared → Parser Formula
-formulaRest D = key (bytes "formula=") >> (formula D maxNesting [] >>= λ F. mark feed >> (finish >> give F))
+formulaRest D = key (bytes "formula=") >> (lineFormula D >>= λ F. finish >> give F)
 
 -- ---- what is declared, by its numbers
 
--- within document 01's limits
+-- within the documents' limits
 pub record Small (d : Limits) : Type 0 where
   pub scalars : d .scalars ≤ maxScalars
   pub locals : d .locals ≤ maxLocals
   pub arrays : d .arrays ≤ maxArrays
+  pub procedures : d .procedures ≤ maxProcs
+
+-- no procedure in the words has more than eight parameters
+abbrev pub Sized : Limits → Words → Type 0
+Sized d w = (K : ℕ) → K < d .procedures → parametersAt w K ≤ maxParameters
 
 -- the numbers are those of what is declared
 pub record Counts (d : Limits) (D : Declared) : Type 0 where
@@ -43,13 +53,31 @@ pub record Counts (d : Limits) (D : Declared) : Type 0 where
   pub scalars : D .scalars ≡ d .scalars
   pub locals : D .locals ≡ d .locals
   pub arrays : length (D .arrays) ≡ d .arrays
+  pub procedures : length (D .procedures) ≡ d .procedures
+  pub parameters : D .parameters ≡ d .parameters
   pub limited : Limited D
+
+-- and the words have each procedure's number of parameters
+pub record Known (d : Limits) (w : Words) (D : Declared) : Type 0 where
+  pub counts : Counts d D
+  pub supplied : (K : ℕ) → K < d .procedures → parametersAt w K ≡ procedureOf D K .parameters
 
 -- a declaration with these numbers: a token's refusal depends on no more
 abbrev pub counted : Limits → Declared
-counted d = record { edition = d .edition; scalars = d .scalars; locals = d .locals; arrays = replicate (d .arrays) 0 }
+counted d = record {
+  edition = d .edition;
+  scalars = d .scalars;
+  locals = d .locals;
+  arrays = replicate (d .arrays) 0;
+  procedures = replicate (d .procedures) (record { parameters = 0; formula = truth });
+  parameters = d .parameters;
+}
 
 -- ---- one token
+
+-- t is the token that the bytes spell where something of this sort is due
+abbrev pub Spells : Bytes → ℕ → Limits → Words → Token → Type 0
+Spells bs sort l w t = (D : Declared) (d : Due) → Known l w D → sort ≡ sortOf d → t ≡ tokenIn D d (wordFor D d bs)
 
 -- its refusal where d is due: 9 where it nests too deep or is the 1,025th, then its own
 abbrev pub refusalOf : Limits → Due → Locals → ℕ → Token → ℕ
@@ -65,7 +93,8 @@ Binds e t m m′ = (d : Due) (B : Locals) → Means e d → Bits m B → Bits m�
 
 -- ---- the tokens
 
--- where a formula begins: the sheet and what is declared, the place, how many tokens were read before, and which locals have a binder
+-- where a formula or its line begins: the sheet and what is declared, the place, how many tokens were read before, and which locals have a
+-- binder
 pub record Begin : Type 0 where
   pub bytes : Bytes
   pub limits : Limits
@@ -76,9 +105,13 @@ pub record Begin : Type 0 where
 abbrev pub begin : Bytes → Limits → ℕ → ℕ → Locals → Begin
 begin s l p n B = record { bytes = s; limits = l; from = p; tokens = n; bound = B }
 
+-- the reader there
+abbrev pub atBegin : Begin → Reader
+atBegin b = readerAt (b .bytes) (b .from) (b .tokens) (b .bound)
+
 -- the reading of the formula from there on
 abbrev pub whole : Begin → Declared → Read (List Token)
-whole b D = leftHere D (dueFormula maxNesting []) [] [] (readerAt (b .bytes) (b .from) (b .tokens) (b .bound))
+whole b D = leftHere D (dueFormula maxNesting []) [] [] (atBegin b)
 
 -- it was read up to the place e: n tokens were read then, and the set m of locals have a binder
 pub record Through (b : Begin) (w w′ : Words) (n e m : ℕ) : Type 0 where
@@ -89,24 +122,45 @@ pub record Through (b : Begin) (w w′ : Words) (n e m : ℕ) : Type 0 where
   pub within : e ≤ length (b .bytes)
   pub set : Bits m locals
   pub words : Beside (laidTokens (b .tokens) tokens w) w′
-  pub all : (D : Declared) → Counts (b .limits) D → whole b D ≡ found tokens (readerAt (b .bytes) e n locals)
+  pub all : (D : Declared) → Known (b .limits) w D → whole b D ≡ found tokens (readerAt (b .bytes) e n locals)
 
 abbrev pub Scans : Begin → Words → Words → Scanned → Type 0
-Scans b w w′ (scanned.Refused k p) = (length w′ ≡ length w) × ((D : Declared) → Counts (b .limits) D → whole b D ≡ refused k p)
+Scans b w w′ (scanned.Refused k p) = (length w′ ≡ length w) × ((D : Declared) → Known (b .limits) w D → whole b D ≡ refused k p)
 Scans b w w′ (scanned.Read n e m) = Through b w w′ n e m
 
 -- ---- the line
 
--- the formula was read, and its n tokens stand in the table
-pub record Laid (s : Bytes) (at : ℕ) (D : Declared) (w w′ : Words) (n : ℕ) : Type 0 where
+-- the formula and its line feed were read, up to the place e
+pub record Closed (b : Begin) (D : Declared) (w w′ : Words) (n e m : ℕ) : Type 0 where
+  pub formula : Formula
+  pub locals : Locals
+  pub is : lineFormula D (atBegin b) ≡ found formula (readerAt (b .bytes) e n locals)
+  pub count : b .tokens + length (formulaTokens formula) ≡ n
+  pub few : n ≤ maxTokens
+  pub within : e ≤ length (b .bytes)
+  pub set : Bits m locals
+  pub words : Beside (laidTokens (b .tokens) (formulaTokens formula) w) w′
+
+-- no token and no byte was read beyond the last
+abbrev pub Within : Bytes → Scanned → Type 0
+Within s (scanned.Refused k p) = Unit {0}
+Within s (scanned.Read n e m) = (n ≤ maxTokens) × (e ≤ length s)
+
+abbrev pub Closes : Begin → Declared → Words → Words → Scanned → Type 0
+Closes b D w w′ (scanned.Refused k p) = (lineFormula D (atBegin b) ≡ refused k p) × (length w′ ≡ length w)
+Closes b D w w′ (scanned.Read n e m) = Closed b D w w′ n e m
+
+-- the formula's line was read, and the table has n tokens: those before it, and its own
+pub record Laid (b : Begin) (D : Declared) (w w′ : Words) (n : ℕ) : Type 0 where
   pub formula : Formula
   pub after : Reader
-  pub is : formulaRest D (lineAt s at) ≡ found formula after
-  pub count : length (formulaTokens formula) ≡ n
+  pub is : formulaRest D (atBegin b) ≡ found formula after
+  pub count : b .tokens + length (formulaTokens formula) ≡ n
   pub few : n ≤ maxTokens
   pub long : length w′ ≡ length w
-  pub words : Beside (laidEnds 0 (formulaTokens formula) (laidTokens 0 (formulaTokens formula) w)) w′
+  pub words :
+      Beside (laidEnds 0 (tokensIn w 0 (b .tokens) ++ formulaTokens formula) (laidTokens (b .tokens) (formulaTokens formula) w)) w′
 
-abbrev pub LineRead : Bytes → ℕ → Declared → Words → Words → Parsed → Type 0
-LineRead s at D w w′ (parsed.Refused k p) = (formulaRest D (lineAt s at) ≡ refused k p) × (length w′ ≡ length w)
-LineRead s at D w w′ (parsed.Read n) = Laid s at D w w′ n
+abbrev pub LineRead : Begin → Declared → Words → Words → Parsed → Type 0
+LineRead b D w w′ (parsed.Refused k p) = (formulaRest D (atBegin b) ≡ refused k p) × (length w′ ≡ length w)
+LineRead b D w w′ (parsed.Read n) = Laid b D w w′ n

@@ -1,16 +1,19 @@
--- What the tables hold: which term or formula stands from a token on, the values of cells and locals, and the arrays' first cells. A walk
--- leans on these and never looks at the sheet's bytes. Meaning is given by recursion on the term or formula. Assumes nothing.
-use Prim.Native.Nat.{ℕ, suc, _<_, _≤_, max}
+-- What the tables hold: which term or formula stands from a token on, the values of cells and locals, the arrays' first cells and the
+-- procedures. A walk leans on these and never looks at the sheet's bytes. Meaning is given by recursion on the term or formula.
+-- Assumes nothing.
+use Prim.Native.Nat.{ℕ, suc, _+_, _<_, _≤_, max}
 use mathlib.Core.Path.{_≡_}
-use lib.ListN.{getD}
-use Rattle.specification.specs.Lines.{Declared, firstOf}
-use Rattle.specification.specs.Ast.{Term, constant, scalarAt, localAt, elementAt, apply, Formula, truth, and, or, imp, neg, eq, compare, ex, some, all}
+use mathlib.Core.List.{List, [], _∷_}
+use lib.ListN.{length, getD}
+use Rattle.specification.specs.Lists.{Each}
+use Rattle.specification.specs.Lines.{Declared, firstOf, procedureOf}
+use Rattle.specification.specs.Ast.{Term, constant, scalarAt, localAt, parameter, elementAt, apply, Formula, truth, and, or, imp, neg, eq, compare, ex, some, all, call}
 use Rattle.specification.specs.Place.{Place, cell, local}
 use Rattle.specification.specs.Value.{Slot, empty, full, Valuation}
 use Rattle.values.specs.Word.{biased}
-use Rattle.tables.specs.Layout.{maxTokens, maxCells, maxLocals, maxArrays, maxNesting, cellSlot, localSlot, firstSlot}
-pub use Rattle.tables.specs.Layout.{codeAt, operandAt, endAt}
-use Rattle.tables.specs.Codes.{trueCode, andCode, orCode, impCode, notCode, eqCode, exCode, someCode, allCode, constantCode, scalarCode, localCode, arrayCode}
+use Rattle.tables.specs.Layout.{maxTokens, maxCells, maxLocals, maxArrays, maxNesting, maxParameters, cellSlot, localSlot, firstSlot}
+pub use Rattle.tables.specs.Layout.{codeAt, operandAt, endAt, procAt}
+use Rattle.tables.specs.Codes.{trueCode, andCode, orCode, impCode, notCode, eqCode, exCode, someCode, allCode, callCode, constantCode, scalarCode, localCode, arrayCode, parameterCode, procedureCode}
 use Rattle.sheet.specs.Codes.{relCode, opCode}
 use Rattle.sheet.specs.Tables.{Words}
 
@@ -28,12 +31,18 @@ abbrev pub TermAt : Words → ℕ → Term → Type 0
 TermAt w i (constant z) = TokenAt w i constantCode (suc i) × (operandAt w i ≡ biased z)
 TermAt w i (scalarAt n) = TokenAt w i scalarCode (suc i) × (operandAt w i ≡ n)
 TermAt w i (localAt l) = TokenAt w i localCode (suc i) × (operandAt w i ≡ l)
+TermAt w i (parameter n) = TokenAt w i parameterCode (suc i) × (operandAt w i ≡ n)
 TermAt w i (elementAt a t) = TokenAt w i arrayCode (endAt w (suc i)) × (operandAt w i ≡ a) × TermAt w (suc i) t
 TermAt w i (apply o s t) = TokenAt w i (opCode o) (endAt w (endAt w (suc i))) × TermAt w (suc i) s × TermAt w (endAt w (suc i)) t
 
 -- two terms one after the other, from token i up to token e
 abbrev pub TermsAt : Words → ℕ → ℕ → Term → Term → Type 0
 TermsAt w i e s t = TermAt w i s × TermAt w (endAt w i) t × (endAt w (endAt w i) ≡ e)
+
+-- terms one after the other, from token i up to token e
+abbrev pub ArgumentsAt : Words → ℕ → ℕ → List Term → Type 0
+ArgumentsAt w i e [] = i ≡ e
+ArgumentsAt w i e (t ∷ ts) = TermAt w i t × ArgumentsAt w (endAt w i) e ts
 
 -- the local l stands at token i
 abbrev pub LocalAt : Words → ℕ → ℕ → Type 0
@@ -61,6 +70,11 @@ FormulaAt w i (all n l a b F) =
     × LocalAt w (suc i) l
     × TermsAt w (suc (suc i)) (endAt w (endAt w (suc (suc i)))) a b
     × FormulaAt w (endAt w (endAt w (suc (suc i)))) F
+FormulaAt w i (call K ts F) =
+    TokenAt w i callCode (endAt w (suc i))
+    × TokenAt w (suc i) (procedureCode + length ts) (endAt w (suc i))
+    × (operandAt w (suc i) ≡ K)
+    × ArgumentsAt w (suc (suc i)) (endAt w (suc i)) ts
 
 -- ---- nesting: how deep a term goes, itself being 1
 
@@ -68,21 +82,34 @@ unfoldable pub height : Term → ℕ
 height (constant z) = 1
 height (scalarAt n) = 1
 height (localAt l) = 1
+height (parameter n) = 1
 height (elementAt a t) = suc (height t)
 height (apply o s t) = suc (max (height s) (height t))
 
--- terms nest at most 64 deep, and binders' locals have slots
-abbrev pub Shallow : Formula → Type 0
-Shallow truth = Unit {0}
-Shallow (and F G) = Shallow F × Shallow G
-Shallow (or F G) = Shallow F × Shallow G
-Shallow (imp n F G) = Shallow F × Shallow G
-Shallow (neg n F) = Shallow F
-Shallow (eq n s t) = (height s ≤ maxNesting) × (height t ≤ maxNesting)
-Shallow (compare n r s t) = (height s ≤ maxNesting) × (height t ≤ maxNesting)
-Shallow (ex l F) = (l < maxLocals) × Shallow F
-Shallow (some n l a b F) = (height a ≤ maxNesting) × (height b ≤ maxNesting) × (l < maxLocals) × Shallow F
-Shallow (all n l a b F) = (height a ≤ maxNesting) × (height b ≤ maxNesting) × (l < maxLocals) × Shallow F
+-- terms nest at most 64 deep, binders' locals have slots, and a call names one of the first m procedures, with at most 8 arguments
+abbrev pub Shallow : ℕ → Formula → Type 0
+Shallow m truth = Unit {0}
+Shallow m (and F G) = Shallow m F × Shallow m G
+Shallow m (or F G) = Shallow m F × Shallow m G
+Shallow m (imp n F G) = Shallow m F × Shallow m G
+Shallow m (neg n F) = Shallow m F
+Shallow m (eq n s t) = (height s ≤ maxNesting) × (height t ≤ maxNesting)
+Shallow m (compare n r s t) = (height s ≤ maxNesting) × (height t ≤ maxNesting)
+Shallow m (ex l F) = (l < maxLocals) × Shallow m F
+Shallow m (some n l a b F) = (height a ≤ maxNesting) × (height b ≤ maxNesting) × (l < maxLocals) × Shallow m F
+Shallow m (all n l a b F) = (height a ≤ maxNesting) × (height b ≤ maxNesting) × (l < maxLocals) × Shallow m F
+Shallow m (call K ts F) = (K < m) × (length ts ≤ maxParameters) × Each (λ t. height t ≤ maxNesting) ts
+
+-- ---- procedures
+
+-- the formula F of procedure K stands from its first token on, and calls earlier procedures only
+pub record BodyAt (w : Words) (K : ℕ) (F : Formula) : Type 0 where
+  pub inside : procAt w K < maxTokens
+  pub formula : FormulaAt w (procAt w K) F
+  pub shallow : Shallow K F
+
+abbrev pub ProceduresAt : Words → Declared → Type 0
+ProceduresAt w D = (K : ℕ) → K < length (D .procedures) → BodyAt w K (procedureOf D K .formula)
 
 -- ---- values
 

@@ -9,9 +9,10 @@ pub mod Held
 pub mod Numbered
 pub mod Packed
 pub mod Stack
-pub mod FormulaLine
 pub mod Ends
+pub mod FormulaLine
 pub mod Answers
 pub mod Firsts
 pub mod Items
+pub mod Rest
 pub mod Whole

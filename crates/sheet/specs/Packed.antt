@@ -6,7 +6,7 @@ use mathlib.Core.Option.{Option, none, some as just}
 use lib.Dec.{eqb}
 use Rattle.specification.specs.Bytes.{Bytes, pick, same}
 use Rattle.specification.specs.Words.{Entry}
-use Rattle.tables.specs.Codes.{unknownCode}
+use Rattle.tables.specs.Codes.{parameterCode, unknownCode}
 use Rattle.sheet.specs.declared.Token.{Token}
 use Rattle.sheet.specs.Codes.{token, indexWord, tokenOf}
 
@@ -32,3 +32,7 @@ codeBy k (e ∷ es) = let r = codeBy k es in pick (eqb k (packed (e .text))) (en
 abbrev pub indexed : ℕ → Option ℕ → Token
 indexed c none = token unknownCode 0
 indexed c (just n) = token c (indexWord n)
+
+-- the token of pN, which is no word of edition 1
+abbrev pub parameterToken : ℕ → Option ℕ → Token
+parameterToken edition o = pick (eqb edition 1) (token unknownCode 0) (indexed parameterCode o)

@@ -3,14 +3,15 @@
 use Prim.Native.Nat.{ℕ, _+_, _<_, _≤_}
 use mathlib.Core.Path.{_≡_}
 use mathlib.Core.List.{List, [], _∷_, _++_}
-use lib.ListN.{length, getD, set}
+use lib.ListN.{length, getD, set, replicate}
 use Rattle.specification.specs.Formula.{Locals, has}
 use Rattle.tables.specs.Layout.{maxLocals, dueSlot, duesAt, duesEnd}
 use Rattle.tables.specs.Locals.{inSet}
+use Rattle.tables.specs.Codes.{procedureCode}
 use Rattle.sheet.specs.declared.Token.{Token}
 use Rattle.sheet.specs.declared.stack.Entry.{Entry}
-use Rattle.sheet.specs.Sorts.{formulaSort, termSort, exSort, rangeSort}
-use Rattle.sheet.specs.Dues.{Due, dueFormula, dueTerm, dueEx, dueRange}
+use Rattle.sheet.specs.Sorts.{formulaSort, termSort, procedureSort, exSort, rangeSort}
+use Rattle.sheet.specs.Dues.{Due, dueFormula, dueTerm, dueProcedure, dueEx, dueRange}
 use Rattle.sheet.specs.Turn.{room, opens}
 use Rattle.sheet.specs.Tables.{Words}
 
@@ -25,12 +26,14 @@ pub record Bits (m : ℕ) (S : Locals) : Type 0 where
 abbrev pub sortOf : Due → ℕ
 sortOf (dueFormula k S) = formulaSort
 sortOf (dueTerm k S) = termSort
+sortOf (dueProcedure k S) = procedureSort
 sortOf (dueEx k S) = exSort
 sortOf (dueRange k S) = rangeSort
 
 abbrev pub scopeOf : Due → Locals
 scopeOf (dueFormula k S) = S
 scopeOf (dueTerm k S) = S
+scopeOf (dueProcedure k S) = S
 scopeOf (dueEx k S) = S
 scopeOf (dueRange k S) = S
 
@@ -65,6 +68,16 @@ pub record Beside (w w′ : Words) : Type 0 where
   pub above : (j : ℕ) → duesEnd ≤ j → getD w′ j 0 ≡ getD w j 0
 
 -- ---- what a token makes due
+
+-- the code c is one of those that may stand where e is due: of a word, or of a procedure's number
+pub record Coded (e : Entry) (c : ℕ) : Type 0 where
+  pub word : e .sort ≤ termSort → c < procedureCode
+  pub number : e .sort ≡ procedureSort → procedureCode ≤ c
+
+-- above n entries, w′ has the entry e so many times
+pub record Repeated (w w′ : Words) (n : ℕ) (e : Entry) (count : ℕ) : Type 0 where
+  pub beside : Beside w w′
+  pub stack : (d : Due) (ds : List Due) → Means e d → length ds ≡ n → Stacked w ds → Stacked w′ (replicate count d ++ ds)
 
 -- above n entries, the r entries of w′ have on top what a token makes due where e was due
 pub record Opened (w w′ : Words) (n : ℕ) (e : Entry) (t : Token) (r : ℕ) : Type 0 where

@@ -1,16 +1,17 @@
 -- The tables that the reader leaves in the work words (tables/specs/Layout.antt has the layout): tokens with the ends of their subtrees, the
--- cells' given values, and the arrays' first cells; every other word is zero. Assumes nothing.
+-- cells' given values, the arrays' first cells, and the procedures; every other word is zero. Assumes nothing.
 use Prim.Native.Nat.{ℕ, zero, suc, _+_, _-_}
-use mathlib.Core.List.{List, [], _∷_}
+use mathlib.Core.List.{List, [], _∷_, _++_}
 use lib.ListN.{length, set, replicate}
 use Rattle.specification.specs.Lines.{Declared, firstOf}
 use Rattle.specification.specs.Given.{Item}
+use Rattle.specification.specs.Ast.{Procedure}
 use Rattle.specification.specs.Sheet.{Sheet}
 use Rattle.values.specs.Word.{biased}
-use Rattle.tables.specs.Layout.{maxArrays, cellSlot, firstSlot, tokenSlot}
+use Rattle.tables.specs.Layout.{maxArrays, cellSlot, firstSlot, procSlot, tokenSlot}
 pub use Rattle.tables.specs.Layout.{Words}
 use Rattle.sheet.specs.declared.Token.{Token}
-use Rattle.sheet.specs.Codes.{formulaTokens}
+use Rattle.sheet.specs.Codes.{formulaTokens, proceduresTokens}
 use Rattle.sheet.specs.Sorts.{arity}
 
 -- ---- arrays
@@ -28,6 +29,14 @@ laidArrays D w = laidFirsts D 0 (suc maxArrays) w
 unfoldable pub laidGiven : List Item → Words → Words
 laidGiven [] w = w
 laidGiven (i ∷ is) w = laidGiven is (set (set w (cellSlot (i .cell)) 1) (cellSlot (i .cell) + 1) (biased (i .value)))
+
+-- ---- procedures
+
+-- from the K-th on, whose first token is the i-th: the first token of its formula, and how many parameters it has
+unfoldable pub laidProcs : ℕ → ℕ → List Procedure → Words → Words
+laidProcs K i [] w = w
+laidProcs K i (P ∷ Ps) w =
+    laidProcs (suc K) (i + length (formulaTokens (P .formula))) Ps (set (set w (procSlot K) i) (procSlot K + 1) (P .parameters))
 
 -- ---- tokens
 
@@ -49,13 +58,21 @@ laidEnds i (t ∷ ts) w = laidEnds (suc i) ts (set w (tokenSlot i + 2) (suc i + 
 
 -- ---- the tables, over so many work words
 
--- of what is declared, the given items and a list of tokens
-abbrev pub tablesOf : Declared → List Item → List Token → ℕ → Words
-tablesOf D is ts n = laidEnds 0 ts (laidTokens 0 ts (laidGiven is (laidArrays D (replicate n 0))))
+-- without tokens: of what is declared and the given items
+abbrev pub declaredTables : Declared → List Item → ℕ → Words
+declaredTables D is n = laidProcs 0 0 (D .procedures) (laidGiven is (laidArrays D (replicate n 0)))
 
--- the tokens of a sheet
+-- with a list of tokens
+abbrev pub tablesOf : Declared → List Item → List Token → ℕ → Words
+tablesOf D is ts n = laidEnds 0 ts (laidTokens 0 ts (declaredTables D is n))
+
+-- the tokens of a sheet: those of its procedures' lines, and then the formula's
 abbrev pub sheetTokens : Sheet → List Token
-sheetTokens s = formulaTokens (s .formula)
+sheetTokens s = proceduresTokens (s .declared .procedures) ++ formulaTokens (s .formula)
+
+-- the first of the formula's
+abbrev pub formulaStart : Sheet → ℕ
+formulaStart s = length (proceduresTokens (s .declared .procedures))
 
 unfoldable pub tables : Sheet → ℕ → Words
 tables s n = tablesOf (s .declared) (s .given) (sheetTokens s) n

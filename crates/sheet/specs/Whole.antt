@@ -1,36 +1,38 @@
--- The six lines in order: the rest of the sheet after some of them, what was read by then, and what the reader's answer says of a sheet.
--- Assumes nothing.
-use Prim.Native.Nat.{ℕ, zero, suc, _≤_, _<_}
+-- The lines in order: what was read after some of them, and what the reader's answer says of a sheet. The lines of procedures are one stage
+-- together. Assumes nothing.
+use Prim.Native.Nat.{ℕ, zero, suc, pred, _-_, _≤_, _<_}
+use mathlib.Core.Bool.{Bool, true, false, _&&_}
 use mathlib.Core.Path.{_≡_}
 use mathlib.Core.List.{List, []}
-use lib.ListN.{length, getD, replicate}
-use lib.Dec.{eqb}
-use Rattle.specification.specs.Bytes.{Bytes, bytes, feed, pick}
-use Rattle.specification.specs.Parser.{Reader, Read, refused, found, Parser, andThen, give, _>>=_, _>>_, mark, key, finish}
-use Rattle.specification.specs.Lines.{line, Declared, arraysLine}
-use Rattle.specification.specs.Given.{Item, givenLine}
-use Rattle.specification.specs.Ast.{Formula}
-use Rattle.specification.specs.Formula.{formula}
-use Rattle.specification.specs.Sheet.{Sheet, sheet}
-use Rattle.tables.specs.Layout.{maxScalars, maxLocals, maxNesting, pathAt}
+use lib.ListN.{length, getD, replicate, drop}
+use lib.Dec.{ltb}
+use Rattle.specification.specs.Bytes.{Bytes, bytes, begins}
+use Rattle.specification.specs.Parser.{Reader, Read, refused, found}
+use Rattle.specification.specs.Lines.{Declared}
+use Rattle.specification.specs.Given.{Item}
+use Rattle.specification.specs.Formula.{Locals}
+use Rattle.specification.specs.Sheet.{mostProcedures, Sheet, sheet}
+use Rattle.tables.specs.Layout.{maxTokens, maxScalars, maxLocals, maxProcs, maxParameters, pathAt}
 use Rattle.sheet.specs.declared.Reading.{Reading}
 use Rattle.sheet.specs.declared.Reading.the-variants as reading
 use Rattle.sheet.specs.declared.formula.Limits.{Limits}
+use Rattle.sheet.specs.declared.formula.Reached.{Reached}
 use Rattle.sheet.specs.declared.whole.Progress.{Progress}
 use Rattle.sheet.specs.declared.whole.Progress.the-variants as progress
-use Rattle.sheet.specs.Codes.{formulaTokens}
-use Rattle.sheet.specs.Reader.{lineAt}
-use Rattle.sheet.specs.Tables.{Words, laidArrays, laidGiven, tables}
-use Rattle.sheet.specs.Stack.{Beside}
+use Rattle.sheet.specs.Codes.{proceduresTokens}
+use Rattle.sheet.specs.Reader.{readerAt, lineAt}
+use Rattle.sheet.specs.Tables.{Words, laidArrays, laidTokens, declaredTables, sheetTokens, formulaStart, tables}
+use Rattle.sheet.specs.Stack.{Bits, Beside}
 use Rattle.sheet.specs.Items.{Declares}
-use Rattle.sheet.specs.FormulaLine.{formulaRest, Small, Counts}
+use Rattle.sheet.specs.FormulaLine.{Small, Counts}
+use Rattle.sheet.specs.Rest.{fromProcedures, fromBody, fromGiven, numberOf, limits, withNumber, afterNumbers}
 
 -- ---- what a sheet is read as
 
--- a refusal's number and place, or how many scalars, arrays and tokens there are
+-- a refusal's number and place, or how many scalars, arrays and tokens there are, and the formula's first token
 abbrev pub readingOf : Read Sheet → Reading
 readingOf (refused k p) = reading.Refused k p
-readingOf (found s r) = reading.Read (s .declared .scalars) (length (s .declared .arrays)) (length (formulaTokens (s .formula)))
+readingOf (found s r) = reading.Read (s .declared .scalars) (length (s .declared .arrays)) (length (sheetTokens s)) (formulaStart s)
 
 -- n work words after it: all zero, or the sheet's tables
 abbrev pub wordsOf : ℕ → Read Sheet → Words
@@ -45,57 +47,6 @@ pub record Zeroed (w w′ : Words) (from to : ℕ) : Type 0 where
   pub below : (j : ℕ) → j < from → getD w′ j 0 ≡ getD w j 0
   pub above : (j : ℕ) → to ≤ j → getD w′ j 0 ≡ getD w j 0
 
--- ---- the rest of the sheet after each line
-
-abbrev pub sheetOf : Declared → List Item → Formula → Sheet
-sheetOf D is F = record { declared = D; given = is; formula = F }
-
--- from the formula on
-abbrev pub fromFormula : Declared → List Item → Parser Sheet
-fromFormula D is r = andThen (λ F. give (sheetOf D is F)) (formulaRest D r)
-
--- from the given values on
-unfoldable pub fromGiven : Declared → Parser Sheet
-fromGiven D =
-    givenLine D >>= λ given.
-    key (bytes "formula=") >> (formula D maxNesting [] >>= λ F. mark feed >> (finish >> give (sheetOf D given F)))
-
--- from the arrays on
-abbrev pub declaring : Limits → List ℕ → Declared
-declaring d ns = record { edition = d .edition; scalars = d .scalars; locals = d .locals; arrays = ns }
-
-abbrev pub fromArrays : Limits → Parser Sheet
-fromArrays d = arraysLine (d .scalars) >>= λ ns. fromGiven (declaring d ns)
-
--- the line with one number that comes k-th, and what is declared with it
-abbrev pub numberOf : ℕ → Parser ℕ
-numberOf k =
-    pick (eqb k 0) (line (bytes "edition=") 1 1)
-    (pick (eqb k 1) (line (bytes "scalars=") 0 maxScalars)
-    (line (bytes "locals=") 0 maxLocals))
-
-abbrev pub withNumber : ℕ → Limits → ℕ → Limits
-withNumber k d n =
-    pick (eqb k 0) (record { edition = n; scalars = d .scalars; locals = d .locals; arrays = d .arrays })
-    (pick (eqb k 1) (record { edition = d .edition; scalars = n; locals = d .locals; arrays = d .arrays })
-    (record { edition = d .edition; scalars = d .scalars; locals = n; arrays = d .arrays }))
-
-abbrev pub fromLocals : Limits → Parser Sheet
-fromLocals d = numberOf 2 >>= λ n. fromArrays (withNumber 2 d n)
-
-abbrev pub fromScalars : Limits → Parser Sheet
-fromScalars d = numberOf 1 >>= λ n. fromLocals (withNumber 1 d n)
-
-abbrev pub fromEdition : Limits → Parser Sheet
-fromEdition d = numberOf 0 >>= λ n. fromScalars (withNumber 0 d n)
-
--- after k of the first three lines
-abbrev pub afterNumbers : ℕ → Limits → Parser Sheet
-afterNumbers zero d = fromEdition d
-afterNumbers (suc zero) d = fromScalars d
-afterNumbers (suc (suc zero)) d = fromLocals d
-afterNumbers (suc (suc (suc k))) d = fromArrays d
-
 -- ---- what was read, over n words that were zero: a line's own answer, and where the reader stands after k lines
 
 -- the answer of the line with one number that comes k-th
@@ -106,13 +57,15 @@ pub record Numbered (k : ℕ) (s : Bytes) (at : ℕ) (d l : Limits) (e : ℕ) : 
 
 abbrev pub NumberRead : ℕ → Bytes → ℕ → Limits → Progress → Type 0
 NumberRead k s at d (progress.Refused e p) = numberOf k (lineAt s at) ≡ refused e p
-NumberRead k s at d (progress.Read l t e) = Numbered k s at d l e
+NumberRead k s at d (progress.Read l x) = Numbered k s at d l (x .at)
 
 -- numbers of the first lines
 pub record Headed (k : ℕ) (s : Bytes) (n : ℕ) (d : Limits) (at : ℕ) (w : Words) : Type 0 where
   pub rest : sheet (lineAt s 0) ≡ afterNumbers k d (lineAt s at)
   pub scalars : d .scalars ≤ maxScalars
   pub locals : d .locals ≤ maxLocals
+  pub procedures : d .procedures ≡ 0
+  pub parameters : d .parameters ≡ 0
   pub words : w ≡ replicate n 0
   pub enough : pathAt ≤ n
 
@@ -120,6 +73,8 @@ pub record Headed (k : ℕ) (s : Bytes) (n : ℕ) (d : Limits) (at : ℕ) (w : W
 pub record Arrayed (s : Bytes) (n : ℕ) (d : Limits) (at : ℕ) (w : Words) : Type 0 where
   pub declared : Declared
   pub rest : sheet (lineAt s 0) ≡ fromGiven declared (lineAt s at)
+  pub none : declared .procedures ≡ []
+  pub plain : declared .parameters ≡ 0
   pub counts : Counts d declared
   pub small : Small d
   pub declares : Declares declared (d .scalars) (d .arrays) w
@@ -127,38 +82,79 @@ pub record Arrayed (s : Bytes) (n : ℕ) (d : Limits) (at : ℕ) (w : Words) : T
   pub long : length w ≡ n
   pub enough : pathAt ≤ n
 
--- the given values
-pub record Filled (s : Bytes) (n : ℕ) (d : Limits) (at : ℕ) (w : Words) : Type 0 where
+-- the given values and some procedures; up to k lines of procedures may follow
+pub record Filled (k : ℕ) (s : Bytes) (n : ℕ) (d : Limits) (x : Reached) (w : Words) : Type 0 where
   pub declared : Declared
   pub items : List Item
-  pub rest : sheet (lineAt s 0) ≡ fromFormula declared items (lineAt s at)
+  pub locals : Locals
+  pub rest : sheet (lineAt s 0) ≡ fromProcedures k declared items (readerAt s (x .at) (x .tokens) locals)
   pub counts : Counts d declared
+  pub plain : declared .parameters ≡ 0
   pub small : Small d
-  pub words : w ≡ laidGiven items (laidArrays declared (replicate n 0))
+  pub set : Bits (x .bound) locals
+  pub tokens : length (proceduresTokens (declared .procedures)) ≡ x .tokens
+  pub few : x .tokens ≤ maxTokens
+  pub words : Beside (laidTokens 0 (proceduresTokens (declared .procedures)) (declaredTables declared items n)) w
   pub long : length w ≡ n
   pub enough : pathAt ≤ n
 
--- the whole sheet, with so many tokens; what was due while the formula was read still stands in the words
-pub record Tabled (s : Bytes) (n : ℕ) (d : Limits) (t : ℕ) (w : Words) : Type 0 where
+-- the whole sheet; what was due while formulas were read still stands in the words
+pub record Tabled (s : Bytes) (n : ℕ) (d : Limits) (x : Reached) (w : Words) : Type 0 where
   pub whole : Sheet
   pub after : Reader
   pub is : sheet (lineAt s 0) ≡ found whole after
   pub scalars : whole .declared .scalars ≡ d .scalars
   pub arrays : length (whole .declared .arrays) ≡ d .arrays
-  pub tokens : length (formulaTokens (whole .formula)) ≡ t
+  pub tokens : length (sheetTokens whole) ≡ x .tokens
+  pub first : formulaStart whole ≡ x .first
   pub words : Beside (tables whole n) w
 
--- k lines are read, of which p tells
+-- how many lines of procedures may follow
+abbrev pub leftLines : Limits → ℕ
+leftLines d = mostProcedures (d .edition) - d .procedures
+
+-- k lines are read, of which p tells; the fifth stage is that of the given values and some procedures, the sixth that of all procedures
 abbrev pub Went : ℕ → Bytes → ℕ → Progress → Words → Type 0
 Went k s n (progress.Refused e p) w = (sheet (lineAt s 0) ≡ refused e p) × (length w ≡ n)
-Went zero s n (progress.Read d t at) w = Headed 0 s n d at w
-Went (suc zero) s n (progress.Read d t at) w = Headed 1 s n d at w
-Went (suc (suc zero)) s n (progress.Read d t at) w = Headed 2 s n d at w
-Went (suc (suc (suc zero))) s n (progress.Read d t at) w = Headed 3 s n d at w
-Went (suc (suc (suc (suc zero)))) s n (progress.Read d t at) w = Arrayed s n d at w
-Went (suc (suc (suc (suc (suc zero))))) s n (progress.Read d t at) w = Filled s n d at w
-Went (suc (suc (suc (suc (suc (suc k)))))) s n (progress.Read d t at) w = Tabled s n d t w
+Went zero s n (progress.Read d x) w = Headed 0 s n d (x .at) w
+Went (suc zero) s n (progress.Read d x) w = Headed 1 s n d (x .at) w
+Went (suc (suc zero)) s n (progress.Read d x) w = Headed 2 s n d (x .at) w
+Went (suc (suc (suc zero))) s n (progress.Read d x) w = Headed 3 s n d (x .at) w
+Went (suc (suc (suc (suc zero)))) s n (progress.Read d x) w = Arrayed s n d (x .at) w
+Went (suc (suc (suc (suc (suc zero))))) s n (progress.Read d x) w = Filled (leftLines d) s n d x w
+Went (suc (suc (suc (suc (suc (suc zero)))))) s n (progress.Read d x) w = Filled 0 s n d x w
+Went (suc (suc (suc (suc (suc (suc (suc k))))))) s n (progress.Read d x) w = Tabled s n d x w
 
 -- before the first line
+abbrev pub reached : ℕ → Reached
+reached at = record { first = 0; tokens = 0; bound = 0; at = at }
+
 abbrev pub unread : Progress
-unread = progress.Read (record { edition = 0; scalars = 0; locals = 0; arrays = 0 }) 0 0
+unread = progress.Read (limits 0 0 0 0 0 0) (reached 0)
+
+-- ---- one line of a procedure
+
+-- whether one follows
+abbrev pub follows : Bytes → Progress → Bool
+follows s (progress.Refused e p) = false
+follows s (progress.Read d x) = ltb (d .procedures) (mostProcedures (d .edition)) && begins (bytes "p") (drop (x .at) s)
+
+abbrev pub Following : Bytes → ℕ → Limits → Reached → Words → Type 0
+Following s n d x w = (follows s (progress.Read d x) ≡ true) × Filled (leftLines d) s n d x w
+
+-- up to its formula, which begins at a place; it has m parameters
+pub record Begun (s : Bytes) (n : ℕ) (d : Limits) (x : Reached) (m from : ℕ) (w : Words) : Type 0 where
+  pub more : d .procedures < mostProcedures (d .edition)
+  pub filled : Filled (leftLines d) s n d x w
+  pub parameters : m ≤ maxParameters
+  pub within : from ≤ length s
+  pub rest : sheet (lineAt s 0) ≡ fromBody (pred (leftLines d)) (filled .declared) (filled .items) m (readerAt s from (x .tokens) (filled .locals))
+
+-- after it there is one procedure more
+abbrev pub Nearer : Limits → Progress → Type 0
+Nearer d (progress.Refused e p) = Unit {0}
+Nearer d (progress.Read l x) = l .procedures ≡ suc (d .procedures)
+
+abbrev pub leftOver : Progress → ℕ
+leftOver (progress.Refused e p) = 0
+leftOver (progress.Read d x) = suc (maxProcs - d .procedures)

@@ -1,15 +1,17 @@
-// The formula's line: its tokens into the table, one token a turn. What is due stands on the stack.
+// A formula in its line: its tokens into the table, one token a turn. What is due stands on the stack.
 ghost use mathlib.Core.Path.{_≡_};
 ghost use Prim.Native.Nat.{_≤_, _<_};
 ghost use lib.ListN.{length};
 ghost use Rattle.specification.specs.Lines.{Declared};
 ghost use Rattle.specification.specs.Formula.{Locals};
+ghost use Rattle.specification.specs.Bytes.{between};
 ghost use Rattle.tables.specs.Layout.{maxTokens, maxLocals, pathAt};
-ghost use Rattle.sheet.specs.Sorts.{termSort};
+ghost use Rattle.tables.specs.Codes.{procedureCode, lastCode};
+ghost use Rattle.sheet.specs.Sorts.{procedureSort};
 ghost use Rattle.sheet.specs.Dues.{Due};
-ghost use Rattle.sheet.specs.Turn.{suits, declared, placed, faultOf};
+ghost use Rattle.sheet.specs.Turn.{suits, declared, undeclared, placed, faultOf};
 ghost use Rattle.sheet.specs.Stack.{Bits, sortOf, Means};
-ghost use Rattle.sheet.specs.FormulaLine.{Small, Counts, counted, Refuses, Binds, begin, Scans, LineRead};
+ghost use Rattle.sheet.specs.FormulaLine.{Small, Sized, Known, counted, Spells, Refuses, Binds, begin, Scans, Within, Closes, LineRead};
 use crate::Token;
 use crate::ends;
 use crate::lines;
@@ -20,12 +22,24 @@ use crate::stack::Entry;
 use crate::words;
 use tables::codes;
 
-// What is declared: the edition, and how many scalars, locals and arrays there are.
+// What is declared where a formula stands: the edition, how many scalars, locals and arrays there are, how many procedures stand in the lines
+// before, and how many parameters the line has.
 pub(crate) struct Limits {
     pub edition: u32,
     pub scalars: u32,
     pub locals: u32,
     pub arrays: u32,
+    pub procedures: u32,
+    pub parameters: u32,
+}
+
+// Where a line begins: the first token of the line before it, how many tokens stand in the table, the locals that have a binder, and the
+// place.
+pub(crate) struct Reached {
+    pub first: u32,
+    pub tokens: u32,
+    pub bound: u32,
+    pub at: usize,
 }
 
 // The formula's line: a refusal's number and place, or how many tokens stand in the table.
@@ -34,13 +48,45 @@ pub(crate) enum Parsed {
     Read(u32),
 }
 
-// Its tokens: a refusal's number and place, or how many stand in the table, the place after the last, and the locals that have a binder.
+// A formula's tokens: a refusal's number and place, or how many stand in the table, the place after what was read, and the locals that have a
+// binder.
 pub(crate) enum Scanned {
     Refused(u32, usize),
     Read(u32, usize, u32),
 }
 
 // ---- one token
+
+// The token that bytes spell where something of this sort is due. The code of a procedure's number tells how many parameters it has.
+fn spelt(t: &[u8], sort: u32, d: Limits, w: &[u32]) -> Token
+    requires { ⌜ Small d × Sized d (now w) × (pathAt ≤ length (now w)) ⌝ }
+    ensures { λ r. ⌜ Spells (now (t .entry)) sort d (now (w .entry)) r ⌝ }
+{
+    if sort != sorts::PROCEDURE {
+        return words::lex(t, d.edition);
+    }
+    let n = words::number(t);
+    if n.code != codes::PROCEDURE {
+        return n;
+    }
+    if d.procedures <= n.operand {
+        return n;
+    }
+    Token {
+        code: codes::PROCEDURE + tables::parameters(w, n.operand),
+        operand: n.operand,
+    }
+}
+
+// Whether a code is that of a procedure's number.
+fn is_number(code: u32) -> bool
+    ensures { λ r. ⌜ r ≡ between procedureCode lastCode code ⌝ }
+{
+    if code < codes::PROCEDURE {
+        return false;
+    }
+    code <= codes::LAST
+}
 
 // Whether a code is of the sort that is due.
 fn suits(sort: u32, code: u32) -> bool
@@ -49,6 +95,7 @@ fn suits(sort: u32, code: u32) -> bool
     match sort {
         sorts::FORMULA => codes::is_formula(code),
         sorts::TERM => codes::is_term(code),
+        sorts::PROCEDURE => is_number(code),
         _ => code == codes::LOCAL,
     }
 }
@@ -61,8 +108,23 @@ fn is_declared(d: Limits, t: Token) -> bool
         codes::SCALAR => t.operand < d.scalars,
         codes::LOCAL => t.operand < d.locals,
         codes::ARRAY => t.operand < d.arrays,
+        codes::PARAMETER => t.operand < d.parameters,
+        codes::PROCEDURE..=codes::LAST => t.operand < d.procedures,
         _ => true,
     }
+}
+
+// The number of the refusal of what is not declared.
+fn undeclared(code: u32) -> u32
+    ensures { λ r. ⌜ r ≡ undeclared code ⌝ }
+{
+    if code == codes::PARAMETER {
+        return refusals::PARAMETER;
+    }
+    if is_number(code) {
+        return refusals::PROCEDURE;
+    }
+    refusals::UNDECLARED
 }
 
 // Whether a local as a term is in scope, or at its binder has no binder yet.
@@ -74,6 +136,7 @@ fn in_place(e: Entry, bound: u32, l: u32) -> bool
     match sort {
         sorts::FORMULA => true,
         sorts::TERM => tables::locals::has(e.scope, l),
+        sorts::PROCEDURE => true,
         _ => !tables::locals::has(bound, l),
     }
 }
@@ -90,7 +153,7 @@ fn fault(d: Limits, e: Entry, bound: u32, t: Token) -> u32
         return refusals::WORD;
     }
     if !is_declared(d, t) {
-        return refusals::UNDECLARED;
+        return undeclared(t.code);
     }
     if t.code != codes::LOCAL {
         return 0;
@@ -117,10 +180,10 @@ fn refusal(d: Limits, e: Entry, bound: u32, count: u32, t: Token) -> u32
 
 // The locals that have a binder after a token.
 fn bound_after(e: Entry, t: Token, bound: u32) -> u32
-    requires { ⌜ (termSort < e .sort → t .operand < maxLocals) ⌝ }
+    requires { ⌜ (procedureSort < e .sort → t .operand < maxLocals) ⌝ }
     ensures { λ r. ⌜ Binds e t bound r ⌝ }
 {
-    if e.sort <= sorts::TERM {
+    if e.sort <= sorts::PROCEDURE {
         return bound;
     }
     tables::locals::with(bound, t.operand)
@@ -128,9 +191,9 @@ fn bound_after(e: Entry, t: Token, bound: u32) -> u32
 
 // ---- the tokens
 
-// The formula's tokens from a place on, into the table behind those that stand there, where some locals have a binder already.
+// A formula's tokens from a place on, into the table behind those that stand there, where some locals have a binder already.
 fn scan(s: &[u8], from: usize, d: Limits, tokens: u32, binders: u32, w: &mut [u32]) -> Scanned
-    requires { ⌜ (from ≤ length (now s)) × Small d × (pathAt ≤ length (now w)) × (tokens ≤ maxTokens) ⌝ }
+    requires { ⌜ (from ≤ length (now s)) × Small d × (pathAt ≤ length (now w)) × (tokens ≤ maxTokens) × Sized d (now w) ⌝ }
     ensures { λ r. ⌜ ((B : Locals) → Bits binders B
         → Scans (begin (now (s .entry)) d from tokens B) (now (w .entry)) (now (w .exit)) r) ⌝ }
 {
@@ -150,7 +213,7 @@ fn scan(s: &[u8], from: usize, d: Limits, tokens: u32, binders: u32, w: &mut [u3
     loop {
         let due = stack::get(w, n - 1);
         let e = text::run_end(s, at, text::TOKEN);
-        let t = words::lex(&s[at..e], d.edition);
+        let t = spelt(&s[at..e], due.sort, d, w);
         let k = refusal(d, due, bound, count, t);
         if k != 0 {
             return Scanned::Refused(k, at);
@@ -171,23 +234,45 @@ fn scan(s: &[u8], from: usize, d: Limits, tokens: u32, binders: u32, w: &mut [u3
 
 // ---- the line
 
-// The formula's line and the sheet's end: its tokens and the ends of their subtrees into the table.
-pub(crate) fn formula_line(s: &[u8], at: usize, d: Limits, w: &mut [u32]) -> Parsed
-    requires { ⌜ Small d × (pathAt ≤ length (now w)) ⌝ }
-    ensures { λ r. ⌜ ((D : Declared) → Counts d D → LineRead (now (s .entry)) at D (now (w .entry)) (now (w .exit)) r) ⌝ }
+// A formula's tokens and the line feed after them.
+pub(crate) fn to_feed(
+    s: &[u8],
+    from: usize,
+    d: Limits,
+    tokens: u32,
+    binders: u32,
+    w: &mut [u32],
+) -> Scanned
+    requires { ⌜ (from ≤ length (now s)) × Small d × (pathAt ≤ length (now w)) × (tokens ≤ maxTokens) × Sized d (now w) ⌝ }
+    ensures { λ r. ⌜ Within (now (s .entry)) r × ((B : Locals) → Bits binders B → (D : Declared) → Known d (now (w .entry)) D
+        → Closes (begin (now (s .entry)) d from tokens B) D (now (w .entry)) (now (w .exit)) r) ⌝ }
+{
+    match scan(s, from, d, tokens, binders, w) {
+        Scanned::Refused(k, p) => Scanned::Refused(k, p),
+        Scanned::Read(n, e, m) => {
+            if text::class_at(s, e) != text::FEED {
+                return Scanned::Refused(refusals::BYTE, e);
+            }
+            Scanned::Read(n, e + 1, m)
+        }
+    }
+}
+
+// The formula's line and the sheet's end: its tokens into the table, and then the ends of the subtrees of all.
+pub(crate) fn formula_line(s: &[u8], d: Limits, x: Reached, w: &mut [u32]) -> Parsed
+    requires { ⌜ Small d × (pathAt ≤ length (now w)) × (x .tokens ≤ maxTokens) × Sized d (now w) ⌝ }
+    ensures { λ r. ⌜ ((B : Locals) → Bits (x .bound) B → (D : Declared) → Known d (now (w .entry)) D
+        → LineRead (begin (now (s .entry)) d (x .at) (x .tokens) B) D (now (w .entry)) (now (w .exit)) r) ⌝ }
 {
     let key = b"formula=";
-    if !lines::begins(s, at, key) {
-        return Parsed::Refused(refusals::KEY, at);
+    if !lines::begins(s, x.at, key) {
+        return Parsed::Refused(refusals::KEY, x.at);
     }
-    match scan(s, at + key.len(), d, 0, 0, w) {
+    match to_feed(s, x.at + key.len(), d, x.tokens, x.bound, w) {
         Scanned::Refused(k, p) => Parsed::Refused(k, p),
         Scanned::Read(n, e, _) => {
-            if text::class_at(s, e) != text::FEED {
+            if e < s.len() {
                 return Parsed::Refused(refusals::BYTE, e);
-            }
-            if e + 1 < s.len() {
-                return Parsed::Refused(refusals::BYTE, e + 1);
             }
             ends::ends(w, n);
             Parsed::Read(n)

@@ -11,6 +11,7 @@ mod ends;
 mod formula;
 mod given;
 mod lines;
+mod procedures;
 mod reader;
 mod refusals;
 mod sorts;
@@ -20,13 +21,13 @@ mod words;
 
 use crate::whole::Progress;
 
-// A token: its code and operand (a constant's word, or the number of a scalar, local or array).
+// A token: its code and operand (a constant's word, or the number of a scalar, local, array, parameter or procedure).
 pub struct Token {
     pub code: u32,
     pub operand: u32,
 }
 
-// A sheet as it was read: a refusal's number and place, or how many scalars, arrays and tokens there are.
+// A sheet as it was read: a refusal's number and place, or how many scalars, arrays and tokens there are, and the formula's first token.
 pub enum Reading {
     Refused {
         number: u32,
@@ -36,10 +37,11 @@ pub enum Reading {
         scalars: u32,
         arrays: u32,
         tokens: u32,
+        formula: u32,
     },
 }
 
-// Where the words have what is due while the formula is read, and its end.
+// Where the words have what is due while formulas are read, and its end.
 const DUES: usize = tables::DUES;
 
 const DUES_END: usize = tables::DUES_END;
@@ -70,17 +72,18 @@ pub fn read_sheet(s: &[u8], w: &mut [u32]) -> Reading
         × (now (w .exit) ≡ wordsOf (length (now (w .entry))) (read (now (s .entry)))) ⌝ }
 {
     clear(w);
-    match whole::six_lines(s, w) {
+    match whole::all_lines(s, w) {
         Progress::Refused(number, place) => {
             clear(w);
             Reading::Refused { number, place }
         }
-        Progress::Read(d, tokens, _) => {
+        Progress::Read(d, x) => {
             zero(w, DUES, DUES_END);
             Reading::Read {
                 scalars: d.scalars,
                 arrays: d.arrays,
-                tokens,
+                tokens: x.tokens,
+                formula: x.first,
             }
         }
     }

@@ -1,11 +1,11 @@
-// The lines with one number, and the readers of keys and numbers that the first five lines share.
+// The lines with one number, and the readers of keys and numbers that the lines before the formula's share.
 ghost use mathlib.Core.Path.{_≡_};
 ghost use Prim.Native.Nat.{_<_};
 ghost use lib.ListN.{drop};
-ghost use Rattle.specification.specs.Bytes.{run, inNumber, begins};
-ghost use Rattle.specification.specs.Lines.{index, count, value, line};
+ghost use Rattle.specification.specs.Bytes.{Class, classNumber, run, inNumber, begins};
+ghost use Rattle.specification.specs.Lines.{index, count, value};
 ghost use Rattle.sheet.specs.Reader.{lineAt};
-ghost use Rattle.sheet.specs.Answers.{heldIndex, indexRead, integerRead, countRead};
+ghost use Rattle.sheet.specs.Answers.{numberTo, Inside, heldIndex, indexRead, integerRead, countRead};
 use crate::refusals;
 use text::Decimal;
 use text::Word;
@@ -114,11 +114,12 @@ pub(crate) fn count_at(s: &[u8], at: usize, lo: u32, hi: u32) -> Count
     }
 }
 
-// ---- a line with one number
+// ---- a key and a number, up to the mark of a class: of a line with one number that is the line feed
 
-pub(crate) fn count_line(s: &[u8], at: usize, key: &[u8], lo: u32, hi: u32) -> Count
-    requires { ⌜ hi < 4294967295 ⌝ }
-    ensures { λ r. ⌜ countRead (now (s .entry)) r ≡ line (now (key .entry)) lo hi (lineAt (now (s .entry)) at) ⌝ }
+pub(crate) fn count_line(s: &[u8], at: usize, key: &[u8], lo: u32, hi: u32, class: u8) -> Count
+    requires { ⌜ (hi < 4294967295) × (class < 10) ⌝ }
+    ensures { λ r. ⌜ Inside (now (s .entry)) r × ((c : Class) → class ≡ classNumber c
+        → countRead (now (s .entry)) r ≡ numberTo (now (key .entry)) lo hi c (lineAt (now (s .entry)) at)) ⌝ }
 {
     if !begins(s, at, key) {
         return Count::Refused(refusals::KEY, at);
@@ -126,7 +127,7 @@ pub(crate) fn count_line(s: &[u8], at: usize, key: &[u8], lo: u32, hi: u32) -> C
     match count_at(s, at + key.len(), lo, hi) {
         Count::Refused(k, p) => Count::Refused(k, p),
         Count::Is(n, e) => {
-            if text::class_at(s, e) != text::FEED {
+            if text::class_at(s, e) != class {
                 return Count::Refused(refusals::BYTE, e);
             }
             Count::Is(n, e + 1)

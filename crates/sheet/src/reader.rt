@@ -22,7 +22,7 @@ pub(crate) fn stand<'a>(sheet: &'a [u8], read: Progress) -> Reader<'a>
 impl<'a> Reader<'a> {
     // The line that comes k-th, from where the reader stands: it stands after it.
     pub fn line<'w>(self, k: u32, w: &'w mut [u32]) -> Reader<'a>
-        requires { ⌜ (k ≤ 5) × Went k (now (self .sheet)) (length (now w)) (self .read) (now w) ⌝ }
+        requires { ⌜ (k ≤ 6) × Went k (now (self .sheet)) (length (now w)) (self .read) (now w) ⌝ }
         ensures { λ x. ⌜ (x .sheet ≡ self .entry .sheet)
             × Went (k + 1) (now (self .entry .sheet)) (length (now (w .entry))) (x .read) (now (w .exit)) ⌝ }
     {

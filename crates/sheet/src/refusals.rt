@@ -1,4 +1,4 @@
-// The numbers of refusals, as document 01's table "Refused sheets" has them.
+// The numbers of refusals, as document 01's table "Refused sheets" and document 02 have them.
 
 // a line does not begin with its key and `=`
 pub(crate) const KEY: u32 = 3;
@@ -23,3 +23,9 @@ pub(crate) const TOO_MANY: u32 = 9;
 
 // a given item is not above the one before it
 pub(crate) const NOT_RISING: u32 = 10;
+
+// a call names no earlier procedure
+pub(crate) const PROCEDURE: u32 = 11;
+
+// a parameter stands outside a procedure's line, or is not below its number of parameters
+pub(crate) const PARAMETER: u32 = 12;

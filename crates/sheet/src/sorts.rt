@@ -1,25 +1,29 @@
-// The operands of a code: one match on the code gives their sort and how many there are.
+// The operands of a code: one match on the code gives their sort and how many there are. A procedure's number has its arguments, and its code
+// tells how many.
 ghost use mathlib.Core.Path.{_≡_};
-ghost use Rattle.sheet.specs.Sorts.{operandsOf, arity};
+ghost use Rattle.sheet.specs.Sorts.{wordOperands, arity};
 use tables::codes;
 
-// The sorts of what is due (specs/Sorts.antt has the same numbers): a formula, a term, the local of `ex`, the local of `some` or `all`.
+// The sorts of what is due (specs/Sorts.antt has the same numbers): a formula, a term, a procedure's number, the local of `ex`, the local of
+// `some` or `all`.
 pub(crate) const FORMULA: u32 = 0;
 
 pub(crate) const TERM: u32 = 1;
 
-pub(crate) const EX_LOCAL: u32 = 2;
+pub(crate) const PROCEDURE: u32 = 2;
 
-pub(crate) const RANGE_LOCAL: u32 = 3;
+pub(crate) const EX_LOCAL: u32 = 3;
 
-// The operands of a code, all of one sort. A binder has its local: the others become due when that is read.
+pub(crate) const RANGE_LOCAL: u32 = 4;
+
+// The operands of a word's code, all of one sort. A binder has its local, and a call its procedure's number: the others become due when that is read.
 pub(crate) struct Operands {
     pub sort: u32,
     pub count: u32,
 }
 
-pub(crate) fn operands_of(code: u32) -> Operands
-    ensures { λ r. ⌜ r ≡ operandsOf code ⌝ }
+pub(crate) fn word_operands(code: u32) -> Operands
+    ensures { λ r. ⌜ r ≡ wordOperands code ⌝ }
 {
     match code {
         codes::NOT => Operands {
@@ -32,6 +36,10 @@ pub(crate) fn operands_of(code: u32) -> Operands
         },
         codes::ARRAY => Operands {
             sort: TERM,
+            count: 1,
+        },
+        codes::CALL => Operands {
+            sort: PROCEDURE,
             count: 1,
         },
         codes::AND..=codes::IMP => Operands {
@@ -61,7 +69,10 @@ pub(crate) fn operands_of(code: u32) -> Operands
 pub(crate) fn arity(code: u32) -> u32
     ensures { λ r. ⌜ r ≡ arity code ⌝ }
 {
-    let o = operands_of(code);
+    if codes::PROCEDURE <= code {
+        return code - codes::PROCEDURE;
+    }
+    let o = word_operands(code);
     let sort = o.sort;
     match sort {
         EX_LOCAL => 2,

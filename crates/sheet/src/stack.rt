@@ -3,10 +3,12 @@ ghost use mathlib.Core.Path.{_≡_};
 ghost use Prim.Native.Nat.{_+_, _≤_, _<_};
 ghost use lib.ListN.{length};
 ghost use Rattle.tables.specs.Layout.{maxLocals, maxDues, pathAt};
-ghost use Rattle.sheet.specs.Sorts.{termSort};
-ghost use Rattle.sheet.specs.Stack.{entryAt, entered, Opened};
+ghost use Rattle.tables.specs.Codes.{procedureCode};
+ghost use Rattle.sheet.specs.Sorts.{termSort, procedureSort, operandsOf};
+ghost use Rattle.sheet.specs.Stack.{entryAt, entered, Coded, Repeated, Opened};
 use crate::Token;
 use crate::sorts;
+use tables::codes;
 
 // What is due: its sort, how much deeper nesting may go, and the locals in scope.
 pub(crate) struct Entry {
@@ -40,37 +42,62 @@ pub(crate) fn put(w: &mut [u32], i: usize, e: Entry)
     w[at + 2] = e.scope;
 }
 
+// The same entry so many times above n entries: how many there are then.
+fn repeat(w: &mut [u32], n: usize, e: Entry, count: u32) -> usize
+    requires { ⌜ (n + count ≤ maxDues) × (pathAt ≤ length (now w)) ⌝ }
+    ensures { λ r. ⌜ (r ≡ n + count) × Repeated (now (w .entry)) (now (w .exit)) n e count ⌝ }
+{
+    let end = n + count as usize;
+    let mut i = n;
+    while i < end {
+        put(w, i, e);
+        i += 1;
+    }
+    end
+}
+
 // ---- what a token makes due
 
-// The operands of a token where a formula or a term is due, put above n entries: how many there are then.
+// The operands of a word where a formula or a term is due, put above n entries: how many there are then.
 fn push_operands(w: &mut [u32], n: usize, e: Entry, t: Token) -> usize
-    requires { ⌜ (n + 3 ≤ maxDues) × (pathAt ≤ length (now w)) × (0 < e .room) × (e .sort ≤ termSort) ⌝ }
+    requires { ⌜ (n + operandsOf (t .code) .count ≤ maxDues) × (pathAt ≤ length (now w)) × (0 < e .room) × (e .sort ≤ termSort)
+        × (t .code < procedureCode) ⌝ }
     ensures { λ r. ⌜ Opened (now (w .entry)) (now (w .exit)) n e t r ⌝ }
 {
-    let o = sorts::operands_of(t.code);
-    if o.count == 0 {
-        return n;
-    }
+    let o = sorts::word_operands(t.code);
     let x = Entry {
         sort: o.sort,
         room: e.room - 1,
         scope: e.scope,
     };
-    put(w, n, x);
-    if o.count == 1 {
-        return n + 1;
-    }
-    put(w, n + 1, x);
-    n + 2
+    repeat(w, n, x, o.count)
+}
+
+// The arguments that follow a procedure's number, beside it.
+fn push_arguments(w: &mut [u32], n: usize, e: Entry, t: Token) -> usize
+    requires { ⌜ (n + operandsOf (t .code) .count ≤ maxDues) × (pathAt ≤ length (now w)) × (e .sort ≡ procedureSort)
+        × (procedureCode ≤ t .code) ⌝ }
+    ensures { λ r. ⌜ Opened (now (w .entry)) (now (w .exit)) n e t r ⌝ }
+{
+    let x = Entry {
+        sort: sorts::TERM,
+        room: e.room,
+        scope: e.scope,
+    };
+    repeat(w, n, x, t.code - codes::PROCEDURE)
 }
 
 // What a token makes due where an entry was due, put above n entries: how many there are then. A binder's formula lies below its bounds.
 pub(crate) fn push(w: &mut [u32], n: usize, e: Entry, t: Token) -> usize
-    requires { ⌜ (n + 3 ≤ maxDues) × (pathAt ≤ length (now w)) × (0 < e .room) × (termSort < e .sort → t .operand < maxLocals) ⌝ }
+    requires { ⌜ (n + 3 ≤ maxDues) × (pathAt ≤ length (now w)) × (0 < e .room) × (procedureSort < e .sort → t .operand < maxLocals)
+        × (e .sort ≤ procedureSort → n + operandsOf (t .code) .count ≤ maxDues) × Coded e (t .code) ⌝ }
     ensures { λ r. ⌜ Opened (now (w .entry)) (now (w .exit)) n e t r ⌝ }
 {
     if e.sort <= sorts::TERM {
         return push_operands(w, n, e, t);
+    }
+    if e.sort == sorts::PROCEDURE {
+        return push_arguments(w, n, e, t);
     }
     let f = Entry {
         sort: sorts::FORMULA,

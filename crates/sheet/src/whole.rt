@@ -1,28 +1,33 @@
-// The six lines in order: one reader is handed on from line to line.
+// The lines in order, those of procedures as one: one reader is handed on from line to line.
 ghost use mathlib.Core.Path.{_≡_};
 ghost use Prim.Native.Nat.{_≤_, _+_};
 ghost use lib.ListN.{length, replicate};
 ghost use Rattle.tables.specs.Layout.{pathAt};
 ghost use Rattle.sheet.specs.Reader.{lineAt};
 ghost use Rattle.sheet.specs.Answers.{countRead};
-ghost use Rattle.sheet.specs.Whole.{unread, numberOf, NumberRead, Headed, Arrayed, Filled, Went};
+ghost use Rattle.sheet.specs.Rest.{numberOf};
+ghost use Rattle.sheet.specs.Whole.{reached, unread, NumberRead, Headed, Arrayed, Filled, Went};
 use crate::arrays;
 use crate::arrays::Arrays;
 use crate::formula;
 use crate::formula::Limits;
 use crate::formula::Parsed;
+use crate::formula::Reached;
 use crate::given;
 use crate::given::Given;
 use crate::lines;
 use crate::lines::Count;
+use crate::procedures;
 use crate::reader;
+use crate::words;
 
-// How far a sheet was read: a refusal's number and place; or what is declared, how many tokens stand in the table, and the
-// place where reading goes on.
+// How far a sheet was read: a refusal's number and place; or what is declared, and where the next line begins.
 pub(crate) enum Progress {
     Refused(u32, usize),
-    Read(Limits, u32, usize),
+    Read(Limits, Reached),
 }
+
+const LAST_EDITION: u32 = 2;
 
 // The lines by their numbers.
 const EDITION: u32 = 0;
@@ -35,7 +40,21 @@ const ARRAYS: u32 = 3;
 
 const GIVEN: u32 = 4;
 
-const FORMULA: u32 = 5;
+const PROCEDURES: u32 = 5;
+
+const FORMULA: u32 = 6;
+
+// A line begins at a place, and no token was read before it.
+fn reached(at: usize) -> Reached
+    ensures { λ r. ⌜ r ≡ reached at ⌝ }
+{
+    Reached {
+        first: 0,
+        tokens: 0,
+        bound: 0,
+        at,
+    }
+}
 
 // Before the first line.
 fn nothing() -> Progress
@@ -47,9 +66,10 @@ fn nothing() -> Progress
             scalars: 0,
             locals: 0,
             arrays: 0,
+            procedures: 0,
+            parameters: 0,
         },
-        0,
-        0,
+        reached(0),
     )
 }
 
@@ -60,12 +80,19 @@ fn counted(s: &[u8], at: usize, k: u32) -> Count
     ensures { λ r. ⌜ countRead (now (s .entry)) r ≡ numberOf k (lineAt (now (s .entry)) at) ⌝ }
 {
     if k == EDITION {
-        return lines::count_line(s, at, b"edition=", 1, 1);
+        return lines::count_line(
+            s,
+            at,
+            b"edition=",
+            words::FIRST_EDITION,
+            LAST_EDITION,
+            text::FEED,
+        );
     }
     if k == SCALARS {
-        return lines::count_line(s, at, b"scalars=", 0, tables::MAX_SCALARS);
+        return lines::count_line(s, at, b"scalars=", 0, tables::MAX_SCALARS, text::FEED);
     }
-    lines::count_line(s, at, b"locals=", 0, tables::MAX_LOCALS)
+    lines::count_line(s, at, b"locals=", 0, tables::MAX_LOCALS, text::FEED)
 }
 
 // One of these lines, and what is declared with its number.
@@ -78,14 +105,14 @@ fn number_line(s: &[u8], at: usize, d: Limits, k: u32) -> Progress
             let mut l = d;
             if k == EDITION {
                 l.edition = n;
-                return Progress::Read(l, 0, e);
+                return Progress::Read(l, reached(e));
             }
             if k == SCALARS {
                 l.scalars = n;
-                return Progress::Read(l, 0, e);
+                return Progress::Read(l, reached(e));
             }
             l.locals = n;
-            Progress::Read(l, 0, e)
+            Progress::Read(l, reached(e))
         }
     }
 }
@@ -100,7 +127,7 @@ fn after_arrays(s: &[u8], at: usize, d: Limits, w: &mut [u32]) -> Progress
         Arrays::Read(n, _, e) => {
             let mut l = d;
             l.arrays = n;
-            Progress::Read(l, 0, e)
+            Progress::Read(l, reached(e))
         }
     }
 }
@@ -111,48 +138,59 @@ fn after_given(s: &[u8], at: usize, d: Limits, w: &mut [u32]) -> Progress
 {
     match given::given_line(s, at, d.scalars, d.arrays, w) {
         Given::Refused(k, p) => Progress::Refused(k, p),
-        Given::Read(e) => Progress::Read(d, 0, e),
+        Given::Read(e) => Progress::Read(d, reached(e)),
     }
 }
 
-fn after_formula(s: &[u8], at: usize, d: Limits, w: &mut [u32]) -> Progress
-    requires { ⌜ Filled (now s) (length (now w)) d at (now w) ⌝ }
-    ensures { λ r. ⌜ Went 6 (now (s .entry)) (length (now (w .entry))) r (now (w .exit)) ⌝ }
+fn after_formula(s: &[u8], d: Limits, x: Reached, w: &mut [u32]) -> Progress
+    requires { ⌜ Filled 0 (now s) (length (now w)) d x (now w) ⌝ }
+    ensures { λ r. ⌜ Went 7 (now (s .entry)) (length (now (w .entry))) r (now (w .exit)) ⌝ }
 {
-    match formula::formula_line(s, at, d, w) {
+    match formula::formula_line(s, d, x, w) {
         Parsed::Refused(k, p) => Progress::Refused(k, p),
-        Parsed::Read(n) => Progress::Read(d, n, s.len()),
+        Parsed::Read(tokens) => Progress::Read(
+            d,
+            Reached {
+                first: x.tokens,
+                tokens,
+                bound: 0,
+                at: s.len(),
+            },
+        ),
     }
 }
 
 // The line that comes k-th, after what was read before it.
 pub(crate) fn line_at(s: &[u8], p: Progress, k: u32, w: &mut [u32]) -> Progress
-    requires { ⌜ (k ≤ 5) × Went k (now s) (length (now w)) p (now w) ⌝ }
+    requires { ⌜ (k ≤ 6) × Went k (now s) (length (now w)) p (now w) ⌝ }
     ensures { λ r. ⌜ Went (k + 1) (now (s .entry)) (length (now (w .entry))) r (now (w .exit)) ⌝ }
 {
     match p {
         Progress::Refused(n, q) => Progress::Refused(n, q),
-        Progress::Read(d, _, at) => {
+        Progress::Read(d, x) => {
             if k <= LOCALS {
-                return number_line(s, at, d, k);
+                return number_line(s, x.at, d, k);
             }
             if k == ARRAYS {
-                return after_arrays(s, at, d, w);
+                return after_arrays(s, x.at, d, w);
             }
             if k == GIVEN {
-                return after_given(s, at, d, w);
+                return after_given(s, x.at, d, w);
             }
-            after_formula(s, at, d, w)
+            if k == PROCEDURES {
+                return procedures::procedure_lines(s, p, w);
+            }
+            after_formula(s, d, x, w)
         }
     }
 }
 
-// ---- all six
+// ---- all of them
 
-// The reader is made here and stands at each line in turn. What was due while the formula was read still stands in the words.
-pub(crate) fn six_lines(s: &[u8], w: &mut [u32]) -> Progress
+// The reader is made here and stands at each line in turn. What was due while formulas were read still stands in the words.
+pub(crate) fn all_lines(s: &[u8], w: &mut [u32]) -> Progress
     requires { ⌜ (now w ≡ replicate (length (now w)) 0) × (pathAt ≤ length (now w)) ⌝ }
-    ensures { λ r. ⌜ Went 6 (now (s .entry)) (length (now (w .entry))) r (now (w .exit)) ⌝ }
+    ensures { λ r. ⌜ Went 7 (now (s .entry)) (length (now (w .entry))) r (now (w .exit)) ⌝ }
 {
     reader::stand(s, nothing())
         .line(EDITION, w)
@@ -160,6 +198,7 @@ pub(crate) fn six_lines(s: &[u8], w: &mut [u32]) -> Progress
         .line(LOCALS, w)
         .line(ARRAYS, w)
         .line(GIVEN, w)
+        .line(PROCEDURES, w)
         .line(FORMULA, w)
         .read
 }

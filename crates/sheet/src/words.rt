@@ -1,17 +1,20 @@
 // The words of a formula: from a token's bytes to its code and operand.
 ghost use mathlib.Core.Path.{_≡_};
 ghost use mathlib.Core.Option.{some as just};
-ghost use Prim.Native.Nat.{ℕ, _≤_, _<_};
+ghost use Prim.Native.Nat.{_≤_, _<_};
 ghost use lib.ListN.{length, drop};
 ghost use Rattle.specification.specs.Bytes.{inNumber};
 ghost use Rattle.specification.specs.Number.{natural, integer};
-ghost use Rattle.specification.specs.Words.{words, nameOf, constantOf, wordOf};
+ghost use Rattle.specification.specs.Words.{firstWords, words, nameOf, constantOf, wordOf, numberOf};
 ghost use Rattle.sheet.specs.Codes.{indexWord, tokenOf};
-ghost use Rattle.sheet.specs.Packed.{packed, codeBy, codeIn, indexed};
+ghost use Rattle.sheet.specs.Packed.{packed, codeBy, codeIn, indexed, parameterToken};
 use crate::Token;
 use tables::codes;
 use text::Decimal;
 use text::Word;
+
+// The edition without procedures.
+pub(crate) const FIRST_EDITION: u32 = 1;
 
 // The number of at most four bytes: the first byte lowest, and a 1 above the last.
 fn pack(t: &[u8]) -> u64
@@ -29,7 +32,7 @@ fn pack(t: &[u8]) -> u64
 
 // The code of a word of edition 1 by the number of its bytes, 0 for any other: two digits a byte, the last byte first, and a 1 before them.
 fn first_edition(word: u64) -> u32
-    ensures { λ r. ⌜ ((edition : ℕ) → r ≡ codeBy word (words edition)) ⌝ }
+    ensures { λ r. ⌜ r ≡ codeBy word firstWords ⌝ }
 {
     match word {
         0x1_65_75_72_74 => codes::TRUE, // true
@@ -55,14 +58,28 @@ fn first_edition(word: u64) -> u32
     }
 }
 
-// The code of a word of the edition's set, 0 for any other bytes. There is one set so far.
+// The same from edition 2 on.
+fn later_edition(word: u64) -> u32
+    ensures { λ r. ⌜ r ≡ codeBy word (words 2) ⌝ }
+{
+    match word {
+        0x1_6c_6c_61_63 => codes::CALL, // call
+        _ => first_edition(word),
+    }
+}
+
+// The code of a word of the edition's set, 0 for any other bytes.
 fn word_code(t: &[u8], edition: u32) -> u32
     ensures { λ r. ⌜ r ≡ codeIn (now (t .entry)) (words edition) ⌝ }
 {
     if 4 < t.len() {
         return 0;
     }
-    first_edition(pack(t))
+    let word = pack(t);
+    if edition == FIRST_EDITION {
+        return first_edition(word);
+    }
+    later_edition(word)
 }
 
 // Whether a token that begins with this byte is a constant.
@@ -118,9 +135,23 @@ fn index(code: u32, t: &[u8]) -> Token
     }
 }
 
-fn name(t: &[u8]) -> Token
+// The token of pN, which is no word of edition 1.
+fn parameter(t: &[u8], edition: u32) -> Token
     requires { ⌜ 0 < length (now t) ⌝ }
-    ensures { λ r. ⌜ r ≡ tokenOf (just (nameOf (now (t .entry)))) ⌝ }
+    ensures { λ r. ⌜ r ≡ parameterToken edition (natural (drop 1 (now (t .entry)))) ⌝ }
+{
+    if edition == FIRST_EDITION {
+        return Token {
+            code: codes::UNKNOWN,
+            operand: 0,
+        };
+    }
+    index(codes::PARAMETER, t)
+}
+
+fn name(t: &[u8], edition: u32) -> Token
+    requires { ⌜ 0 < length (now t) ⌝ }
+    ensures { λ r. ⌜ r ≡ tokenOf (just (nameOf edition (now (t .entry)))) ⌝ }
 {
     let b = t[0];
     if b == b'v' {
@@ -131,6 +162,9 @@ fn name(t: &[u8]) -> Token
     }
     if b == b'a' {
         return index(codes::ARRAY, t);
+    }
+    if b == b'p' {
+        return parameter(t, edition);
     }
     Token {
         code: codes::UNKNOWN,
@@ -158,5 +192,33 @@ pub(crate) fn lex(t: &[u8], edition: u32) -> Token
             operand: 0,
         };
     }
-    name(t)
+    name(t, edition)
+}
+
+// The token that bytes spell where a procedure's number is due.
+pub(crate) fn number(t: &[u8]) -> Token
+    ensures { λ r. ⌜ r ≡ tokenOf (numberOf (now (t .entry))) ⌝ }
+{
+    if t.len() == 0 {
+        return Token {
+            code: codes::UNKNOWN,
+            operand: 0,
+        };
+    }
+    if !numeric(t[0]) {
+        return Token {
+            code: codes::UNKNOWN,
+            operand: 0,
+        };
+    }
+    match text::natural(t) {
+        Decimal::Malformed => Token {
+            code: codes::BAD_CONSTANT,
+            operand: 0,
+        },
+        Decimal::Is(n) => Token {
+            code: codes::PROCEDURE,
+            operand: index_word(n),
+        },
+    }
 }

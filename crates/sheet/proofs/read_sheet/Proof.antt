@@ -1,4 +1,4 @@
--- The six lines over cleared words, and what was due cleared again. Assumes nothing.
+-- All lines over cleared words, and what was due cleared again. Assumes nothing.
 use mathlib.Core.Path.{subst}
 use native.Mathlib.Omega.{arith}
 use lib.ListN.{length}
@@ -11,11 +11,11 @@ use Rattle.sheet.proofs.read_sheet.Tie as tie
 clear-requires : tie.Need-clear-requires
 clear-requires c κs = search needs
 
-six-lines-requires : tie.Need-six-lines-requires
-six-lines-requires c κs =
-    let at-clear = c .before .before .before in
-    let start = at-clear .before .before .before .before in
-    let z = cleared (start .args .w .now) _ (at-clear .clear .ensures) in (z .1, omega (arith, z .0, (start .pre)))
+all-lines-requires : tie.Need-all-lines-requires
+all-lines-requires c κs =
+    let start = c .before .before .before .before .before .before .before in
+    let z = cleared (start .args .w .now) _ (c .before .before .before .clear .ensures) in
+    (z .1, omega (arith, z .0, start .pre))
 
 enum-known-number : tie.Need-enum-known-number
 enum-known-number c = search needs
@@ -34,31 +34,33 @@ same-length c = search needs
 
 returns : tie.Need-returns
 returns c =
-    let at-clear2 = c .before .before in
-    let at-number = at-clear2 .before .before .before in
-    let at-six-lines = at-number .before .before .before .before in
-    let at-clear = at-six-lines .before .before .before .before in
-    let start = at-clear .before .before .before .before in
-    refused-whole (start .args .s .now) (length (start .args .w .now)) (at-six-lines .six-lines .last .1 .0) (at-six-lines .six-lines .result) (subst (λ n. Went 6 (start .args .s .now) n (at-six-lines .six-lines .result) (at-six-lines .six-lines .last .1 .0)) (cleared (start .args .w .now) _ (at-clear .clear .ensures) .0) (at-six-lines .six-lines .ensures)) _ _ _ (at-number .number .given .1) (at-clear2 .clear2 .ensures)
+    let lines = c .before .before .before .before .before .before .before .before .before in
+    let cleared-first = c .before .before .before .before .before .before .before .before .before .before .before .before .before in
+    let start = c .before .before .before .before .before .before .before .before .before .before .before .before .before .before .before .before .before in
+    let went =
+    subst (λ n. Went 7 (start .args .s .now) n (lines .all-lines .result) (lines .all-lines .last .1 .0)) (cleared (start .args .w .now) _ (cleared-first .clear .ensures) .0)
+    (lines .all-lines .ensures) in
+    refused-whole (start .args .s .now) (length (start .args .w .now)) (lines .all-lines .last .1 .0) (lines .all-lines .result) went _ _ _ (c .before .before .before .before .before .number .given .1) (c .before .before .clear2 .ensures)
 
 same-length-2 : tie.Need-same-length-2
 same-length-2 c = search needs
 
 returns-2 : tie.Need-returns-2
 returns-2 c =
-    let at-zero = c .before .before in
-    let at-d = at-zero .before .before .before in
-    let at-six-lines = at-d .before .before .before .before in
-    let at-clear = at-six-lines .before .before .before .before in
-    let start = at-clear .before .before .before .before in
-    found-whole (start .args .s .now) (length (start .args .w .now)) (at-six-lines .six-lines .last .1 .0) (at-six-lines .six-lines .result) (subst (λ n. Went 6 (start .args .s .now) n (at-six-lines .six-lines .result) (at-six-lines .six-lines .last .1 .0)) (cleared (start .args .w .now) _ (at-clear .clear .ensures) .0) (at-six-lines .six-lines .ensures)) _ _ _ _ (at-d .d .given .1) (start .pre) (at-zero .zero .ensures)
+    let lines = c .before .before .before .before .before .before .before .before .before in
+    let cleared-first = c .before .before .before .before .before .before .before .before .before .before .before .before .before in
+    let start = c .before .before .before .before .before .before .before .before .before .before .before .before .before .before .before .before .before in
+    let went =
+    subst (λ n. Went 7 (start .args .s .now) n (lines .all-lines .result) (lines .all-lines .last .1 .0)) (cleared (start .args .w .now) _ (cleared-first .clear .ensures) .0)
+    (lines .all-lines .ensures) in
+    found-whole (start .args .s .now) (length (start .args .w .now)) (lines .all-lines .last .1 .0) (lines .all-lines .result) went _ _ _ (c .before .before .before .before .before .d .given .1) (start .pre) (c .before .before .zero .ensures)
 
 pub read-sheet-spec : {M : Type 1} → statement M
 read-sheet-spec =
     tie.close
     (tie.spec
     clear-requires
-    six-lines-requires
+    all-lines-requires
     enum-known-number
     clear-requires-2
     enum-known-d

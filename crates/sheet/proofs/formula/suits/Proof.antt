@@ -1,9 +1,9 @@
 -- By the sort. Assumes nothing.
 use native.Mathlib.Omega.{arith}
-use Rattle.sheet.specs.Sorts.{formulaSort, termSort}
+use Rattle.sheet.specs.Sorts.{formulaSort, termSort, procedureSort}
 use Rattle.sheet.proofs.Faults.{suits-by}
-use borrow.Author.Needs.{needs}
 use borrow.Author.Tests.{eq-eqb, ne-eqb}
+use borrow.Author.Needs.{needs}
 use Rattle.sheet.proofs.formula.suits.Statement.{statement}
 use Rattle.sheet.proofs.formula.suits.Tie as tie
 
@@ -13,14 +13,55 @@ is-formula-requires c κs = search needs
 is-term-requires : tie.Need-is-term-requires
 is-term-requires c κs = search needs
 
+is-number-requires : tie.Need-is-number-requires
+is-number-requires c κs = search needs
+
 returns : tie.Need-returns
-returns c = λ d e. rw (suits-by d (c .before .before .args .sort) (c .before .before .args .code) e, eq-eqb _ formulaSort (c .before .match .keys1)) (c .is-formula .ensures)
+returns c = let a = (c .before .before .args) in λ d e. rw (suits-by d (a .sort) (a .code) e, eq-eqb _ formulaSort (c .before .match .keys1)) (c .is-formula .ensures)
 
 returns-2 : tie.Need-returns-2
-returns-2 c = λ d e. rw (suits-by d (c .before .before .args .sort) (c .before .before .args .code) e, ne-eqb (c .before .before .args .sort) formulaSort (λ q. omega (arith, (c .before .match .keys2))), eq-eqb _ termSort (c .before .match .keys2)) (c .is-term .ensures)
+returns-2 c =
+    let a = c .before .before .args in
+    λ d e.
+    rw (
+      suits-by d (a .sort) (a .code) e,
+      ne-eqb (a .sort) formulaSort (λ q. omega (arith, (c .before .match .keys2))),
+      eq-eqb _ termSort (c .before .match .keys2),
+    )
+    (c .is-term .ensures)
 
 returns-3 : tie.Need-returns-3
-returns-3 c = λ d e. rw (suits-by d (c .before .args .sort) (c .before .args .code) e, ne-eqb _ formulaSort (c .match .rest .0 .1), ne-eqb _ termSort (c .match .rest .1))
+returns-3 c =
+    let a = c .before .before .args in
+    λ d e.
+    rw (
+      suits-by d (a .sort) (a .code) e,
+      ne-eqb (a .sort) formulaSort (λ q. omega (arith, (c .before .match .keys3))),
+      ne-eqb (a .sort) termSort (λ q. omega (arith, (c .before .match .keys3))),
+      eq-eqb _ procedureSort (c .before .match .keys3),
+    )
+    (c .is-number .ensures)
+
+returns-4 : tie.Need-returns-4
+returns-4 c =
+    let a = c .before .args in
+    let r = c .match .rest in
+    λ d e.
+    rw (
+      suits-by d (a .sort) (a .code) e,
+      ne-eqb _ formulaSort (r .0 .0 .1),
+      ne-eqb _ termSort (r .0 .1),
+      ne-eqb _ procedureSort (r .1),
+    )
 
 pub suits-spec : {M : Type 1} → statement M
-suits-spec = tie.close (tie.spec is-formula-requires is-term-requires returns returns-2 returns-3)
+suits-spec =
+    tie.close
+    (tie.spec
+    is-formula-requires
+    is-term-requires
+    is-number-requires
+    returns
+    returns-2
+    returns-3
+    returns-4)

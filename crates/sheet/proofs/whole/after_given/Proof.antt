@@ -1,14 +1,12 @@
 -- By the answer of the line. Assumes nothing.
 use native.Mathlib.Omega.{arith}
-use Rattle.sheet.proofs.SixLines.{given-refused, given-found}
+use Rattle.sheet.proofs.AllLines.{given-refused, given-found}
 use borrow.Author.Needs.{needs}
 use Rattle.sheet.proofs.whole.after_given.Statement.{statement}
 use Rattle.sheet.proofs.whole.after_given.Tie as tie
 
 given-line-requires : tie.Need-given-line-requires
-given-line-requires c κs =
-    let start = c .before .before .before in
-    (record { declared = (start .pre .declared); declares = (start .pre .declares) }, omega (arith, (start .pre .enough)))
+given-line-requires c κs = let start = c .before .before .before in (record { declared = start .pre .declared; declares = start .pre .declares }, omega (arith, start .pre .enough))
 
 enum-known-k : tie.Need-enum-known-k
 enum-known-k c = search needs
@@ -16,23 +14,26 @@ enum-known-k c = search needs
 enum-known-e : tie.Need-enum-known-e
 enum-known-e c = search needs
 
+reached-requires : tie.Need-reached-requires
+reached-requires c κs = search needs
+
 same-length : tie.Need-same-length
 same-length c = search needs
 
 returns : tie.Need-returns
 returns c =
-    let at-given-line = c .before .before .before .before .before in
-    let start = at-given-line .before .before .before .before in
-    given-refused (start .args .s .now) _ _ _ (start .args .w .now) (start .pre) _ (at-given-line .given-line .result) ((at-given-line .given-line .ensures) _ (start .pre .declares)) _ _ (c .before .k .given .1)
+    let start = c .before .before .before .before .before .before .before .before .before in
+    let told = c .before .before .before .before .before in
+    given-refused (start .args .s .now) _ _ _ (start .args .w .now) (start .pre) _ (told .given-line .result) (told .given-line .ensures _ (start .pre .declares)) _ _ (c .before .k .given .1)
 
 same-length-2 : tie.Need-same-length-2
 same-length-2 c = search needs
 
 returns-2 : tie.Need-returns-2
 returns-2 c =
-    let at-given-line = c .before .before .before .before .before in
-    let start = at-given-line .before .before .before .before in
-    given-found (start .args .s .now) _ _ _ (start .args .w .now) (start .pre) _ (at-given-line .given-line .result) ((at-given-line .given-line .ensures) _ (start .pre .declares)) _ 0 (c .before .e .given .1)
+    let start = c .before .before .before .before .before .before .before .before .before .before in
+    let told = c .before .before .before .before .before .before in
+    given-found (start .args .s .now) _ _ _ (start .args .w .now) (start .pre) _ (told .given-line .result) (told .given-line .ensures _ (start .pre .declares)) _ _ (c .before .before .e .given .1) (c .reached .ensures)
 
 pub after-given-spec : {M : Type 1} → statement M
 after-given-spec =
@@ -41,6 +42,7 @@ after-given-spec =
     given-line-requires
     enum-known-k
     enum-known-e
+    reached-requires
     same-length
     returns
     same-length-2

@@ -13,25 +13,60 @@ index-requires : tie.Need-index-requires
 index-requires c κs = search needs
 
 returns : tie.Need-returns
-returns c = rw (name-token (c .before .before .before .before .args .t .now) (c .before .before .before .before .pre), eq-eqb 118 _ (sym (c .before .if1 .taken))) (c .index .ensures)
+returns c = let start = c .before .before .before .before in rw (name-token (start .args .edition) (start .args .t .now) (start .pre), eq-eqb 118 _ (sym (c .before .if1 .taken))) (c .index .ensures)
 
 index-requires-2 : tie.Need-index-requires-2
 index-requires-2 c κs = search needs
 
 returns-2 : tie.Need-returns-2
-returns-2 c = rw (name-token (c .before .before .before .before .before .args .t .now) (c .before .before .before .before .before .pre), ne-eqb 118 _ (λ e. (c .before .before .if1 .left) (sym e)), eq-eqb 108 _ (sym (c .before .if2 .taken))) (c .index2 .ensures)
+returns-2 c =
+    let start = c .before .before .before .before .before in
+    rw (
+      name-token (start .args .edition) (start .args .t .now) (start .pre),
+      ne-eqb 118 _ (λ e. (c .before .before .if1 .left) (sym e)),
+      eq-eqb 108 _ (sym (c .before .if2 .taken)),
+    )
+    (c .index2 .ensures)
 
 index-requires-3 : tie.Need-index-requires-3
 index-requires-3 c κs = search needs
 
 returns-3 : tie.Need-returns-3
 returns-3 c =
-    let mid = c .before .before .before in
-    let start = mid .before .before .before in
-    rw (name-token (start .args .t .now) (start .pre), ne-eqb 118 _ (λ e. (mid .if1 .left) (sym e)), ne-eqb 108 _ (λ e. (c .before .before .if2 .left) (sym e)), eq-eqb 97 _ (sym (c .before .if3 .taken))) (c .index3 .ensures)
+    let start = c .before .before .before .before .before .before in
+    rw (
+      name-token (start .args .edition) (start .args .t .now) (start .pre),
+      ne-eqb 118 _ (λ e. (c .before .before .before .if1 .left) (sym e)),
+      ne-eqb 108 _ (λ e. (c .before .before .if2 .left) (sym e)),
+      eq-eqb 97 _ (sym (c .before .if3 .taken)),
+    )
+    (c .index3 .ensures)
+
+parameter-requires : tie.Need-parameter-requires
+parameter-requires c κs = search needs
 
 returns-4 : tie.Need-returns-4
-returns-4 c = rw (name-token (c .before .before .before .before .before .args .t .now) (c .before .before .before .before .before .pre), ne-eqb 118 _ (λ e. (c .before .before .if1 .left) (sym e)), ne-eqb 108 _ (λ e. (c .before .if2 .left) (sym e)), ne-eqb 97 _ (λ e. (c .if3 .left) (sym e)))
+returns-4 c =
+    let start = c .before .before .before .before .before .before .before in
+    rw (
+      name-token (start .args .edition) (start .args .t .now) (start .pre),
+      ne-eqb 118 _ (λ e. (c .before .before .before .before .if1 .left) (sym e)),
+      ne-eqb 108 _ (λ e. (c .before .before .before .if2 .left) (sym e)),
+      ne-eqb 97 _ (λ e. (c .before .before .if3 .left) (sym e)),
+      eq-eqb 112 _ (sym (c .before .if4 .taken)),
+    )
+    (c .parameter .ensures)
+
+returns-5 : tie.Need-returns-5
+returns-5 c =
+    let start = c .before .before .before .before .before .before in
+    rw (
+      name-token (start .args .edition) (start .args .t .now) (start .pre),
+      ne-eqb 118 _ (λ e. (c .before .before .before .if1 .left) (sym e)),
+      ne-eqb 108 _ (λ e. (c .before .before .if2 .left) (sym e)),
+      ne-eqb 97 _ (λ e. (c .before .if3 .left) (sym e)),
+      ne-eqb 112 _ (λ e. (c .if4 .left) (sym e)),
+    )
 
 pub name-spec : {M : Type 1} → statement M
 name-spec =
@@ -44,4 +79,6 @@ name-spec =
     returns-2
     index-requires-3
     returns-3
-    returns-4)
+    parameter-requires
+    returns-4
+    returns-5)

@@ -1,4 +1,4 @@
--- `whole::six_lines` meets its contract: a walk of its MIR, by hand. The one `Reader` is made here, and `Reader::line` gives it back after each line.
+-- `whole::all_lines` meets its contract: a walk of its MIR, by hand. The one `Reader` is made here, and `Reader::line` gives it back after each line.
 -- Only the contracts of what is called are used. The words are lent again to each call, for a lifetime that is made for it, and come back (`Again.antt`): `lined` is that call as one step.
 use mathlib.Core.Path.{_≡_, refl, sym, ap, subst, _∙_}
 use Prim.Native.Nat.{ℕ, _+_, _≤_, _<_, _^_}
@@ -48,7 +48,7 @@ use Rattle.sheet.specs.Whole.{Went, unread}
 use Rattle.sheet.specs.declared.reader.Reader.{Reader}
 use Rattle.sheet.specs.declared.whole.Progress.{Progress}
 use Rattle.sheet.proofs.Again.{LentAgain, lends-at, back-at}
-use Rattle.sheet.proofs.SixLines.{at-start}
+use Rattle.sheet.proofs.FirstLines.{at-start}
 use Rattle.sheet.proofs.Standing.{Needs, Found, Stands, asks, onward}
 use Rattle.sheet.proofs.reader.Reader as T
 use Rattle.sheet.proofs.reader.Reader.Laws as T′
@@ -66,10 +66,10 @@ use Rattle.sheet.proofs.reader.Reader.line as line
 use Rattle.sheet.proofs.reader.Reader.line.Symbol as line-def
 use Rattle.sheet.proofs.reader.Reader.line.Symbol.{name as #line}
 use Rattle.sheet.proofs.reader.Reader.line.Met as line-thm
-use Rattle.sheet.proofs.whole.six_lines.Key.{name as #six-lines}
-use Rattle.sheet.proofs.whole.six_lines as above
-use Rattle.sheet.proofs.whole.six_lines.Statement as stated
-use Rattle.sheet.proofs.whole.six_lines.Code as code
+use Rattle.sheet.proofs.whole.all_lines.Key.{name as #all-lines}
+use Rattle.sheet.proofs.whole.all_lines as above
+use Rattle.sheet.proofs.whole.all_lines.Statement as stated
+use Rattle.sheet.proofs.whole.all_lines.Code as code
 
 -- the struct's type, at the sheet's lifetime
 abbrev B : Lft → RattleType
@@ -182,7 +182,7 @@ module _ {M : Type 1} (𝓤 : URA M) (H : Heap 𝓤) (A : Atoms 𝓤) (W : Given
       -- [what `line` takes; ν's token; the sheet's]
       move ! (2 ∷ []) $ split ! $ move ! (3 ∷ 1 ∷ []) $ join ! $ move ! (1 ∷ 0 ∷ []) $ join ! $ by ! (asked-line ν δ k r u zs pre)
 
-  exits : (p : Progress) (zs : List ℕ) → Is E.the-row p (EL.vals E.the-type E′.the-laws p) → Went 6 (now s) (length ys) p zs → length zs ≡ length ys
+  exits : (p : Progress) (zs : List ℕ) → Is E.the-row p (EL.vals E.the-type E′.the-laws p) → Went 7 (now s) (length ys) p zs → length zs ≡ length ys
       → ent 𝓤 (⋆ 𝓤 H A (Token ∷ Lent zs ∷ ‵ Own ∷ [])) (Post (EL.val E.the-type E′.the-laws p))
   exits p zs i e l =
       qed W (Token ∷ Lent zs ∷ ‵ Own ∷ []) ∵
@@ -194,7 +194,7 @@ module _ {M : Type 1} (𝓤 : URA M) (H : Heap 𝓤) (A : Atoms 𝓤) (W : Given
   module _ (C : Calls 𝓤 H) (Λ : Loops 𝓤 H) (fm : FmC 𝓤 H (W .laws) C) (known-start : Triple 𝓤 (C #nothing) (Start 𝓤 H A mem run)) (known-stand : Triple 𝓤 (C #stand) (Stand 𝓤 H A mem run)) (known-line : Triple 𝓤 (C #line) (Line 𝓤 H A mem run)) (room : Room u32 (length ys)) where
     -- the words are lent again, `line` is called, and they come back: the reader stands after the line
     lined : {Γ : List (Item 𝓤)} {env : Env 𝓤 H} {d : Place} {xs : List Operand} {rest : Body} {end : Ending 𝓤 H} → Go {0}
-        → (k : ℕ) → k < 2 ^ 32 → (r : Reader) (u : Val) (zs : List ℕ) → k ≤ 5 → Stands s (length ys) k r zs
+        → (k : ℕ) → k < 2 ^ 32 → (r : Reader) (u : Val) (zs : List ℕ) → k ≤ 6 → Stands s (length ys) k r zs
         → ((i j : Item 𝓤) → Opds (Go {0}) W (i ∷ j ∷ Γ) env xs (u ∷ vint w32 k ∷ xv ∷ []))
         → ((r′ : Reader) (u′ : Val) (zs′ : List ℕ) → Is (B κ) r′ (u′ ∷ []) → Stands s (length ys) (k + 1) r′ zs′ → Seq (Go {0}) W (‵ (Holder r′ u′) ∷ Token ∷ Lent zs′ ∷ Γ) (lands C Λ env d u′ rest end))
         → Seq (Go {0}) W (‵ (Holder r u) ∷ Token ∷ Lent zs ∷ Γ) (runs C Λ env (seq (call #line xs d) rest) end)
@@ -217,53 +217,57 @@ module _ {M : Type 1} (𝓤 : URA M) (H : Heap 𝓤) (A : Atoms 𝓤) (W : Given
     walk : Is (ShrSlice (named 0) κ u8) s (v ∷ []) → ent 𝓤 (onEntry 𝓤 H A above.signature (κ, (κ′, tt)) (q, (q′, tt)) (s, (x γ ys, tt)) at) (WpFn 𝓤 H C Λ code.function (v ∷ xv ∷ []) Post)
     walk p =
         qed W (raw (onEntry 𝓤 H A above.signature (κ, (κ′, tt)) (q, (q′, tt)) (s, (x γ ys, tt)) at) ∷ []) ∵ enter ! C Λ code.function (v ∷ xv ∷ []) _ $
-        alloc1 ! (λ l₀. alloc1 ! (λ l₁. alloc1 ! (λ l₂. alloc1 ! (λ l₃. alloc1 ! (λ l₄. alloc1 ! (λ l₅. alloc1 ! (λ l₆. alloc1 ! (λ l₇. alloc1 ! (λ l₈. alloc1 ! (λ l₉. alloc1 ! (λ l₁₀. alloc1 ! (λ l₁₁. alloc1 ! (λ l₁₂. alloc1 ! (λ l₁₃. alloc1 ! (λ l₁₄. alloc1 ! (λ l₁₅. alloc1 ! (λ l₁₆. alloc1 ! (λ l₁₇. alloc1 ! (λ l₁₈. alloc1 ! (λ l₁₉. alloc1 ! (λ l₂₀. alloc1 ! (λ l₂₁. alloc1 ! (λ l₂₂. alloc0 ! $ params1 ! $
-        pass1 ! (init ! 42 refl (shr-slice-lawful 𝓤 H A W (named 0) κ u8 .typed s (v ∷ []) p .0)) $ pass1 ! (init ! 40 refl (tt, (tt, (record { fits = room .0 }, tt)))) $ pass0 ! $
-        move ! (46 ∷ []) $ use1 W (‵ Own ⊛ (‵ Own ⊛ (Token ⊛ Lent ys))) begins $ split ! $ move ! (1 ∷ []) $ split ! $ move ! (1 ∷ []) $ split ! $
-        -- [the sheet's token; the words; what s owns; the same; room for _22; …; _2; …; _1; …; room for _0; …]
+        alloc1 ! (λ l₀. alloc1 ! (λ l₁. alloc1 ! (λ l₂. alloc1 ! (λ l₃. alloc1 ! (λ l₄. alloc1 ! (λ l₅. alloc1 ! (λ l₆. alloc1 ! (λ l₇. alloc1 ! (λ l₈. alloc1 ! (λ l₉. alloc1 ! (λ l₁₀. alloc1 ! (λ l₁₁. alloc1 ! (λ l₁₂. alloc1 ! (λ l₁₃. alloc1 ! (λ l₁₄. alloc1 ! (λ l₁₅. alloc1 ! (λ l₁₆. alloc1 ! (λ l₁₇. alloc1 ! (λ l₁₈. alloc1 ! (λ l₁₉. alloc1 ! (λ l₂₀. alloc1 ! (λ l₂₁. alloc1 ! (λ l₂₂. alloc1 ! (λ l₂₃. alloc1 ! (λ l₂₄. alloc1 ! (λ l₂₅. alloc0 ! $ params1 ! $
+        pass1 ! (init ! 48 refl (shr-slice-lawful 𝓤 H A W (named 0) κ u8 .typed s (v ∷ []) p .0)) $ pass1 ! (init ! 46 refl (tt, (tt, (record { fits = room .0 }, tt)))) $ pass0 ! $
+        move ! (52 ∷ []) $ use1 W (‵ Own ⊛ (‵ Own ⊛ (Token ⊛ Lent ys))) begins $ split ! $ move ! (1 ∷ []) $ split ! $ move ! (1 ∷ []) $ split ! $
+        -- [the sheet's token; the words; what s owns; the same; room for _25; …; _2; …; _1; …; room for _0; …]
         nothing ! $ use1 W (raw (Start 𝓤 H A mem run .pre to-start)) goes-start $
         calls-at ! fm (Start 𝓤 H A mem run) known-start to-start (no-more !) (λ z.
         use1 W (later (some (λ (p₀ : Progress). (‵ ftrue ⊛ ‵ (E.the-row .own p₀ (z ∷ []))) ⊛ raw (ensured 𝓤 H A start.ended (start.clauses 𝓤 H A mem run) tt tt tt p₀)))) (id⊢ 𝓤 _) $ await ! tt $ pick ! (λ p₀.
         split ! $ move ! (1 ∷ []) $ use1 W (raw (fact 𝓤 (p₀ ≡ unread))) (start-said p₀) $ heard ! (p₀ ≡ unread) (λ f. split ! $ move ! (1 ∷ []) $
-        peeks ! E.the-row (Is E.the-row) (shows 𝓤 H A E.the-row) p₀ (z ∷ []) (λ js. land ! (from ! (stop !)) (init ! 30 refl (EL.lawful E.the-type E′.the-laws 𝓤 H A W tt .typed p₀ _ js .0)) $ drop ! $ drop ! $
+        peeks ! E.the-row (Is E.the-row) (shows 𝓤 H A E.the-row) p₀ (z ∷ []) (λ js. land ! (from ! (stop !)) (init ! 34 refl (EL.lawful E.the-type E′.the-laws 𝓤 H A W tt .typed p₀ _ js .0)) $ drop ! $ drop ! $
         -- the reader
         move ! (2 ∷ 0 ∷ []) $ use2 W (raw (Stand 𝓤 H A mem run .pre (to-stand p₀ z))) (goes-stand p₀ z js) $
-        calls-at ! fm (Stand 𝓤 H A mem run) known-stand (to-stand p₀ z) (and-then ! (load ! (from ! (stop !)) (look ! 45 refl)) (and-then ! (load ! (from ! (stop !)) (look ! 27 refl)) (no-more !))) (λ u₀.
+        calls-at ! fm (Stand 𝓤 H A mem run) known-stand (to-stand p₀ z) (and-then ! (load ! (from ! (stop !)) (look ! 51 refl)) (and-then ! (load ! (from ! (stop !)) (look ! 31 refl)) (no-more !))) (λ u₀.
         use1 W (later (some (λ (r : Reader). (Token ⊛ ‵ (Holder r u₀)) ⊛ raw (ensured 𝓤 H A stand.ended (stand.clauses 𝓤 H A mem run) (κ, tt) (s, (p₀, tt)) tt r)))) (id⊢ 𝓤 _) $ await ! tt $ pick ! (λ r₀.
         split ! $ move ! (1 ∷ []) $ use1 W (raw (fact 𝓤 ((r₀ .sheet ≡ s) × (r₀ .read ≡ p₀)))) (stand-said p₀ r₀) $ heard ! ((r₀ .sheet ≡ s) × (r₀ .read ≡ p₀)) (λ e₀. split ! $ move ! (1 ∷ []) $
-        peeks ! (B κ) (Is (B κ)) (shows 𝓤 H A (B κ)) r₀ (u₀ ∷ []) (λ is₀. land ! (from ! (stop !)) (init ! 30 refl (typed r₀ u₀ is₀)) $
+        peeks ! (B κ) (Is (B κ)) (shows 𝓤 H A (B κ)) r₀ (u₀ ∷ []) (λ is₀. land ! (from ! (stop !)) (init ! 34 refl (typed r₀ u₀ is₀)) $
         let h₀ : Stands s (length ys) 0 r₀ ys = (subst (λ (y : Progress). Went 0 (now s) (length ys) y ys) (sym (e₀ .1 ∙ f)) (at-start (now s) (length ys) ys zeros many), e₀ .0, refl) in
-        -- the edition: [the reader; the sheet's token; the words; what s owns; _22; …]
-        assigns ! (addr ! (from ! (fld ! refl (hop ! (look-in ! 44 (sub ! 0 refl (whole !))) (stop !))))) (from ! (stop !)) (init ! 26 refl (tt, tt)) $
-        assigns ! (agg ! (and-then ! (load ! (from ! (stop !)) (look ! 26 refl)) (and-then ! (load ! (from ! (fld ! refl (stop !))) (look-in ! 44 (sub ! 1 refl (whole !)))) (no-more !)))) (from ! (stop !)) (init ! 24 refl (tt, (tt, (record { fits = room .0 }, tt)))) $
-        lined ! 0 (omega arith) r₀ u₀ ys (omega arith) h₀ (λ i j. and-then ! (load ! (from ! (stop !)) (look ! 29 refl)) (and-then ! (lit ! tt) (and-then ! (load ! (from ! (stop !)) (look ! 23 refl)) (no-more !)))) (λ r₁ u₁ zs₁ is₁ h₁. land ! (from ! (stop !)) (init ! 32 refl (typed r₁ u₁ is₁)) $
-        -- the scalars: [the reader; the sheet's token; the words; what s owns; _22; …]
-        assigns ! (addr ! (from ! (fld ! refl (hop ! (look-in ! 44 (sub ! 0 refl (whole !))) (stop !))))) (from ! (stop !)) (init ! 22 refl (tt, tt)) $
-        assigns ! (agg ! (and-then ! (load ! (from ! (stop !)) (look ! 22 refl)) (and-then ! (load ! (from ! (fld ! refl (stop !))) (look-in ! 44 (sub ! 1 refl (whole !)))) (no-more !)))) (from ! (stop !)) (init ! 20 refl (tt, (tt, (record { fits = room .0 }, tt)))) $
-        lined ! 1 (omega arith) r₁ u₁ zs₁ (omega arith) h₁ (λ i j. and-then ! (load ! (from ! (stop !)) (look ! 31 refl)) (and-then ! (lit ! tt) (and-then ! (load ! (from ! (stop !)) (look ! 19 refl)) (no-more !)))) (λ r₂ u₂ zs₂ is₂ h₂. land ! (from ! (stop !)) (init ! 34 refl (typed r₂ u₂ is₂)) $
-        -- the locals: [the reader; the sheet's token; the words; what s owns; _22; …]
-        assigns ! (addr ! (from ! (fld ! refl (hop ! (look-in ! 44 (sub ! 0 refl (whole !))) (stop !))))) (from ! (stop !)) (init ! 18 refl (tt, tt)) $
-        assigns ! (agg ! (and-then ! (load ! (from ! (stop !)) (look ! 18 refl)) (and-then ! (load ! (from ! (fld ! refl (stop !))) (look-in ! 44 (sub ! 1 refl (whole !)))) (no-more !)))) (from ! (stop !)) (init ! 16 refl (tt, (tt, (record { fits = room .0 }, tt)))) $
-        lined ! 2 (omega arith) r₂ u₂ zs₂ (omega arith) h₂ (λ i j. and-then ! (load ! (from ! (stop !)) (look ! 33 refl)) (and-then ! (lit ! tt) (and-then ! (load ! (from ! (stop !)) (look ! 15 refl)) (no-more !)))) (λ r₃ u₃ zs₃ is₃ h₃. land ! (from ! (stop !)) (init ! 36 refl (typed r₃ u₃ is₃)) $
-        -- the arrays: [the reader; the sheet's token; the words; what s owns; _22; …]
-        assigns ! (addr ! (from ! (fld ! refl (hop ! (look-in ! 44 (sub ! 0 refl (whole !))) (stop !))))) (from ! (stop !)) (init ! 14 refl (tt, tt)) $
-        assigns ! (agg ! (and-then ! (load ! (from ! (stop !)) (look ! 14 refl)) (and-then ! (load ! (from ! (fld ! refl (stop !))) (look-in ! 44 (sub ! 1 refl (whole !)))) (no-more !)))) (from ! (stop !)) (init ! 12 refl (tt, (tt, (record { fits = room .0 }, tt)))) $
-        lined ! 3 (omega arith) r₃ u₃ zs₃ (omega arith) h₃ (λ i j. and-then ! (load ! (from ! (stop !)) (look ! 35 refl)) (and-then ! (lit ! tt) (and-then ! (load ! (from ! (stop !)) (look ! 11 refl)) (no-more !)))) (λ r₄ u₄ zs₄ is₄ h₄. land ! (from ! (stop !)) (init ! 38 refl (typed r₄ u₄ is₄)) $
-        -- the given values: [the reader; the sheet's token; the words; what s owns; _22; …]
-        assigns ! (addr ! (from ! (fld ! refl (hop ! (look-in ! 44 (sub ! 0 refl (whole !))) (stop !))))) (from ! (stop !)) (init ! 10 refl (tt, tt)) $
-        assigns ! (agg ! (and-then ! (load ! (from ! (stop !)) (look ! 10 refl)) (and-then ! (load ! (from ! (fld ! refl (stop !))) (look-in ! 44 (sub ! 1 refl (whole !)))) (no-more !)))) (from ! (stop !)) (init ! 8 refl (tt, (tt, (record { fits = room .0 }, tt)))) $
-        lined ! 4 (omega arith) r₄ u₄ zs₄ (omega arith) h₄ (λ i j. and-then ! (load ! (from ! (stop !)) (look ! 37 refl)) (and-then ! (lit ! tt) (and-then ! (load ! (from ! (stop !)) (look ! 7 refl)) (no-more !)))) (λ r₅ u₅ zs₅ is₅ h₅. land ! (from ! (stop !)) (init ! 40 refl (typed r₅ u₅ is₅)) $
-        -- the formula: [the reader; the sheet's token; the words; what s owns; _22; …]
-        assigns ! (addr ! (from ! (fld ! refl (hop ! (look-in ! 44 (sub ! 0 refl (whole !))) (stop !))))) (from ! (stop !)) (init ! 6 refl (tt, tt)) $
-        assigns ! (agg ! (and-then ! (load ! (from ! (stop !)) (look ! 6 refl)) (and-then ! (load ! (from ! (fld ! refl (stop !))) (look-in ! 44 (sub ! 1 refl (whole !)))) (no-more !)))) (from ! (stop !)) (init ! 4 refl (tt, (tt, (record { fits = room .0 }, tt)))) $
-        lined ! 5 (omega arith) r₅ u₅ zs₅ (omega arith) h₅ (λ i j. and-then ! (load ! (from ! (stop !)) (look ! 39 refl)) (and-then ! (lit ! tt) (and-then ! (load ! (from ! (stop !)) (look ! 3 refl)) (no-more !)))) (λ r₆ u₆ zs₆ is₆ h₆. land ! (from ! (stop !)) (init ! 42 refl (typed r₆ u₆ is₆)) $
+        -- the edition: [the reader; the sheet's token; the words; what s owns; _25; …]
+        assigns ! (addr ! (from ! (fld ! refl (hop ! (look-in ! 50 (sub ! 0 refl (whole !))) (stop !))))) (from ! (stop !)) (init ! 30 refl (tt, tt)) $
+        assigns ! (agg ! (and-then ! (load ! (from ! (stop !)) (look ! 30 refl)) (and-then ! (load ! (from ! (fld ! refl (stop !))) (look-in ! 50 (sub ! 1 refl (whole !)))) (no-more !)))) (from ! (stop !)) (init ! 28 refl (tt, (tt, (record { fits = room .0 }, tt)))) $
+        lined ! 0 (omega arith) r₀ u₀ ys (omega arith) h₀ (λ i j. and-then ! (load ! (from ! (stop !)) (look ! 33 refl)) (and-then ! (lit ! tt) (and-then ! (load ! (from ! (stop !)) (look ! 27 refl)) (no-more !)))) (λ r₁ u₁ zs₁ is₁ h₁. land ! (from ! (stop !)) (init ! 36 refl (typed r₁ u₁ is₁)) $
+        -- the scalars: [the reader; the sheet's token; the words; what s owns; _25; …]
+        assigns ! (addr ! (from ! (fld ! refl (hop ! (look-in ! 50 (sub ! 0 refl (whole !))) (stop !))))) (from ! (stop !)) (init ! 26 refl (tt, tt)) $
+        assigns ! (agg ! (and-then ! (load ! (from ! (stop !)) (look ! 26 refl)) (and-then ! (load ! (from ! (fld ! refl (stop !))) (look-in ! 50 (sub ! 1 refl (whole !)))) (no-more !)))) (from ! (stop !)) (init ! 24 refl (tt, (tt, (record { fits = room .0 }, tt)))) $
+        lined ! 1 (omega arith) r₁ u₁ zs₁ (omega arith) h₁ (λ i j. and-then ! (load ! (from ! (stop !)) (look ! 35 refl)) (and-then ! (lit ! tt) (and-then ! (load ! (from ! (stop !)) (look ! 23 refl)) (no-more !)))) (λ r₂ u₂ zs₂ is₂ h₂. land ! (from ! (stop !)) (init ! 38 refl (typed r₂ u₂ is₂)) $
+        -- the locals: [the reader; the sheet's token; the words; what s owns; _25; …]
+        assigns ! (addr ! (from ! (fld ! refl (hop ! (look-in ! 50 (sub ! 0 refl (whole !))) (stop !))))) (from ! (stop !)) (init ! 22 refl (tt, tt)) $
+        assigns ! (agg ! (and-then ! (load ! (from ! (stop !)) (look ! 22 refl)) (and-then ! (load ! (from ! (fld ! refl (stop !))) (look-in ! 50 (sub ! 1 refl (whole !)))) (no-more !)))) (from ! (stop !)) (init ! 20 refl (tt, (tt, (record { fits = room .0 }, tt)))) $
+        lined ! 2 (omega arith) r₂ u₂ zs₂ (omega arith) h₂ (λ i j. and-then ! (load ! (from ! (stop !)) (look ! 37 refl)) (and-then ! (lit ! tt) (and-then ! (load ! (from ! (stop !)) (look ! 19 refl)) (no-more !)))) (λ r₃ u₃ zs₃ is₃ h₃. land ! (from ! (stop !)) (init ! 40 refl (typed r₃ u₃ is₃)) $
+        -- the arrays: [the reader; the sheet's token; the words; what s owns; _25; …]
+        assigns ! (addr ! (from ! (fld ! refl (hop ! (look-in ! 50 (sub ! 0 refl (whole !))) (stop !))))) (from ! (stop !)) (init ! 18 refl (tt, tt)) $
+        assigns ! (agg ! (and-then ! (load ! (from ! (stop !)) (look ! 18 refl)) (and-then ! (load ! (from ! (fld ! refl (stop !))) (look-in ! 50 (sub ! 1 refl (whole !)))) (no-more !)))) (from ! (stop !)) (init ! 16 refl (tt, (tt, (record { fits = room .0 }, tt)))) $
+        lined ! 3 (omega arith) r₃ u₃ zs₃ (omega arith) h₃ (λ i j. and-then ! (load ! (from ! (stop !)) (look ! 39 refl)) (and-then ! (lit ! tt) (and-then ! (load ! (from ! (stop !)) (look ! 15 refl)) (no-more !)))) (λ r₄ u₄ zs₄ is₄ h₄. land ! (from ! (stop !)) (init ! 42 refl (typed r₄ u₄ is₄)) $
+        -- the given values: [the reader; the sheet's token; the words; what s owns; _25; …]
+        assigns ! (addr ! (from ! (fld ! refl (hop ! (look-in ! 50 (sub ! 0 refl (whole !))) (stop !))))) (from ! (stop !)) (init ! 14 refl (tt, tt)) $
+        assigns ! (agg ! (and-then ! (load ! (from ! (stop !)) (look ! 14 refl)) (and-then ! (load ! (from ! (fld ! refl (stop !))) (look-in ! 50 (sub ! 1 refl (whole !)))) (no-more !)))) (from ! (stop !)) (init ! 12 refl (tt, (tt, (record { fits = room .0 }, tt)))) $
+        lined ! 4 (omega arith) r₄ u₄ zs₄ (omega arith) h₄ (λ i j. and-then ! (load ! (from ! (stop !)) (look ! 41 refl)) (and-then ! (lit ! tt) (and-then ! (load ! (from ! (stop !)) (look ! 11 refl)) (no-more !)))) (λ r₅ u₅ zs₅ is₅ h₅. land ! (from ! (stop !)) (init ! 44 refl (typed r₅ u₅ is₅)) $
+        -- the procedures: [the reader; the sheet's token; the words; what s owns; _25; …]
+        assigns ! (addr ! (from ! (fld ! refl (hop ! (look-in ! 50 (sub ! 0 refl (whole !))) (stop !))))) (from ! (stop !)) (init ! 10 refl (tt, tt)) $
+        assigns ! (agg ! (and-then ! (load ! (from ! (stop !)) (look ! 10 refl)) (and-then ! (load ! (from ! (fld ! refl (stop !))) (look-in ! 50 (sub ! 1 refl (whole !)))) (no-more !)))) (from ! (stop !)) (init ! 8 refl (tt, (tt, (record { fits = room .0 }, tt)))) $
+        lined ! 5 (omega arith) r₅ u₅ zs₅ (omega arith) h₅ (λ i j. and-then ! (load ! (from ! (stop !)) (look ! 43 refl)) (and-then ! (lit ! tt) (and-then ! (load ! (from ! (stop !)) (look ! 7 refl)) (no-more !)))) (λ r₆ u₆ zs₆ is₆ h₆. land ! (from ! (stop !)) (init ! 46 refl (typed r₆ u₆ is₆)) $
+        -- the formula: [the reader; the sheet's token; the words; what s owns; _25; …]
+        assigns ! (addr ! (from ! (fld ! refl (hop ! (look-in ! 50 (sub ! 0 refl (whole !))) (stop !))))) (from ! (stop !)) (init ! 6 refl (tt, tt)) $
+        assigns ! (agg ! (and-then ! (load ! (from ! (stop !)) (look ! 6 refl)) (and-then ! (load ! (from ! (fld ! refl (stop !))) (look-in ! 50 (sub ! 1 refl (whole !)))) (no-more !)))) (from ! (stop !)) (init ! 4 refl (tt, (tt, (record { fits = room .0 }, tt)))) $
+        lined ! 6 (omega arith) r₆ u₆ zs₆ (omega arith) h₆ (λ i j. and-then ! (load ! (from ! (stop !)) (look ! 45 refl)) (and-then ! (lit ! tt) (and-then ! (load ! (from ! (stop !)) (look ! 3 refl)) (no-more !)))) (λ r₇ u₇ zs₇ is₇ h₇. land ! (from ! (stop !)) (init ! 48 refl (typed r₇ u₇ is₇)) $
         -- how far it was read
-        let fields = LL.owed (T.the-type αᵉ) (T′.the-laws αᵉ) r₆ _ is₆ in
-        rewrite ! 42 (λ (z : Val). ‵ (fat fullShare (T′.mir erased) l₃ 0 z)) (ap only (LL.tells (T.the-type αᵉ) (T′.the-laws αᵉ) r₆ (u₆ ∷ []) is₆)) refl $
-        assigns ! (of-opd ! (load ! (from ! (fld ! refl (stop !))) (look-in ! 42 (sub ! 1 refl (whole !))))) (from ! (stop !)) (init ! 48 refl (EL.lawful E.the-type E′.the-laws 𝓤 H A W tt .typed (r₆ .read) _ (fields .1 .0) .0)) $
-        returns ! (look ! 48 refl) $ forget ! 4 refl $ forget ! 6 refl $ forget ! 8 refl $ forget ! 10 refl $ forget ! 12 refl $ forget ! 14 refl $ forget ! 16 refl $ forget ! 18 refl $ forget ! 20 refl $ forget ! 22 refl $ forget ! 24 refl $ forget ! 26 refl $ forget ! 28 refl $ forget ! 30 refl $ forget ! 32 refl $ forget ! 34 refl $ forget ! 36 refl $ forget ! 38 refl $ forget ! 40 refl $ forget ! 42 refl $ forget ! 44 refl $ forget ! 46 refl $ forget ! 48 refl $
-        move ! (48 ∷ 49 ∷ []) $ free1 ! $ move ! (46 ∷ 47 ∷ []) $ free1 ! $ move ! (44 ∷ 45 ∷ []) $ free1 ! $ move ! (42 ∷ 43 ∷ []) $ free1 ! $ move ! (40 ∷ 41 ∷ []) $ free1 ! $ move ! (38 ∷ 39 ∷ []) $ free1 ! $ move ! (36 ∷ 37 ∷ []) $ free1 ! $ move ! (34 ∷ 35 ∷ []) $ free1 ! $ move ! (32 ∷ 33 ∷ []) $ free1 ! $ move ! (30 ∷ 31 ∷ []) $ free1 ! $ move ! (28 ∷ 29 ∷ []) $ free1 ! $ move ! (26 ∷ 27 ∷ []) $ free1 ! $ move ! (24 ∷ 25 ∷ []) $ free1 ! $ move ! (22 ∷ 23 ∷ []) $ free1 ! $ move ! (20 ∷ 21 ∷ []) $ free1 ! $ move ! (18 ∷ 19 ∷ []) $ free1 ! $ move ! (16 ∷ 17 ∷ []) $ free1 ! $ move ! (14 ∷ 15 ∷ []) $ free1 ! $ move ! (12 ∷ 13 ∷ []) $ free1 ! $ move ! (10 ∷ 11 ∷ []) $ free1 ! $ move ! (8 ∷ 9 ∷ []) $ free1 ! $ move ! (6 ∷ 7 ∷ []) $ free1 ! $ move ! (4 ∷ 5 ∷ []) $ free1 ! $ free0 ! $
-        keep ! (1 ∷ 2 ∷ 3 ∷ []) $ by ! (exits (r₆ .read) zs₆ (fields .1 .0) (h₆ .0) (h₆ .2)))))))))))))))))))))))))))))))))))))))
+        let fields = LL.owed (T.the-type αᵉ) (T′.the-laws αᵉ) r₇ _ is₇ in
+        rewrite ! 48 (λ (z : Val). ‵ (fat fullShare (T′.mir erased) l₃ 0 z)) (ap only (LL.tells (T.the-type αᵉ) (T′.the-laws αᵉ) r₇ (u₇ ∷ []) is₇)) refl $
+        assigns ! (of-opd ! (load ! (from ! (fld ! refl (stop !))) (look-in ! 48 (sub ! 1 refl (whole !))))) (from ! (stop !)) (init ! 54 refl (EL.lawful E.the-type E′.the-laws 𝓤 H A W tt .typed (r₇ .read) _ (fields .1 .0) .0)) $
+        returns ! (look ! 54 refl) $ forget ! 4 refl $ forget ! 6 refl $ forget ! 8 refl $ forget ! 10 refl $ forget ! 12 refl $ forget ! 14 refl $ forget ! 16 refl $ forget ! 18 refl $ forget ! 20 refl $ forget ! 22 refl $ forget ! 24 refl $ forget ! 26 refl $ forget ! 28 refl $ forget ! 30 refl $ forget ! 32 refl $ forget ! 34 refl $ forget ! 36 refl $ forget ! 38 refl $ forget ! 40 refl $ forget ! 42 refl $ forget ! 44 refl $ forget ! 46 refl $ forget ! 48 refl $ forget ! 50 refl $ forget ! 52 refl $ forget ! 54 refl $
+        move ! (54 ∷ 55 ∷ []) $ free1 ! $ move ! (52 ∷ 53 ∷ []) $ free1 ! $ move ! (50 ∷ 51 ∷ []) $ free1 ! $ move ! (48 ∷ 49 ∷ []) $ free1 ! $ move ! (46 ∷ 47 ∷ []) $ free1 ! $ move ! (44 ∷ 45 ∷ []) $ free1 ! $ move ! (42 ∷ 43 ∷ []) $ free1 ! $ move ! (40 ∷ 41 ∷ []) $ free1 ! $ move ! (38 ∷ 39 ∷ []) $ free1 ! $ move ! (36 ∷ 37 ∷ []) $ free1 ! $ move ! (34 ∷ 35 ∷ []) $ free1 ! $ move ! (32 ∷ 33 ∷ []) $ free1 ! $ move ! (30 ∷ 31 ∷ []) $ free1 ! $ move ! (28 ∷ 29 ∷ []) $ free1 ! $ move ! (26 ∷ 27 ∷ []) $ free1 ! $ move ! (24 ∷ 25 ∷ []) $ free1 ! $ move ! (22 ∷ 23 ∷ []) $ free1 ! $ move ! (20 ∷ 21 ∷ []) $ free1 ! $ move ! (18 ∷ 19 ∷ []) $ free1 ! $ move ! (16 ∷ 17 ∷ []) $ free1 ! $ move ! (14 ∷ 15 ∷ []) $ free1 ! $ move ! (12 ∷ 13 ∷ []) $ free1 ! $ move ! (10 ∷ 11 ∷ []) $ free1 ! $ move ! (8 ∷ 9 ∷ []) $ free1 ! $ move ! (6 ∷ 7 ∷ []) $ free1 ! $ move ! (4 ∷ 5 ∷ []) $ free1 ! $ free0 ! $
+        keep ! (1 ∷ 2 ∷ 3 ∷ []) $ by ! (exits (r₇ .read) zs₇ (fields .1 .0) (h₇ .0) (h₇ .2)))))))))))))))))))))))))))))))))))))))))))
 
 module _ {M : Type 1} (𝓤 : URA M) (H : Heap 𝓤) (A : Atoms 𝓤) (W : Given 𝓤 H A) (mem : Memory → SProp 𝓤) (run : Routine → Fun 𝓤) where
   above-walks : (C : Calls 𝓤 H) (Λ : Loops 𝓤 H) → FmC 𝓤 H (W .laws) C → Triple 𝓤 (C #nothing) (Start 𝓤 H A mem run) → Triple 𝓤 (C #stand) (Stand 𝓤 H A mem run) → Triple 𝓤 (C #line) (Line 𝓤 H A mem run)
@@ -278,11 +282,11 @@ above-meets : {M : Type 1} (𝓤 : URA M) (H : Heap 𝓤) (A : Atoms 𝓤) (W : 
 above-meets 𝓤 H A W mem run 𝓣 known-start known-stand known-line = walk-meets 𝓤 H A above.ended stayed W (goes-none-slice 𝓤 H A W 2 (0 ∷ []) tt (plain (λ _. u8)) yes, (goes-slice 𝓤 H A W 2 1 tt (plain (λ _. u32)), tt)) (above.clauses 𝓤 H A mem run) (WpFn 𝓤 H (𝓣 .C) (𝓣 .Λ) code.function) (WpFn-mono 𝓤 H (W .laws) 𝓣 code.function)
     (above-walks 𝓤 H A W mem run (𝓣 .C) (𝓣 .Λ) (fmOf 𝓤 H (W .laws) 𝓣) known-start known-stand known-line)
 
-pub six-lines-spec : {M : Type 1} → stated.statement M
+pub all-lines-spec : {M : Type 1} → stated.statement M
 unfolding code.routine tablesOf
-six-lines-spec 𝓤 H 𝓜 𝓖 𝓡 =
+all-lines-spec 𝓤 H 𝓜 𝓖 𝓡 =
     entered 𝓤 H (tripleOf 𝓤 H (𝓖 .A) above.signature (above.spec 𝓤 H (𝓖 .A) (𝓜 .mem) (𝓡 .run)))
-    (tables 𝓤 H 𝓜 𝓡 code.env .C) (tables 𝓤 H 𝓜 𝓡 code.env .Λ) #six-lines code.function (code.unfolded 𝓤 H 𝓜 𝓡)
+    (tables 𝓤 H 𝓜 𝓡 code.env .C) (tables 𝓤 H 𝓜 𝓡 code.env .Λ) #all-lines code.function (code.unfolded 𝓤 H 𝓜 𝓡)
     (above-meets 𝓤 H (𝓖 .A) (givenOf 𝓤 H 𝓜 𝓖) (𝓜 .mem) (𝓡 .run) (tablesOf 𝓤 H 𝓜 (tables 𝓤 H 𝓜 𝓡 code.env))
     (cited 𝓤 H (Start 𝓤 H (𝓖 .A) (𝓜 .mem) (𝓡 .run)) 𝓜 𝓡 code.env #nothing start-def.routine code.calls-sheet·whole·nothing (start-thm.met 𝓤 H 𝓜 𝓖 𝓡))
     (cited 𝓤 H (Stand 𝓤 H (𝓖 .A) (𝓜 .mem) (𝓡 .run)) 𝓜 𝓡 code.env #stand stand-def.routine code.calls-sheet·reader·stand (stand-thm.met 𝓤 H 𝓜 𝓖 𝓡))

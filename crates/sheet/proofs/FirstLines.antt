@@ -1,0 +1,155 @@
+-- The first four lines in order, from the answers of the code that reads each: what is read after one line more. Assumes nothing.
+use Prim.Native.Nat.{ℕ, zero, suc, _+_, _≤_}
+use native.Mathlib.Omega.{arith}
+use mathlib.Core.Path.{_≡_, refl, sym, ap, subst, _∙_}
+use mathlib.Core.Bool.{true, false}
+use mathlib.Core.List.{List}
+use lib.ListN.{length, replicate, length-replicate}
+use lib.Dec.{eqb}
+use Rattle.specification.specs.Bytes.{Bytes, bytes, feed}
+use Rattle.specification.specs.Parser.{Reader, Read, found, andThen}
+use Rattle.specification.specs.Lines.{line, Declared}
+use Rattle.specification.specs.Sheet.{Sheet, sheet}
+use Rattle.specification.proofs.Laws.Parser.{of-found}
+use Rattle.specification.proofs.Laws.ReadLines.{line-post}
+use Rattle.tables.specs.Layout.{maxArrays, maxScalars, maxLocals, pathAt}
+use Rattle.sheet.specs.declared.lines.Count.{Count}
+use Rattle.sheet.specs.declared.lines.Count.the-variants as count
+use Rattle.sheet.specs.declared.arrays.Arrays.{Arrays}
+use Rattle.sheet.specs.declared.arrays.Arrays.the-variants as arrays
+use Rattle.sheet.specs.declared.formula.Limits.{Limits}
+use Rattle.sheet.specs.declared.formula.Reached.{Reached}
+use Rattle.sheet.specs.declared.whole.Progress.{Progress}
+use Rattle.sheet.specs.declared.whole.Progress.the-variants as progress
+use Rattle.sheet.specs.Reader.{lineAt}
+use Rattle.sheet.specs.Tables.{Words, laidArrays}
+use Rattle.sheet.specs.Answers.{numberTo, countRead}
+use Rattle.sheet.specs.Firsts.{ArraysFound, ArraysDone}
+use Rattle.sheet.specs.Rest.{fromGiven, declaring, fromArrays, fromLocals, fromScalars, numberOf, limits, withNumber}
+use Rattle.sheet.specs.Whole.{NumberRead, Headed, Went, reached, unread}
+use Rattle.sheet.proofs.Regions.{firsts-length}
+use Rattle.sheet.proofs.Declares.{arrays-few, found-declares}
+
+-- before the first line
+pub at-start : (s : Bytes) (n : ℕ) (w : Words) → w ≡ replicate n 0 → pathAt ≤ n → Went 0 s n unread w
+unfolding sheet fromGiven
+at-start s n w e l = record { rest = refl; scalars = omega arith; locals = omega arith; procedures = refl; parameters = refl; words = e; enough = l }
+
+-- ---- a line with one number
+
+-- which it is
+module _ (k : ℕ) (r : Reader) where
+  pub first-line : eqb k 0 ≡ true → numberTo (bytes "edition=") 1 2 feed r ≡ numberOf k r
+  unfolding line
+  first-line e = rw e
+
+  pub second-line : eqb k 0 ≡ false → eqb k 1 ≡ true → numberTo (bytes "scalars=") 0 maxScalars feed r ≡ numberOf k r
+  unfolding line
+  second-line e f = rw (e, f)
+
+  pub third-line : eqb k 0 ≡ false → eqb k 1 ≡ false → numberTo (bytes "locals=") 0 maxLocals feed r ≡ numberOf k r
+  unfolding line
+  third-line e f = rw (e, f)
+
+-- its answer
+module _ (k : ℕ) (s : Bytes) (at : ℕ) (d : Limits) (r : Count) (e : countRead s r ≡ numberOf k (lineAt s at)) where
+  pub number-refused : (n p : ℕ) → r ≡ count.Refused n p → NumberRead k s at d (progress.Refused n p)
+  number-refused n p q = sym e ∙ ap (countRead s) q
+
+  module _ (n p : ℕ) (x : Reached) (q : r ≡ count.Is n p) (there : x ≡ reached p) where
+    number-read : (l : Limits) → l ≡ withNumber k d n → NumberRead k s at d (progress.Read l x)
+    number-read l h = record { number = n; read = sym e ∙ ap (countRead s) q ∙ ap (λ y. found n (lineAt s (y .at))) (sym there); known = h }
+
+    pub edition-read : eqb k 0 ≡ true → NumberRead k s at d (progress.Read (limits n (d .scalars) (d .locals) (d .arrays) (d .procedures) (d .parameters)) x)
+    edition-read f = number-read _ (rw f)
+
+    pub scalars-read : eqb k 0 ≡ false → eqb k 1 ≡ true → NumberRead k s at d (progress.Read (limits (d .edition) n (d .locals) (d .arrays) (d .procedures) (d .parameters)) x)
+    scalars-read f g = number-read _ (rw (f, g))
+
+    pub locals-read : eqb k 0 ≡ false → eqb k 1 ≡ false → NumberRead k s at d (progress.Read (limits (d .edition) (d .scalars) n (d .arrays) (d .procedures) (d .parameters)) x)
+    locals-read f g = number-read _ (rw (f, g))
+
+-- the first three lines go on from one to the next
+module _ (s : Bytes) (n : ℕ) (d : Limits) (w : Words) where
+  headed-long : (k at : ℕ) → Headed k s n d at w → length w ≡ n
+  headed-long k at h = ap length (h .words) ∙ length-replicate n 0
+
+  pub number-step : (k : ℕ) → k ≤ 2 → (x : Reached) → Went k s n (progress.Read d x) w → (r : Progress) → NumberRead k s (x .at) d r → Went (k + 1) s n r w
+  number-step zero small x h (progress.Refused e p) q = (h .rest ∙ ap (andThen (λ m. fromScalars (withNumber 0 d m))) q, headed-long 0 (x .at) h)
+  number-step zero small x h (progress.Read l y) g =
+      let z : Headed 1 s n (withNumber 0 d (g .number)) (y .at) w = record {
+        rest = h .rest ∙ ap (andThen (λ m. fromScalars (withNumber 0 d m))) (g .read);
+        scalars = h .scalars;
+        locals = h .locals;
+        procedures = h .procedures;
+        parameters = h .parameters;
+        words = h .words;
+        enough = h .enough;
+      } in
+      subst (λ v. Headed 1 s n v (y .at) w) (sym (g .known)) z
+  number-step (suc zero) small x h (progress.Refused e p) q = (h .rest ∙ ap (andThen (λ m. fromLocals (withNumber 1 d m))) q, headed-long 1 (x .at) h)
+  number-step (suc zero) small x h (progress.Read l y) g =
+      let z : Headed 2 s n (withNumber 1 d (g .number)) (y .at) w = record {
+        rest = h .rest ∙ ap (andThen (λ m. fromLocals (withNumber 1 d m))) (g .read);
+        scalars = of-found (line-post 0 maxScalars (bytes "scalars=") (lineAt s (x .at))) (g .read) .1;
+        locals = h .locals;
+        procedures = h .procedures;
+        parameters = h .parameters;
+        words = h .words;
+        enough = h .enough;
+      } in
+      subst (λ v. Headed 2 s n v (y .at) w) (sym (g .known)) z
+  number-step (suc (suc zero)) small x h (progress.Refused e p) q = (h .rest ∙ ap (andThen (λ m. fromArrays (withNumber 2 d m))) q, headed-long 2 (x .at) h)
+  number-step (suc (suc zero)) small x h (progress.Read l y) g =
+      let z : Headed 3 s n (withNumber 2 d (g .number)) (y .at) w = record {
+        rest = h .rest ∙ ap (andThen (λ m. fromArrays (withNumber 2 d m))) (g .read);
+        scalars = h .scalars;
+        locals = of-found (line-post 0 maxLocals (bytes "locals=") (lineAt s (x .at))) (g .read) .1;
+        procedures = h .procedures;
+        parameters = h .parameters;
+        words = h .words;
+        enough = h .enough;
+      } in
+      subst (λ v. Headed 3 s n v (y .at) w) (sym (g .known)) z
+  number-step (suc (suc (suc k))) small x h r q = absurd (omega arith)
+
+-- ---- the arrays
+
+module _ (s : Bytes) (n : ℕ) (d : Limits) (at : ℕ) (w : Words) (h : Headed 3 s n d at w) (w₁ : Words) (r : Arrays) (a : ArraysDone s at (d .scalars) w w₁ r) where
+  abbrev onArrays : Read (List ℕ) → Read Sheet
+  onArrays x = andThen (λ ns. fromGiven (declaring d ns)) x
+
+  pub arrays-refused : (k p : ℕ) → r ≡ arrays.Refused k p → Went 4 s n (progress.Refused k p) w₁
+  arrays-refused k p q =
+      let x : ArraysDone s at (d .scalars) w w₁ (arrays.Refused k p) = rw q at a in
+      (h .rest ∙ ap onArrays (x .0), x .1 ∙ headed-long s n d w 3 at h)
+
+  pub arrays-found : (m end c : ℕ) (x : Reached) → r ≡ arrays.Read m end c → x ≡ reached c →
+      Went 4 s n (progress.Read (limits (d .edition) (d .scalars) (d .locals) m (d .procedures) (d .parameters)) x) w₁
+  unfolding laidArrays
+  arrays-found m end c x q there =
+      let f : ArraysFound s at (d .scalars) w (record { arrays = m; end = end; words = w₁ }) c = rw q at a in
+      let long : length w ≡ n = headed-long s n d w 3 at h in
+      let D : Declared = declaring d (f .lengths) in
+      let few : length (f .lengths) ≤ maxArrays = arrays-few (d .scalars) (lineAt s at) (f .lengths) (lineAt s c) (f .read) .0 in
+      let laid : w₁ ≡ laidArrays D w = f .laid D refl refl in
+      record {
+        declared = D;
+        rest = h .rest ∙ ap onArrays (f .read) ∙ ap (λ y. fromGiven D (lineAt s (y .at))) (sym there);
+        none = refl;
+        plain = refl;
+        counts = record {
+          edition = refl;
+          scalars = refl;
+          locals = refl;
+          arrays = f .many;
+          procedures = sym (h .procedures);
+          parameters = sym (h .parameters);
+          limited = record { scalars = h .scalars; locals = h .locals; arrays = few; procedures = omega arith; each = λ K. omega arith; parameters = omega arith };
+        };
+        small = record { scalars = h .scalars; locals = h .locals; arrays = omega (arith, few, f .many); procedures = omega (arith, h .procedures) };
+        declares = found-declares f (omega (arith, h .scalars)) (omega (arith, long, h .enough)) D refl refl;
+        words = laid ∙ ap (laidArrays D) (h .words);
+        long = ap length laid ∙ firsts-length D 0 (suc maxArrays) w ∙ long;
+        enough = h .enough;
+      }

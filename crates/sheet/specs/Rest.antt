@@ -1,0 +1,87 @@
+-- The rest of the sheet after some of its lines, as a reader of its own: from each line on the specification reads as this says.
+-- Assumes nothing.
+use Prim.Native.Nat.{ℕ, zero, suc}
+use mathlib.Core.List.{List, [], _∷_, _++_}
+use lib.Dec.{eqb}
+use Rattle.specification.specs.Bytes.{bytes, feed, pick}
+use Rattle.specification.specs.Parser.{Parser, andThen, give, _>>=_, _>>_, mark, key, finish}
+use Rattle.specification.specs.Lines.{line, Declared, arraysLine}
+use Rattle.specification.specs.Given.{Item, givenLine}
+use Rattle.specification.specs.Ast.{Formula}
+use Rattle.specification.specs.Formula.{formula}
+use Rattle.specification.specs.Sheet.{withParameters, withProcedures, procedureLines, mostProcedures, Sheet}
+use Rattle.tables.specs.Layout.{maxScalars, maxLocals, maxNesting}
+use Rattle.sheet.specs.declared.formula.Limits.{Limits}
+use Rattle.sheet.specs.FormulaLine.{lineFormula, formulaRest}
+
+abbrev pub sheetOf : Declared → List Item → Formula → Sheet
+sheetOf D is F = record { declared = D; given = is; formula = F }
+
+-- from the formula on
+abbrev pub fromFormula : Declared → List Item → Parser Sheet
+fromFormula D is r = andThen (λ F. give (sheetOf D is F)) (formulaRest D r)
+
+-- from the lines of procedures on, of which up to k may follow
+abbrev pub fromProcedures : ℕ → Declared → List Item → Parser Sheet
+fromProcedures k D is = procedureLines k D >>= λ Ps. fromFormula (withProcedures Ps D) is
+
+-- from the formula of a procedure on, which has m parameters
+abbrev pub oneMore : Declared → ℕ → Formula → Declared
+oneMore D m F = withProcedures (D .procedures ++ (record { parameters = m; formula = F } ∷ [])) D
+
+abbrev pub fromBody : ℕ → Declared → List Item → ℕ → Parser Sheet
+fromBody k D is m = lineFormula (withParameters m D) >>= λ F. fromProcedures k (oneMore D m F) is
+
+-- from the given values on
+unfoldable pub fromGiven : Declared → Parser Sheet
+fromGiven D =
+    givenLine D >>= λ given.
+    procedureLines (mostProcedures (D .edition)) D >>= λ Ps.
+    (let E = withProcedures Ps D in
+    key (bytes "formula=") >> (formula E maxNesting [] >>= λ F. mark feed >> (finish >> give (sheetOf E given F))))
+
+-- from the arrays on
+abbrev pub declaring : Limits → List ℕ → Declared
+declaring d ns = record {
+  edition = d .edition;
+  scalars = d .scalars;
+  locals = d .locals;
+  arrays = ns;
+  procedures = [];
+  parameters = 0;
+}
+
+abbrev pub fromArrays : Limits → Parser Sheet
+fromArrays d = arraysLine (d .scalars) >>= λ ns. fromGiven (declaring d ns)
+
+-- the line with one number that comes k-th, and what is declared with it
+abbrev pub numberOf : ℕ → Parser ℕ
+numberOf k =
+    pick (eqb k 0) (line (bytes "edition=") 1 2)
+    (pick (eqb k 1) (line (bytes "scalars=") 0 maxScalars)
+    (line (bytes "locals=") 0 maxLocals))
+
+abbrev pub limits : ℕ → ℕ → ℕ → ℕ → ℕ → ℕ → Limits
+limits e v l a p m = record { edition = e; scalars = v; locals = l; arrays = a; procedures = p; parameters = m }
+
+abbrev pub withNumber : ℕ → Limits → ℕ → Limits
+withNumber k d n =
+    pick (eqb k 0) (limits n (d .scalars) (d .locals) (d .arrays) (d .procedures) (d .parameters))
+    (pick (eqb k 1) (limits (d .edition) n (d .locals) (d .arrays) (d .procedures) (d .parameters))
+    (limits (d .edition) (d .scalars) n (d .arrays) (d .procedures) (d .parameters)))
+
+abbrev pub fromLocals : Limits → Parser Sheet
+fromLocals d = numberOf 2 >>= λ n. fromArrays (withNumber 2 d n)
+
+abbrev pub fromScalars : Limits → Parser Sheet
+fromScalars d = numberOf 1 >>= λ n. fromLocals (withNumber 1 d n)
+
+abbrev pub fromEdition : Limits → Parser Sheet
+fromEdition d = numberOf 0 >>= λ n. fromScalars (withNumber 0 d n)
+
+-- after k of the first three lines
+abbrev pub afterNumbers : ℕ → Limits → Parser Sheet
+afterNumbers zero d = fromEdition d
+afterNumbers (suc zero) d = fromScalars d
+afterNumbers (suc (suc zero)) d = fromLocals d
+afterNumbers (suc (suc (suc k))) d = fromArrays d
