@@ -1,8 +1,27 @@
--- Results: results as words, and the small functions over them. Elements: the elements of arrays. Run: the machine over the items of terms
--- gives what the terms are. Stack: its stack in the words. Step: one token by its code. Loop: the loop over the tokens.
+-- The laws in the order in which they lean on each other.
+
+-- of the machine: results as words, elements of arrays, what a run gives, the words before the dues, the stack, tokens, what stands off the
+-- stack, one parameter, one step, the loop
 pub mod Results
 pub mod Elements
 pub mod Run
+pub mod Low
 pub mod Stack
+pub mod Here
+pub mod Off
+pub mod Parameter
 pub mod Step
 pub mod Loop
+-- of environments: frozen terms, the nodes of calls, terms as programs of the machine, the arguments of a call
+pub mod Frozen
+pub mod Environment
+pub mod Program
+pub mod Arguments
+-- of open parameters: the chain of calls, one call, the whole chain
+pub mod Chain
+pub mod Revalue
+pub mod Settle
+-- of a call that is entered: the tags of its parameters, its arguments one after the other, its node
+pub mod Tags
+pub mod Filling
+pub mod Enter

@@ -1,3 +1,6 @@
 -- What the contracts of terms cite.
+pub mod Environment
 pub mod Results
 pub mod Machine
+pub mod Parts
+pub mod Calls

@@ -4,18 +4,20 @@ use mathlib.Core.Path.{_≡_}
 use mathlib.Core.Logic.{_⊎_}
 use lib.ListN.{length, getD}
 use lib.Dec.{T}
-use Rattle.specification.specs.Lines.{Declared, cells}
+use Rattle.specification.specs.Lines.{Declared}
 use Rattle.specification.specs.Ast.{Term}
+use Rattle.specification.specs.Fill.{fillTerm}
 use Rattle.specification.specs.Arithmetic.{noValue}
 use Rattle.specification.specs.Place.{Place}
 use Rattle.specification.specs.Value.{Slot, Valuation, Side, val, bare, err, look, side}
-use Rattle.specification.specs.WellFormed.{Scope, OkTerm, Valid}
+use Rattle.specification.specs.WellFormed.{Scope, OkTerm}
 use Rattle.values.specs.Word.{biased}
-use Rattle.tables.specs.Layout.{duesAt, duesEnd, pathAt, maxLocals, maxCells, maxArrays, maxNesting}
+use Rattle.tables.specs.Layout.{duesAt, valuedEnd, maxLocals, maxNesting}
 use Rattle.sheet.specs.Tables.{Words}
-use Rattle.sheet.specs.Held.{TermsAt, height, SlotAt, slotOf, Holds, ArraysAt}
+use Rattle.sheet.specs.Held.{TermsAt, height, SlotAt, slotOf}
 use Rattle.terms.specs.declared.Stack.{Stack}
 use Rattle.terms.specs.declared.Sides.{Sides}
+use Rattle.terms.specs.Environment.{Environment, termsOf, Memory}
 
 -- ---- results
 
@@ -56,35 +58,33 @@ pub record Span : Type 0 where
 abbrev pub span : ℕ → ℕ → Span
 span from to = record { from = from; to = to }
 
--- the terms s and t stand in these tokens, in tables that hold α and the arrays of D
-pub record Given (w : Words) (x : Span) (D : Declared) (α : Valuation) (s t : Term) : Type 0 where
+-- the terms s and t stand in these tokens, in words that hold α, the arrays of D and, from the pointer p on, the environment E
+pub record Given (w : Words) (x : Span) (p : ℕ) (D : Declared) (α : Valuation) (E : Environment) (s t : Term) : Type 0 where
+  pub depth : ℕ
+  pub memory : Memory w depth p D α E
   pub terms : TermsAt w (x .from) (x .to) s t
-  pub holds : Holds w α
-  pub arrays : ArraysAt w D
-  pub valid : Valid D α
-  pub cells : cells D ≤ maxCells
-  pub few : length (D .arrays) ≤ maxArrays
   pub scope : Scope
   pub locals : (l : ℕ) → T (scope l) → l < maxLocals
-  pub left : OkTerm D scope s
-  pub right : OkTerm D scope t
+  pub left : OkTerm D scope (fillTerm (termsOf E) s)
+  pub right : OkTerm D scope (fillTerm (termsOf E) t)
   pub left-low : height s ≤ maxNesting
   pub right-low : height t ≤ maxNesting
-  pub size : pathAt ≤ length w
 
-pub record Asked (w : Words) (from to : ℕ) : Type 0 where
+pub record Asked (w : Words) (from to p : ℕ) : Type 0 where
   pub declared : Declared
   pub valuation : Valuation
+  pub environment : Environment
   pub left : Term
   pub right : Term
-  pub given : Given w (span from to) declared valuation left right
+  pub given : Given w (span from to) p declared valuation environment left right
 
--- all words but those of the stack
+-- all words but those that the valuing of terms may change
 abbrev pub Kept : Words → Words → Type 0
-Kept w w' = (k : ℕ) → (k < duesAt) ⊎ (duesEnd ≤ k) → getD w' k 0 ≡ getD w k 0
+Kept w w' = (k : ℕ) → (k < duesAt) ⊎ (valuedEnd ≤ k) → getD w' k 0 ≡ getD w k 0
 
-pub record Valued (w w' : Words) (from to : ℕ) (r : Sides) : Type 0 where
-  pub sides : (D : Declared) (α : Valuation) (s t : Term) → Given w (span from to) D α s t → r ≡ sidesOf (side D α s) (side D α t)
+pub record Valued (w w' : Words) (from to p : ℕ) (r : Sides) : Type 0 where
+  pub sides : (D : Declared) (α : Valuation) (E : Environment) (s t : Term) → Given w (span from to) p D α E s t →
+      r ≡ sidesOf (side D α (fillTerm (termsOf E) s)) (side D α (fillTerm (termsOf E) t))
   pub kept : Kept w w'
   pub size : length w' ≡ length w
 

@@ -1,4 +1,5 @@
-// Terms over the tables in the work words: the values of two terms, by one loop over their tokens; nothing recurses.
+// Terms over the tables in the work words: the values of terms, by one loop over their tokens, and the arguments of calls; nothing recurses.
+pub mod calls;
 pub mod evaluation;
 pub mod kinds;
 pub mod tags;

@@ -22,7 +22,8 @@ use Rattle.sheet.specs.Tables.{Words}
 use Rattle.sheet.specs.Codes.{opCode}
 use Rattle.terms.specs.declared.Stack.{Stack}
 use Rattle.terms.specs.Results.{tagOf, wordOf, stackOf, errorOf, Raised, Looked}
-use Rattle.terms.specs.Machine.{In32, Calculated, Packs}
+use Rattle.terms.specs.Machine.{In32}
+use Rattle.terms.specs.Parts.{Calculated, Packs}
 
 -- ---- errors of operands
 

@@ -1,80 +1,58 @@
--- `evaluation::sides` meets its contract. The invariant: the stack has the results of the tokens from i on. The measure: the tokens left.
--- Assumes nothing.
-use mathlib.Core.Path.{refl}
-use Prim.Native.Nat.{_-_}
-use Rattle.terms.proofs.Laws.Loop.{Turn, turn-start, turn-steps, turn-next, turn-end}
+-- `evaluation::sides` meets its contract. Assumes nothing.
+use Rattle.terms.proofs.Laws.Program.{asked-settles, asked-passes, passed-both}
 use borrow.Author.Needs.{needs}
 use Rattle.terms.proofs.evaluation.sides.Statement.{statement}
 use Rattle.terms.proofs.evaluation.sides.Tie as tie
 
-abbrev Inv-loop : tie.InvT-loop
-Inv-loop w₀ from to s₀ i₀ w s i = Turn w₀ w from to i s
+settle-requires : tie.Need-settle-requires
+settle-requires c κs =
+    let start = c .before .before in
+    asked-settles (start .pre)
 
-abbrev μ-loop : tie.MeasureT-loop
-μ-loop w₀ from to s₀ i₀ w s i = i - from
+pass-requires : tie.Need-pass-requires
+pass-requires c κs =
+    let at-settle = c .before .before .before in
+    let start = at-settle .before .before .before in
+    asked-passes (at-settle .settle .ensures) (start .pre)
 
-loop-holds : tie.Need-loop-holds Inv-loop μ-loop
-loop-holds c = turn-start _ _ _ _ (c .before .pre) refl
+add-t11 : tie.Need-add-t11
+add-t11 c = search needs
 
-sub-i : tie.Need-sub-i Inv-loop μ-loop
-sub-i c = search needs
+mul-t12 : tie.Need-mul-t12
+mul-t12 c = search needs
 
-step-requires : tie.Need-step-requires Inv-loop μ-loop
-step-requires c κs =
-    let turn = c .before .before in
-    turn-steps (turn .loop .inv) (c .before .loop-test .taken) (turn .before .before .pre)
+slice-read-t14 : tie.Need-slice-read-t14
+slice-read-t14 c = search needs
 
-loop-less : tie.Need-loop-less Inv-loop μ-loop
-loop-less c = search needs
+add-t15 : tie.Need-add-t15
+add-t15 c = search needs
 
-loop-again : tie.Need-loop-again Inv-loop μ-loop
-loop-again c =
-    let step = c .before .before in
-    let turn = step .before .before .before in
-    turn-next (turn .loop .inv) (step .before .before .loop-test .taken) (step .step .ensures) (step .step .kept .0)
+mul-t16 : tie.Need-mul-t16
+mul-t16 c = search needs
 
-add-t9 : tie.Need-add-t9 Inv-loop μ-loop
-add-t9 c = search needs
+slice-read-t18 : tie.Need-slice-read-t18
+slice-read-t18 c = search needs
 
-mul-t10 : tie.Need-mul-t10 Inv-loop μ-loop
-mul-t10 c = search needs
-
-slice-read-t12 : tie.Need-slice-read-t12 Inv-loop μ-loop
-slice-read-t12 c = search needs
-
-add-t13 : tie.Need-add-t13 Inv-loop μ-loop
-add-t13 c = search needs
-
-mul-t14 : tie.Need-mul-t14 Inv-loop μ-loop
-mul-t14 c = search needs
-
-slice-read-t16 : tie.Need-slice-read-t16 Inv-loop μ-loop
-slice-read-t16 c = search needs
-
-same-length : tie.Need-same-length Inv-loop μ-loop
+same-length : tie.Need-same-length
 same-length c = search needs
 
-returns : tie.Need-returns Inv-loop μ-loop
+returns : tie.Need-returns
 returns c =
-    let out = c .before .before in
-    turn-end (out .before .loop .inv) (out .loop-test .left)
+    let at-pass = c .before .before .before .before in
+    let at-settle = at-pass .before .before .before .before in
+    passed-both (at-settle .settle .ensures) (at-pass .pass .ensures)
 
 pub sides-spec : {M : Type 1} → statement M
 sides-spec =
     tie.close
     (tie.spec
-    Inv-loop
-    μ-loop
-    loop-holds
-    sub-i
-    step-requires
-    loop-less
-    loop-again
-    add-t9
-    mul-t10
-    slice-read-t12
-    add-t13
-    mul-t14
-    slice-read-t16
+    settle-requires
+    pass-requires
+    add-t11
+    mul-t12
+    slice-read-t14
+    add-t15
+    mul-t16
+    slice-read-t18
     same-length
     returns)

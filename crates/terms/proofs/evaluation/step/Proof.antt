@@ -2,9 +2,9 @@
 use Prim.Native.Nat.{_+_, _<_}
 use native.Mathlib.Omega.{arith}
 use Rattle.tables.specs.Layout.{cellsAt, localsAt, duesAt, cellSlot, localSlot}
-use Rattle.terms.specs.Machine.{Room}
+use Rattle.terms.specs.Parts.{Room}
 use Rattle.terms.proofs.Laws.Step.{operation-asked, operation-stepped, array-asked, array-stepped, place-asked, place-stepped}
-use Rattle.terms.proofs.Laws.Step.{constant-asked, constant-stepped}
+use Rattle.terms.proofs.Laws.Step.{parameter-asked, parameter-stepped, constant-asked, constant-stepped}
 use borrow.Author.Needs.{needs}
 use Rattle.terms.proofs.evaluation.step.Statement.{statement}
 use Rattle.terms.proofs.evaluation.step.Tie as tie
@@ -19,7 +19,7 @@ at-local c =
     let s = test .before .before .before .before in
     let a = s .args in
     let k = test .if1 .taken in
-    place-asked (a .w .now) (a .s) (a .i) (test .before .code .ensures) (c .operand .ensures) localsAt (omega (arith, k)) (s .pre)
+    place-asked (a .w .now) (a .s) (a .i) (a .env) (test .before .code .ensures) (c .operand .ensures) localsAt (omega (arith, k)) (s .pre)
 
 at-scalar : (c : tie.After-place-arg) →
     let read = c .before .before .before in
@@ -33,7 +33,7 @@ at-scalar c =
     let s = code .before .before .before in
     let a = s .args in
     let k = test .if4 .taken in
-    place-asked (a .w .now) (a .s) (a .i) (code .code .ensures) (read .operand2 .ensures) cellsAt (omega (arith, k)) (s .pre)
+    place-asked (a .w .now) (a .s) (a .i) (a .env) (code .code .ensures) (read .operand2 .ensures) cellsAt (omega (arith, k)) (s .pre)
 
 code-requires : tie.Need-code-requires
 code-requires c κs = search needs
@@ -60,7 +60,7 @@ returns c =
     let test = read .before .before .before in
     let a = test .before .before .before .before .args in
     let k = test .if1 .taken in
-    place-stepped (a .w .now) (a .s) (a .i) (test .before .code .ensures) (read .operand .ensures) localsAt (omega (arith, k))
+    place-stepped (a .w .now) (a .s) (a .i) (a .env) (test .before .code .ensures) (read .operand .ensures) localsAt (omega (arith, k))
     (done .place .ensures)
 
 operation-requires : tie.Need-operation-requires
@@ -69,7 +69,7 @@ operation-requires c κs =
     let read = test .before .before in
     let s = read .before .before .before in
     let a = s .args in
-    operation-asked (a .w .now) (a .s) (a .i) (read .code .ensures) (s .pre) (test .if2 .taken)
+    operation-asked (a .w .now) (a .s) (a .i) (a .env) (read .code .ensures) (s .pre) (test .if2 .taken)
 
 same-length-2 : tie.Need-same-length-2
 same-length-2 c = search needs
@@ -79,7 +79,7 @@ returns-2 c =
     let test = c .before .before in
     let read = test .before .before in
     let a = read .before .before .before .args in
-    operation-stepped (a .w .now) (a .s) (a .i) (read .code .ensures) (test .if2 .taken) (c .operation .ensures)
+    operation-stepped (a .w .now) (a .s) (a .i) (a .env) (read .code .ensures) (test .if2 .taken) (c .operation .ensures)
 
 operand-requires-2 : tie.Need-operand-requires-2
 operand-requires-2 c κs = search needs
@@ -91,7 +91,7 @@ element-requires c κs =
     let code = read .before .before .before .before in
     let s = code .before .before .before in
     let a = s .args in
-    array-asked (a .w .now) (a .s) (a .i) (code .code .ensures) (read .operand2 .ensures) (s .pre) (test .if3 .taken)
+    array-asked (a .w .now) (a .s) (a .i) (a .env) (code .code .ensures) (read .operand2 .ensures) (s .pre) (test .if3 .taken)
 
 same-length-3 : tie.Need-same-length-3
 same-length-3 c = search needs
@@ -102,7 +102,7 @@ returns-3 c =
     let read = test .before in
     let code = read .before .before .before .before in
     let a = code .before .before .before .args in
-    array-stepped (a .w .now) (a .s) (a .i) (code .code .ensures) (read .operand2 .ensures) (test .if3 .taken) (c .element .ensures)
+    array-stepped (a .w .now) (a .s) (a .i) (a .env) (code .code .ensures) (read .operand2 .ensures) (test .if3 .taken) (c .element .ensures)
 
 mul-place-2 : tie.Need-mul-place-2
 mul-place-2 c = omega (arith, at-scalar c .0)
@@ -124,20 +124,17 @@ returns-4 c =
     let code = read .before .before .before .before in
     let a = code .before .before .before .args in
     let k = test .if4 .taken in
-    place-stepped (a .w .now) (a .s) (a .i) (code .code .ensures) (read .operand2 .ensures) cellsAt (omega (arith, k))
+    place-stepped (a .w .now) (a .s) (a .i) (a .env) (code .code .ensures) (read .operand2 .ensures) cellsAt (omega (arith, k))
     (done .place2 .ensures)
 
 constant-requires : tie.Need-constant-requires
 constant-requires c κs =
-    let last = c .before in
-    let array = last .before in
-    let read = array .before in
-    let low = read .before .before in
-    let code = low .before .before in
+    let test = c .before in
+    let read = test .before .before .before in
+    let code = read .before .before .before .before in
     let s = code .before .before .before in
     let a = s .args in
-    constant-asked (a .w .now) (a .s) (a .i) (code .code .ensures) (read .operand2 .ensures) (low .if2 .left) (last .if4 .left)
-    (low .before .if1 .left) (array .if3 .left) (s .pre)
+    constant-asked (a .w .now) (a .s) (a .i) (a .env) (code .code .ensures) (read .operand2 .ensures) (s .pre) (test .if5 .taken)
 
 same-length-5 : tie.Need-same-length-5
 same-length-5 c = search needs
@@ -145,14 +142,41 @@ same-length-5 c = search needs
 returns-5 : tie.Need-returns-5
 returns-5 c =
     let done = c .before .before in
+    let test = done .before .before in
+    let read = test .before .before .before in
+    let code = read .before .before .before .before in
+    let a = code .before .before .before .args in
+    constant-stepped (a .w .now) (a .s) (a .i) (a .env) (code .code .ensures) (read .operand2 .ensures) (test .if5 .taken)
+    (done .constant .ensures)
+
+parameter-requires : tie.Need-parameter-requires
+parameter-requires c κs =
+    let last = c .before in
+    let scalar = last .before in
+    let array = scalar .before in
+    let read = array .before in
+    let low = read .before .before in
+    let code = low .before .before in
+    let s = code .before .before .before in
+    let a = s .args in
+    parameter-asked (a .w .now) (a .s) (a .i) (a .env) (code .code .ensures) (read .operand2 .ensures) (low .if2 .left) (scalar .if4 .left)
+    (low .before .if1 .left) (array .if3 .left) (last .if5 .left) (s .pre)
+
+same-length-6 : tie.Need-same-length-6
+same-length-6 c = search needs
+
+returns-6 : tie.Need-returns-6
+returns-6 c =
+    let done = c .before .before in
     let last = done .before .before in
-    let array = last .before in
+    let scalar = last .before in
+    let array = scalar .before in
     let read = array .before in
     let low = read .before .before in
     let code = low .before .before in
     let a = code .before .before .before .args in
-    constant-stepped (a .w .now) (a .s) (a .i) (code .code .ensures) (read .operand2 .ensures) (low .if2 .left) (last .if4 .left)
-    (low .before .if1 .left) (array .if3 .left) (done .constant .ensures)
+    parameter-stepped (a .w .now) (a .s) (a .i) (a .env) (code .code .ensures) (read .operand2 .ensures) (low .if2 .left) (scalar .if4 .left)
+    (low .before .if1 .left) (array .if3 .left) (last .if5 .left) (done .parameter .ensures)
 
 pub step-spec : {M : Type 1} → statement M
 step-spec =
@@ -179,4 +203,7 @@ step-spec =
     returns-4
     constant-requires
     same-length-5
-    returns-5)
+    returns-5
+    parameter-requires
+    same-length-6
+    returns-6)
