@@ -10,6 +10,7 @@ use Rattle.values.proofs.Laws.Word.{signed-add}
 use Rattle.sheet.specs.Tables.{Words}
 use Rattle.tables.specs.Layout.{nodeEnd}
 use Rattle.tables.specs.Node.{headAt, currentAt, lastAt}
+use Rattle.terms.proofs.Laws.Here.{code-here}
 use Rattle.walker.specs.declared.Regs.{Regs}
 use Rattle.walker.specs.Frame.{treeItems}
 use Rattle.walker.specs.Site.{roundsAt}
@@ -18,7 +19,6 @@ use Rattle.walker.specs.Stands.{LeftAfter}
 use Rattle.walker.specs.Sim.{In}
 use Rattle.walker.specs.Steps.{Visited, GoesOn, Rounds}
 use Rattle.walker.specs.States.{againJob}
-use Rattle.walker.proofs.Here.{code-here}
 use Rattle.walker.proofs.Heads.{at-again, again-tree}
 
 module _ {w : Words} {r : Regs} (x : Visited w r) (j : r .due .job ≡ againJob) where
@@ -61,6 +61,7 @@ module _ {w : Words} {r : Regs} (x : Visited w r) (j : r .due .job ≡ againJob)
           let differ : ¬ (current ≡ last) = n in
           let more : a .m ≡ suc (last - (current + 1)) = q .count ∙ omega arith in
           let next : signed (current + 1) ≡ a .v = sym (signed-add current 1) ∙ sym (q .lowest) in (
+            a .E,
             a .l,
             a .F,
             last - (current + 1),
@@ -70,6 +71,7 @@ module _ {w : Words} {r : Regs} (x : Visited w r) (j : r .due .job ≡ againJob)
             rw eh (a .binds),
             record { fits = q .fits; order = omega arith; count = refl; lowest = ap (_+ℤ pos 1) (sym next) },
             next,
+            a .env,
             a .rest,
           );
     }

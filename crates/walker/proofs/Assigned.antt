@@ -17,7 +17,7 @@ use Rattle.walker.specs.Site.{afterGiven}
 use Rattle.walker.specs.Path.{World}
 use Rattle.walker.specs.Sim.{In, Down}
 use Rattle.walker.specs.Steps.{Leads, Listed, GoesOn, OneLeaf, Assigns, Tested}
-use Rattle.walker.specs.Registers.{dueOf, dueRegs}
+use Rattle.walker.specs.Registers.{bareDue, dueRegs}
 use Rattle.walker.specs.Binding.{Alters}
 use Rattle.walker.specs.States.{failureJob, undoTodo}
 use Rattle.walker.proofs.Slots.{in-table as slot-within}
@@ -30,7 +30,7 @@ use Rattle.walker.proofs.Onto.{down-given}
 pub test-true : {w : Words} {r : Regs} {b : Bool} → Tested w r b → b ≡ true → GoesOn w r
 test-true x e = record { at = x .at; son = λ c o i. let q = x .son c o i in (q .0, q .1 ∙ rw e, q .2) }
 
-pub test-false : {w : Words} {r : Regs} {b : Bool} → Tested w r b → b ≡ false → OneLeaf w r (dueOf failureJob 0 0)
+pub test-false : {w : Words} {r : Regs} {b : Bool} → Tested w r b → b ≡ false → OneLeaf w r (bareDue failureJob)
 test-false x e = record { at = x .at; son = λ c o i. let q = x .son c o i in (frames.failure, q .1 ∙ rw e, refl, omega arith) }
 
 -- ---- an assignment
@@ -41,6 +41,7 @@ assignNode w r slot = record {
   head = r .due .head;
   rest = r .due .rest;
   todo = undoTodo;
+  env = r .due .env;
   slot = slot;
   had = 0;
   old = getD w (slot + 1) 0;

@@ -25,7 +25,8 @@ use Rattle.listing.specs.Block as blocks
 use Rattle.walker.specs.declared.Regs.{Regs}
 use Rattle.walker.specs.declared.Task.{Task}
 use Rattle.walker.specs.Walk as walks
-use Rattle.walker.specs.Path.{World, conditionsOf, Output, Count as Counted}
+use Rattle.walker.specs.Path.{World, conditionsOf}
+use Rattle.walker.specs.Made.{Output, Count as Counted}
 use Rattle.walker.specs.Sim.{no, Up, BlockOf, Leaf, Over, over, up}
 use Rattle.walker.specs.Registers.{leafRegs, stopRegs, counted}
 use Rattle.walker.specs.Loop.{Fixed, BlockDue, Blocked}
@@ -213,7 +214,7 @@ module _ {w : Words} {o : Bytes} {r : Regs} {t : Task} (a : BlockDue w o r t) wh
         blocks.Listed w (t .scalars) (t .arrays) (headDue r) (midOf (r .written) (length o - r .written) o) ys Full →
         Blocked w o (putMid (r .written) (length o - r .written) o ys) r q t
     blocked-full e p = rw e (record {
-      sim = λ c f l. over refl (lacks l (omega (arith, h, ap (λ (s : Setting). s .skip) (f .setting))) (p (c .declared) (l .α) (shows l f)));
+      sim = λ c f l. over (omega arith) (lacks l (omega (arith, h, ap (λ (s : Setting). s .skip) (f .setting))) (p (c .declared) (l .α) (shows l f)));
       nodes = refl;
       falls = omega arith;
       modes = omega arith;

@@ -4,6 +4,7 @@ use native.Mathlib.Omega.{arith}
 use mathlib.Core.Path.{_≡_, refl, _∙_}
 use lib.IntN.{pos, _+ℤ_}
 use Rattle.specification.specs.Ast.{some, all}
+use Rattle.specification.specs.Fill.{fill}
 use Rattle.specification.specs.Place.{local, put}
 use Rattle.specification.specs.Value.{full}
 use Rattle.specification.specs.Tree.{sons}
@@ -17,7 +18,7 @@ use Rattle.walker.specs.Frame.{treeItems}
 use Rattle.walker.specs.Site.{boundSite, roundsAt, growAt}
 use Rattle.walker.specs.Stands.{bodyOf}
 use Rattle.walker.specs.Steps.{Entered, GoesOn, OneLeaf, Opens, Rounds}
-use Rattle.walker.specs.Registers.{dueOf}
+use Rattle.walker.specs.Registers.{bareDue}
 use Rattle.walker.specs.States.{failureJob}
 use Rattle.walker.proofs.Heads.{head-code, visited-spare, entered-spare}
 use Rattle.walker.proofs.Sided.{Terms, Errs}
@@ -26,11 +27,12 @@ use Rattle.walker.proofs.Ranged.{Quantifier, range-terms, range-errs, v
 -- ---- `some`
 
 unfoldable pub some-quantifier : Quantifier someCode
-unfolding growAt
+unfolding growAt fill
 some-quantifier = record {
   make = some;
   over = λ D l F k x n s β. sons x n (λ i. growAt D F k (boundSite l s) (put β (local l) (full (x +ℤ pos i))));
-  says = λ D t h F q. q;
+  says = λ D t E h F q. q;
+  fills = λ ts tok l a b F. refl;
   grows = λ D tok l a b F k s α. refl;
 }
 
@@ -41,10 +43,10 @@ pub some-errs : {w : Words} {r : Regs} (x : Entered w r someCode) → Errs w r (
 some-errs x = range-errs some-quantifier x
 
 module _
-    {w w' : Words} {r : Regs} {s : Sides} (x : Entered w r someCode) (v : Valued w w' (r .due .head + 2) (bodyOf w (r .due .head)) s) (l : s .ltag ≡ valueTag)
+    {w w' : Words} {r : Regs} {s : Sides} (x : Entered w r someCode) (v : Valued w w' (r .due .head + 2) (bodyOf w (r .due .head)) (r .due .env) s) (l : s .ltag ≡ valueTag)
     (h : s .rtag ≡ valueTag) where
   -- no value: a failure leaf
-  pub some-none : s .right < s .left → OneLeaf w' r (dueOf failureJob 0 0)
+  pub some-none : s .right < s .left → OneLeaf w' r (bareDue failureJob)
   unfolding sons some-quantifier
   some-none less = record {
     at = visited-spare w w' (v .kept) (v .size) (x .at);
@@ -63,11 +65,12 @@ module _
 -- ---- `all`
 
 unfoldable pub all-quantifier : Quantifier allCode
-unfolding growAt
+unfolding growAt fill
 all-quantifier = record {
   make = all;
   over = λ D l F k x n s. roundsAt (λ k′ t β. growAt D F k′ t β) l k n x s;
-  says = λ D t h F q. q;
+  says = λ D t E h F q. q;
+  fills = λ ts tok l a b F. refl;
   grows = λ D tok l a b F k s α. refl;
 }
 
@@ -78,7 +81,7 @@ pub all-errs : {w : Words} {r : Regs} (x : Entered w r allCode) → Errs w r (r 
 all-errs x = range-errs all-quantifier x
 
 module _
-    {w w' : Words} {r : Regs} {s : Sides} (x : Entered w r allCode) (v : Valued w w' (r .due .head + 2) (bodyOf w (r .due .head)) s) (l : s .ltag ≡ valueTag)
+    {w w' : Words} {r : Regs} {s : Sides} (x : Entered w r allCode) (v : Valued w w' (r .due .head + 2) (bodyOf w (r .due .head)) (r .due .env) s) (l : s .ltag ≡ valueTag)
     (h : s .rtag ≡ valueTag) where
   -- no value: go on
   pub all-none : s .right < s .left → GoesOn w' r

@@ -7,6 +7,7 @@ use mathlib.Core.Bool.{Bool, not}
 use lib.Dec.{leb, ltb, eqb}
 use Rattle.specification.specs.Bytes.{Bytes}
 use Rattle.specification.specs.Ast.{ne, lt, le, gt, ge}
+use Rattle.specification.specs.Fill.{fill}
 use Rattle.specification.specs.Arithmetic.{test}
 use Rattle.specification.specs.Value.{pairOf}
 use Rattle.specification.specs.Tree.{compared}
@@ -17,13 +18,13 @@ use Rattle.sheet.specs.Tables.{Words}
 use Rattle.sheet.specs.Held.{endAt}
 use Rattle.terms.specs.declared.Sides.{Sides}
 use Rattle.terms.specs.Results.{Valued, valueTag}
+use Rattle.terms.proofs.Laws.Here.{end-here}
 use Rattle.walker.specs.declared.Regs.{Regs}
 use Rattle.walker.specs.Site.{growAt}
 use Rattle.walker.specs.Path.{World}
 use Rattle.walker.specs.Sim.{In}
 use Rattle.walker.specs.Steps.{Entered, Tested, Compares}
 use Rattle.walker.proofs.Keep.{pend-keep}
-use Rattle.walker.proofs.Here.{end-here}
 use Rattle.walker.proofs.Under.{Compared}
 use Rattle.walker.proofs.Inverse.{says-compared}
 use Rattle.walker.proofs.Heads.{at-form, form-tree, in-spare, visited-spare}
@@ -32,7 +33,8 @@ use Rattle.walker.proofs.Sided.{Terms, Errs, back, left-value, right-va
 -- ---- the atoms that compare
 
 module _ {n : ℕ} {w : Words} {r : Regs} (x : Entered w r n) (low : neCode ≤ n) (high : n ≤ geCode) where
-  abbrev pub comparing : (c : World) (o : Bytes) (i : In c o w r) → Compared (c .declared) (c .tables) (r .due .head) n (at-form i (x .formula) (x .code) .F)
+  abbrev pub comparing : (c : World) (o : Bytes) (i : In c o w r) →
+      let a = at-form i (x .formula) (x .code) in Compared (c .declared) (c .tables) (a .E) (r .due .head) n (a .F)
   comparing c o i = let a = at-form i (x .formula) (x .code) in says-compared (a .stands) (a .code) low high
 
   unfoldable pub compare-terms : Terms w r (r .due .head + 1) (endAt w (r .due .head))
@@ -41,16 +43,22 @@ module _ {n : ℕ} {w : Words} {r : Regs} (x : Entered w r n) (low : neCode ≤ 
     both = λ c o i.
         let a = at-form i (x .formula) (x .code) in
         let b = comparing c o i .2 in
-        (b .left, b .right, rw (add-one (r .due .head), end-here (c .tables) w (i .path .tokens) (a .small)) (b .terms));
+        record {
+          E = a .E;
+          left = b .left;
+          right = b .right;
+          terms = rw (add-one (r .due .head), end-here (c .tables) w (i .path .tokens) (a .small)) (b .terms);
+          env = a .env;
+        };
   }
 
   pub compare-errs : Errs w r (r .due .head + 1) (endAt w (r .due .head)) compare-terms
-  unfolding compare-terms growAt compared
+  unfolding compare-terms growAt compared fill
   compare-errs c o i κ e = let a = at-form i (x .formula) (x .code) in form-tree i a ∙ rw (comparing c o i .2 .is, e)
 
-  pub compare-tested : {w' : Words} {s : Sides} (v : Valued w w' (r .due .head + 1) (endAt w (r .due .head)) s) → s .ltag ≡ valueTag → s .rtag ≡ valueTag →
+  pub compare-tested : {w' : Words} {s : Sides} (v : Valued w w' (r .due .head + 1) (endAt w (r .due .head)) (r .due .env) s) → s .ltag ≡ valueTag → s .rtag ≡ valueTag →
       (b : Bool) → Compares n (s .left) (s .right) b → Tested w' r b
-  unfolding compare-terms back in-spare growAt compared pairOf
+  unfolding compare-terms back in-spare growAt compared pairOf fill
   compare-tested {w'} {s} v l h b k = record {
     at = visited-spare w w' (v .kept) (v .size) (x .at);
     son = λ c o i.
@@ -62,7 +70,7 @@ module _ {n : ℕ} {w : Words} {r : Regs} (x : Entered w r n) (low : neCode ≤ 
         let holds : b ≡ test rel (p .z) (q .z) = k rel code ∙ rw (left-signed compare-terms v l c o i, right-signed compare-terms v h c o i) in (
           a .is,
           form-tree j a ∙ rw (t .is, p .is, q .is, holds),
-          pend-keep c w w' (r .depth) (r .due .rest) (a .is) (spare-kept w w' (v .kept) (v .size) (r .depth) .nodes) (a .rest),
+          pend-keep c w w' (r .depth) (r .due .rest) (a .is) (spare-kept w w' (v .kept) (v .size) (r .depth)) (a .rest),
         );
   }
 

@@ -8,6 +8,7 @@ use lib.Dec.{T, eqb}
 use Rattle.specification.specs.Bytes.{Bytes}
 use Rattle.specification.specs.Lines.{Declared, cells}
 use Rattle.specification.specs.Ast.{Term}
+use Rattle.specification.specs.Fill.{fillTerm, fill}
 use Rattle.specification.specs.Arithmetic.{eqZ, noValue}
 use Rattle.specification.specs.Place.{Place, cell, local, put}
 use Rattle.specification.specs.Value.{full, Valuation, Side, val, bare, err, side}
@@ -23,7 +24,9 @@ use Rattle.tables.proofs.Laws.Kept.{spare-kept}
 use Rattle.sheet.specs.Tables.{Words}
 use Rattle.sheet.specs.Held.{endAt}
 use Rattle.terms.specs.declared.Sides.{Sides}
+use Rattle.terms.specs.Environment.{termsOf}
 use Rattle.terms.specs.Results.{tagOf, wordOf, Valued, valueTag, bareTag, errorTag}
+use Rattle.terms.proofs.Laws.Here.{end-here}
 use Rattle.walker.specs.declared.Regs.{Regs}
 use Rattle.walker.specs.Frame as frames
 use Rattle.walker.specs.Frame.{Item, treeItems, siteIn}
@@ -33,7 +36,6 @@ use Rattle.walker.specs.Sim.{tree, In}
 use Rattle.walker.specs.Steps.{Visited, Entered, OneLeaf, Assigns, Tested}
 use Rattle.walker.specs.Registers.{errorDue}
 use Rattle.walker.proofs.Keep.{pend-keep}
-use Rattle.walker.proofs.Here.{end-here}
 use Rattle.walker.proofs.Heads.{at-form, form-tree, in-spare, visited-spare}
 use Rattle.walker.proofs.Sided.{Terms, Has, Bare, back, forth, left-side, right-side, ltag-is, left-is, rtag-is, right-is, left-place, right-place, left-value, right-value, left-signed, right-signed}
 
@@ -49,10 +51,16 @@ module _ {w : Words} {r : Regs} (x : Entered w r eqCode) where
     both = λ c o i.
         let a = at-form i (x .formula) (x .code) in
         let b = a .under in
-        (b .left, b .right, rw (add-one (r .due .head), end-here (c .tables) w (i .path .tokens) (a .small)) (b .terms));
+        record {
+          E = a .E;
+          left = b .left;
+          right = b .right;
+          terms = rw (add-one (r .due .head), end-here (c .tables) w (i .path .tokens) (a .small)) (b .terms);
+          env = a .env;
+        };
   }
 
-  module _ {w' : Words} {s : Sides} (v : Valued w w' (r .due .head + 1) (endAt w (r .due .head)) s) where
+  module _ {w' : Words} {s : Sides} (v : Valued w w' (r .due .head + 1) (endAt w (r .due .head)) (r .due .env) s) where
     abbrev lefts : (c : World) (o : Bytes) → In c o w' r → Side
     lefts c o i = left-side eq-terms v c o i
 
@@ -66,7 +74,7 @@ module _ {w : Words} {r : Regs} (x : Entered w r eqCode) where
     equated : (c : World) (o : Bytes) (i : In c o w' r) →
         tree c (i .fr) (i .x) (i .α) ≡
         step (equateAt (r .due .head) (lefts c o i) (rights c o i) (λ t β. treeItems (c .declared) (items c o i) t β) (siteIn (i .fr)) (i .α))
-    unfolding eq-terms back in-spare growAt
+    unfolding eq-terms back in-spare growAt fill
     equated c o i =
         let j = back eq-terms v i in
         let a = at-form j (x .formula) (x .code) in
@@ -78,7 +86,7 @@ module _ {w : Words} {r : Regs} (x : Entered w r eqCode) where
     rests : (c : World) (o : Bytes) (i : In c o w' r) → Pend c w' (r .depth) (r .due .rest) (items c o i)
     rests c o i =
         let a = at-form (back eq-terms v i) (x .formula) (x .code) in
-        pend-keep c w w' (r .depth) (r .due .rest) (a .is) (spare-kept w w' (v .kept) (v .size) (r .depth) .nodes) (a .rest)
+        pend-keep c w w' (r .depth) (r .due .rest) (a .is) (spare-kept w w' (v .kept) (v .size) (r .depth)) (a .rest)
 
     -- an error leaf by the two sides
     leaf-by : (k : ℕ) →
@@ -164,19 +172,23 @@ module _ {w : Words} {r : Regs} (x : Entered w r eqCode) where
     unfolding equateAt
     eq-assign-left e f =
         assigns (s .left) (s .right) (λ c o i.
-        let (one, other, t) = eq-terms .both c o (back eq-terms v i) in
+        let q = eq-terms .both c o (back eq-terms v i) in
+        let ts = termsOf (q .E) in
+        let t = q .terms in
         let p = left-place eq-terms v e c o i in
-        let q = right-value eq-terms v f c o i in
-        (t .scope, t .locals, one, t .left, other, t .right, p, q, λ rest u. rw (p .is, q .is)))
+        let h = right-value eq-terms v f c o i in
+        (t .scope, t .locals, fillTerm ts (q .left), t .left, fillTerm ts (q .right), t .right, p, h, λ rest u. rw (p .is, h .is)))
 
     pub eq-assign-right : s .ltag ≡ valueTag → s .rtag ≡ bareTag → Assigns w' r (s .right) (s .left)
     unfolding equateAt
     eq-assign-right e f =
         assigns (s .right) (s .left) (λ c o i.
-        let (other, one, t) = eq-terms .both c o (back eq-terms v i) in
+        let q = eq-terms .both c o (back eq-terms v i) in
+        let ts = termsOf (q .E) in
+        let t = q .terms in
         let p = right-place eq-terms v f c o i in
-        let q = left-value eq-terms v e c o i in
-        (t .scope, t .locals, one, t .right, other, t .left, p, q, λ rest u. rw (p .is, q .is)))
+        let h = left-value eq-terms v e c o i in
+        (t .scope, t .locals, fillTerm ts (q .right), t .right, fillTerm ts (q .left), t .left, p, h, λ rest u. rw (p .is, h .is)))
 
     -- two values
     pub eq-tested : s .ltag ≡ valueTag → s .rtag ≡ valueTag → Tested w' r (eqb (s .left) (s .right))

@@ -7,15 +7,18 @@ use lib.Dec.{T, eqb}
 use borrow.Author.Tests.{eqb-true, ne-eqb}
 use Rattle.specification.specs.Bytes.{pick}
 use Rattle.specification.specs.Lines.{Declared}
-use Rattle.specification.specs.Ast.{Rel, ne, lt, le, gt, ge, Term, Formula, truth, and, or, imp, neg, eq, compare, ex, some, all}
+use Rattle.specification.specs.Ast.{Rel, ne, lt, le, gt, ge, Term, Formula, truth, and, or, imp, neg, eq, compare, ex, some, all, call}
+use Rattle.specification.specs.Fill.{fillTerm, fill}
 use Rattle.specification.specs.WellFormed.{Scope, enter, OkTerm, Ok}
 use Rattle.tables.specs.Layout.{maxLocals, maxNesting}
-use Rattle.tables.specs.Codes.{firstFormula, allCode, trueCode, andCode, orCode, impCode, notCode, eqCode, exCode, someCode, neCode, geCode}
+use Rattle.tables.specs.Codes.{firstFormula, allCode, trueCode, andCode, orCode, impCode, notCode, eqCode, exCode, someCode, callCode, neCode, geCode}
 use Rattle.sheet.specs.Tables.{Words}
 use Rattle.sheet.specs.Codes.{relCode}
 use Rattle.sheet.specs.Held.{codeAt, endAt, TermsAt, LocalAt, FormulaAt, height, Shallow}
-use Rattle.walker.specs.Stands.{Good, Stands, bodyOf}
-use Rattle.walker.proofs.Here.{term-ends, formula-ends}
+use Rattle.terms.specs.Environment.{Environment, termsOf, numberOf}
+use Rattle.terms.proofs.Laws.Here.{term-ends}
+use Rattle.walker.specs.Stands.{filled, Good, Stands, bodyOf}
+use Rattle.walker.proofs.Here.{formula-ends}
 use Rattle.walker.proofs.Under.{TermsIn, Both, Atom, Ranges, Compared, Says}
 
 -- ---- the scope under a binder
@@ -28,25 +31,27 @@ enter-locals S l f h j q = go (eqb j l) refl q
     go true e x = let z : j ≡ l = eqb-true j l e in omega arith
     go false e x = f j x
 
-module _ {D : Declared} where
+module _ {D : Declared} {E : Environment} where
   -- a part in the same scope, or in that of a binder
-  same-scope : {F : Formula} (g : Good D F) (G : Formula) → Ok D (g .scope) G → Shallow G → Good D G
+  same-scope : {F : Formula} (g : Good D E F) (G : Formula) → Ok D (g .scope) (filled E G) → Shallow (numberOf E) G → Good D E G
   same-scope g G o s = record { scope = g .scope; locals = g .locals; ok = o; shallow = s }
 
-  in-scope : {F : Formula} (g : Good D F) (l : ℕ) (G : Formula) → l < maxLocals → Ok D (enter (g .scope) l) G → Shallow G → Good D G
+  in-scope : {F : Formula} (g : Good D E F) (l : ℕ) (G : Formula) → l < maxLocals → Ok D (enter (g .scope) l) (filled E G) →
+      Shallow (numberOf E) G → Good D E G
   in-scope g l G h o s =
       record { scope = enter (g .scope) l; locals = enter-locals (g .scope) l (g .locals) h; ok = o; shallow = s }
 
 -- ---- the inversion
 
-terms-in : {D : Declared} {t : Words} {F : Formula} (g : Good D F) (i e : ℕ) (x y : Term) → TermsAt t i e x y → OkTerm D (g .scope) x →
-    OkTerm D (g .scope) y → height x ≤ maxNesting → height y ≤ maxNesting → TermsIn D t i e x y
+terms-in : {D : Declared} {t : Words} {E : Environment} {F : Formula} (g : Good D E F) (i e : ℕ) (x y : Term) → TermsAt t i e x y →
+    OkTerm D (g .scope) (fillTerm (termsOf E) x) → OkTerm D (g .scope) (fillTerm (termsOf E) y) → height x ≤ maxNesting → height y ≤ maxNesting →
+    TermsIn D t E i e x y
 terms-in g i e x y q ox oy hx hy =
     record { terms = q; scope = g .scope; locals = g .locals; left = ox; right = oy; left-low = hx; right-low = hy }
 
-module _ {D : Declared} {t : Words} {h : ℕ} where
+module _ {D : Declared} {t : Words} {E : Environment} {h : ℕ} where
   both : (make : Formula → Formula → Formula) (A B F : Formula) → F ≡ make A B → FormulaAt t (suc h) A → FormulaAt t (endAt t (suc h)) B →
-      Good D A → Good D B → Both D t h make F
+      Good D E A → Good D E B → Both D t E h make F
   both make A B F e a b ga gb =
       let ea = formula-ends t (suc h) A a in
       let eb = formula-ends t (endAt t (suc h)) B b in
@@ -60,13 +65,13 @@ module _ {D : Declared} {t : Words} {h : ℕ} where
         far = omega (arith, eb .after, eb .inside);
       }
 
-  atom : (make : Term → Term → Formula) (x y : Term) (F : Formula) → F ≡ make x y → TermsIn D t (suc h) (endAt t h) x y → Atom D t h make F
+  atom : (make : Term → Term → Formula) (x y : Term) (F : Formula) → F ≡ make x y → TermsIn D t E (suc h) (endAt t h) x y → Atom D t E h make F
   atom make x y F e q =
       let z = term-ends t (suc h) x (q .terms .0) in
       record { left = x; right = y; is = e; terms = q; near = omega (arith, z .after, z .inside) }
 
   ranges : (make : ℕ → Term → Term → Formula → Formula) (l : ℕ) (a b : Term) (A F : Formula) → F ≡ make l a b A → LocalAt t (suc h) l → l < maxLocals →
-      TermsIn D t (suc (suc h)) (bodyOf t h) a b → Stands D t (bodyOf t h) A → Ranges D t h make F
+      TermsIn D t E (suc (suc h)) (bodyOf t h) a b → Stands D t E (bodyOf t h) A → Ranges D t E h make F
   ranges make l a b A F e q s ts f =
       let z = term-ends t (suc (suc h)) a (ts .terms .0) in
       let y = term-ends t (endAt t (suc (suc h))) b (ts .terms .1) in
@@ -88,15 +93,15 @@ module _ {D : Declared} {t : Words} {h : ℕ} where
         terms = ts;
       }
 
-  says-rel : (r : Rel) (F : Formula) → Atom D t h (compare h r) F → Says D t h (relCode r) F
+  says-rel : (r : Rel) (F : Formula) → Atom D t E h (compare h r) F → Says D t E h (relCode r) F
   says-rel ne F a = (ne, refl, a)
   says-rel lt F a = (lt, refl, a)
   says-rel le F a = (le, refl, a)
   says-rel gt F a = (gt, refl, a)
   says-rel ge F a = (ge, refl, a)
 
-  code-says : (F : Formula) → Stands D t h F → Says D t h (codeAt t h) F
-  unfolding Ok
+  code-says : (F : Formula) → Stands D t E h F → Says D t E h (codeAt t h) F
+  unfolding Ok fill
   code-says truth s = rw (s .held .code) refl
   code-says (and A B) s =
       let g = s .good in
@@ -128,7 +133,7 @@ module _ {D : Declared} {t : Words} {h : ℕ} where
       (terms-in g (suc h) (endAt t h) x y (s .held .2) (g .ok .0) (g .ok .1) (g .shallow .0) (g .shallow .1)))
   code-says (compare n r x y) s =
       let g = s .good in
-      subst (λ k. Says D t h k (compare n r x y)) (sym (s .held .0 .code))
+      subst (λ k. Says D t E h k (compare n r x y)) (sym (s .held .0 .code))
       (says-rel r (compare n r x y)
       (atom (compare h r) x y (compare n r x y) (ap (λ k. compare k r x y) (s .held .1))
       (terms-in g (suc h) (endAt t h) x y (s .held .2) (g .ok .0) (g .ok .1) (g .shallow .0) (g .shallow .1))))
@@ -157,13 +162,27 @@ module _ {D : Declared} {t : Words} {h : ℕ} where
       (ranges (all h) l a b A (all n l a b A) (ap (λ k. all k l a b A) (s .held .1)) (s .held .2) (g .shallow .2)
       (terms-in g (suc (suc h)) (bodyOf t h) a b (s .held .3) (g .ok .0) (g .ok .1) (g .shallow .0) (g .shallow .1))
       (record { held = s .held .4; good = in-scope g l A (g .shallow .2) (g .ok .4) (g .shallow .3) }))
+  code-says (call K ts A) s =
+      let g = s .good in
+      rw (s .held .0 .code)
+      (record {
+        number = K;
+        terms = ts;
+        body = A;
+        is = refl;
+        held = record { token = s .held .1; number = s .held .2; arguments = s .held .3 };
+        arguments = record { few = g .shallow .1; low = g .shallow .2; scope = g .scope; locals = g .locals; ok = g .ok .1 };
+        earlier = g .shallow .0;
+        called = g .ok .0;
+        ok = g .ok .2;
+      })
 
   -- the law for a code that is known
-  pub says : {F : Formula} {n : ℕ} → Stands D t h F → codeAt t h ≡ n → Says D t h n F
-  says {F} s e = subst (λ k. Says D t h k F) e (code-says F s)
+  pub says : {F : Formula} {n : ℕ} → Stands D t E h F → codeAt t h ≡ n → Says D t E h n F
+  says {F} s e = subst (λ k. Says D t E h k F) e (code-says F s)
 
   -- and for an atom that compares
-  pub says-compared : {F : Formula} {n : ℕ} → Stands D t h F → codeAt t h ≡ n → neCode ≤ n → n ≤ geCode → Compared D t h n F
+  pub says-compared : {F : Formula} {n : ℕ} → Stands D t E h F → codeAt t h ≡ n → neCode ≤ n → n ≤ geCode → Compared D t E h n F
   says-compared {F} {n} s e a b =
       rw (
         ne-eqb n trueCode (λ x. omega arith),
@@ -175,6 +194,7 @@ module _ {D : Declared} {t : Words} {h : ℕ} where
         ne-eqb n exCode (λ x. omega arith),
         ne-eqb n someCode (λ x. omega arith),
         ne-eqb n allCode (λ x. omega arith),
+        ne-eqb n callCode (λ x. omega arith),
       ) at (says s e)
 
 -- ---- no other codes
@@ -186,15 +206,17 @@ rel-code le = (omega arith, omega arith)
 rel-code gt = (omega arith, omega arith)
 rel-code ge = (omega arith, omega arith)
 
-pub code-range : (D : Declared) (t : Words) (h : ℕ) (F : Formula) → Stands D t h F → (firstFormula ≤ codeAt t h) × (codeAt t h ≤ allCode)
-code-range D t h truth s = (omega (arith, s .held .code), omega (arith, s .held .code))
-code-range D t h (and A B) s = (omega (arith, s .held .0 .code), omega (arith, s .held .0 .code))
-code-range D t h (or A B) s = (omega (arith, s .held .0 .code), omega (arith, s .held .0 .code))
-code-range D t h (imp n A B) s = (omega (arith, s .held .0 .code), omega (arith, s .held .0 .code))
-code-range D t h (neg n A) s = (omega (arith, s .held .0 .code), omega (arith, s .held .0 .code))
-code-range D t h (eq n x y) s = (omega (arith, s .held .0 .code), omega (arith, s .held .0 .code))
-code-range D t h (compare n r x y) s =
+pub code-range : (D : Declared) (t : Words) (E : Environment) (h : ℕ) (F : Formula) → Stands D t E h F →
+    (firstFormula ≤ codeAt t h) × (codeAt t h ≤ callCode)
+code-range D t E h truth s = (omega (arith, s .held .code), omega (arith, s .held .code))
+code-range D t E h (and A B) s = (omega (arith, s .held .0 .code), omega (arith, s .held .0 .code))
+code-range D t E h (or A B) s = (omega (arith, s .held .0 .code), omega (arith, s .held .0 .code))
+code-range D t E h (imp n A B) s = (omega (arith, s .held .0 .code), omega (arith, s .held .0 .code))
+code-range D t E h (neg n A) s = (omega (arith, s .held .0 .code), omega (arith, s .held .0 .code))
+code-range D t E h (eq n x y) s = (omega (arith, s .held .0 .code), omega (arith, s .held .0 .code))
+code-range D t E h (compare n r x y) s =
     let z = rel-code r in (omega (arith, s .held .0 .code, z .0), omega (arith, s .held .0 .code, z .1))
-code-range D t h (ex l A) s = (omega (arith, s .held .0 .code), omega (arith, s .held .0 .code))
-code-range D t h (some n l a b A) s = (omega (arith, s .held .0 .code), omega (arith, s .held .0 .code))
-code-range D t h (all n l a b A) s = (omega (arith, s .held .0 .code), omega (arith, s .held .0 .code))
+code-range D t E h (ex l A) s = (omega (arith, s .held .0 .code), omega (arith, s .held .0 .code))
+code-range D t E h (some n l a b A) s = (omega (arith, s .held .0 .code), omega (arith, s .held .0 .code))
+code-range D t E h (all n l a b A) s = (omega (arith, s .held .0 .code), omega (arith, s .held .0 .code))
+code-range D t E h (call K ts A) s = (omega (arith, s .held .0 .code), omega (arith, s .held .0 .code))

@@ -14,6 +14,7 @@ use Rattle.specification.specs.Run.{addFail, arrive}
 use Rattle.specification.specs.Ast.{Formula}
 use Rattle.tables.specs.Codes.{lastFormula}
 use Rattle.sheet.specs.Tables.{Words}
+use Rattle.terms.specs.Environment.{Environment}
 use Rattle.walker.specs.declared.Regs.{Regs}
 use Rattle.walker.specs.Walk.{within, leaf}
 use Rattle.walker.specs.Frame.{form, again, What, the, success, failure, error, innerIn}
@@ -31,16 +32,16 @@ module _ {c : World} {o : Bytes} {w : Words} {r : Regs} (i : In c o w r) where
   -- ---- which leaf it is
 
   -- no formula: its job is a code
-  no-leaf : {F : Formula} → r .due .job ≡ codeAt (c .tables) (r .due .head) → Stands (c .declared) (c .tables) (r .due .head) F → r .due .job ≤ lastFormula
-  no-leaf {F} e s = omega (arith, e, code-range (c .declared) (c .tables) (r .due .head) F s .1)
+  no-leaf : {E : Environment} {F : Formula} → r .due .job ≡ codeAt (c .tables) (r .due .head) → Stands (c .declared) (c .tables) E (r .due .head) F → r .due .job ≤ lastFormula
+  no-leaf {E} {F} e s = omega (arith, e, code-range (c .declared) (c .tables) E (r .due .head) F s .1)
 
   at-success : r .due .job ≡ successJob → i .x ≡ success
   at-success j = go (i .x) (i .job)
     where
       go : (x : What) → Job c w (r .depth) (r .due) x → x ≡ success
       go (the []) q = absurd (omega (arith, q))
-      go (the (form F ∷ is)) q = absurd (omega (arith, no-leaf (q .0) (q .2)))
-      go (the (again l F m v ∷ is)) q = absurd (omega (arith, q .0))
+      go (the (form E F ∷ is)) q = absurd (omega (arith, no-leaf (q .0) (q .2)))
+      go (the (again E l F m v ∷ is)) q = absurd (omega (arith, q .0))
       go success q = refl
       go failure q = absurd (omega (arith, q))
       go (error κ tok) q = absurd (omega (arith, q .0))
@@ -50,8 +51,8 @@ module _ {c : World} {o : Bytes} {w : Words} {r : Regs} (i : In c o w r) where
     where
       go : (x : What) → Job c w (r .depth) (r .due) x → x ≡ failure
       go (the []) q = absurd (omega (arith, q))
-      go (the (form F ∷ is)) q = absurd (omega (arith, no-leaf (q .0) (q .2)))
-      go (the (again l F m v ∷ is)) q = absurd (omega (arith, q .0))
+      go (the (form E F ∷ is)) q = absurd (omega (arith, no-leaf (q .0) (q .2)))
+      go (the (again E l F m v ∷ is)) q = absurd (omega (arith, q .0))
       go success q = absurd (omega (arith, q))
       go failure q = refl
       go (error κ tok) q = absurd (omega (arith, q .0))
@@ -61,8 +62,8 @@ module _ {c : World} {o : Bytes} {w : Words} {r : Regs} (i : In c o w r) where
     where
       go : (x : What) → Job c w (r .depth) (r .due) x → (r .due .job ≡ errorJob) × (x ≡ error (r .due .rest) (r .due .head))
       go (the []) q = absurd (omega (arith, q))
-      go (the (form F ∷ is)) q = absurd (omega (arith, no-leaf (q .0) (q .2)))
-      go (the (again l F m v ∷ is)) q = absurd (omega (arith, q .0))
+      go (the (form E F ∷ is)) q = absurd (omega (arith, no-leaf (q .0) (q .2)))
+      go (the (again E l F m v ∷ is)) q = absurd (omega (arith, q .0))
       go success q = absurd (n3 q)
       go failure q = absurd (n4 q)
       go (error κ tok) q = (q .0, rw (q .1, q .2) refl)

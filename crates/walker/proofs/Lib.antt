@@ -2,6 +2,8 @@
 pub mod Answers
 pub mod Continuation
 pub mod Walk
+pub mod Alike
+pub mod Frozen
 pub mod Told
 pub mod Tracks
 pub mod Sited
@@ -37,3 +39,4 @@ pub mod Blocks
 pub mod Moves
 pub mod Started
 pub mod Enters
+pub mod Called

@@ -12,7 +12,7 @@ use Rattle.walker.specs.Path.{World}
 use Rattle.walker.specs.Sim.{Down, Leaf, Over, Sim, over, down, up, won, block}
 use Rattle.walker.specs.Registers.{level}
 use Rattle.walker.specs.Loop.{Ups, Rising, Rose, Fixed, BlockDue, Blocked, VisitDue, Arrived, Climbs, Climbed, Runs, Settled, Live, snapshot, Moved}
-use Rattle.walker.specs.States.{overMode, downMode, blockMode, upMode, wonMode}
+use Rattle.walker.specs.States.{downMode, blockMode, upMode, wonMode}
 
 -- ---- the invariant by the mode
 
@@ -36,7 +36,7 @@ module _ {c : World} {o : Bytes} {w : Words} {r : Regs} where
   sim-leaf m (won e s) = absurd (omega arith)
   sim-leaf m (block e s) = s
 
-  pub sim-over : r .mode ≡ overMode → Sim c o w r → Over c o r
+  pub sim-over : r .mode < downMode → Sim c o w r → Over c o r
   sim-over m (over e s) = s
   sim-over m (down e s) = absurd (omega arith)
   sim-over m (up e s) = absurd (omega arith)

@@ -18,11 +18,14 @@ use Rattle.specification.proofs.Laws.Place.{put-same, put-other, valid-put}
 use Rattle.values.specs.Word.{signed, biased}
 use Rattle.values.proofs.Laws.Word.{biased-signed, signed-in32, signed-add}
 use Rattle.tables.specs.Layout.{nodeSlot, firstsAt, pathAt, maxTokens}
-use Rattle.tables.specs.Node.{currentWord, headAt, restAt, todoAt, slotAt, currentAt, lastAt, restWord, todoWord, slotWord, hadWord, oldWord, lastWord, innerWord}
+use Rattle.tables.specs.Node.{currentWord, headAt, restAt, todoAt, envAt, slotAt, currentAt, lastAt, restWord, todoWord, envWord, slotWord, hadWord, oldWord, lastWord, innerWord}
 use Rattle.tables.specs.Kept.{Kept}
 use Rattle.tables.proofs.Laws.Kept.{kept-both, word-kept, word-slots}
 use Rattle.sheet.specs.Tables.{Words}
 use Rattle.sheet.specs.Held.{endAt, Holds}
+use Rattle.terms.specs.Environment.{Environment}
+use Rattle.terms.proofs.Laws.Environment.{env-kept}
+use Rattle.terms.proofs.Laws.Here.{code-here, end-here}
 use Rattle.walker.specs.declared.Regs.{Regs}
 use Rattle.walker.specs.Walk.{sonsFrom}
 use Rattle.walker.specs.Frame.{Item, form, the, Frame, range, len, siteIn}
@@ -34,11 +37,11 @@ use Rattle.walker.specs.Registers.{formulaDue, dueRegs}
 use Rattle.walker.specs.Loop.{Topped}
 use Rattle.walker.specs.States.{nextTodo}
 use Rattle.walker.proofs.Keep.{changed-words, pend-keep}
-use Rattle.walker.proofs.Here.{code-here, end-here, body-here}
+use Rattle.walker.proofs.Here.{body-here}
 use Rattle.walker.proofs.Slots.{in-table, Altered, alter, holds-keep, holds-again, marks-keep, altered-marks}
 use Rattle.walker.proofs.Whole.{altered-kept, path-top}
 use Rattle.walker.proofs.Tops.{top-index, top-range}
-use Rattle.walker.proofs.Turns.{son-due, rest-under}
+use Rattle.walker.proofs.Turns.{son-due, rest-under, env-under}
 
 -- ---- the values left after a word
 
@@ -74,7 +77,7 @@ pub record Readable (w : Words) (k : ℕ) : Type 0 where
 pub readable : {w : Words} {r : Regs} → Topped w r nextTodo → Readable w (r .depth - 1)
 readable {w} {r} t =
     top-range (λ fr. Readable w (r .depth - 1)) (t .some) (t .todo)
-    (λ l x i n F is β fr P.
+    (λ l x i n E F is β fr P.
     let a = P .stack .0 in
     let ch = a .1 in
     let b = a .2 in
@@ -98,7 +101,7 @@ body-small {w} {k} {h} x eh ee en =
     rw (en, ee, two) (x .inside)
 
 -- what is read at the node, and what is stored
-pub record Follows (w w' : Words) (r : Regs) (h p : ℕ) : Type 0 where
+pub record Follows (w w' : Words) (r : Regs) (h p e : ℕ) : Type 0 where
   pub i : ℕ
   pub v : ℕ
   pub first : Words
@@ -107,13 +110,14 @@ pub record Follows (w w' : Words) (r : Regs) (h p : ℕ) : Type 0 where
   pub more : currentAt w (r .depth - 1) < lastAt w (r .depth - 1)
   pub head : h ≡ headAt w (r .depth - 1)
   pub rest : p ≡ restAt w (r .depth - 1)
+  pub env : e ≡ envAt w (r .depth - 1)
   pub slot : i ≡ slotAt w (r .depth - 1)
   pub value : v ≡ currentAt w (r .depth - 1) + 1
   pub current : first ≡ set w (currentWord (r .depth - 1)) v
   pub words : w' ≡ set (set first i 1) (i + 1) v
 
-module _ {c : World} {w w' : Words} {r : Regs} {h p : ℕ} (g : Follows w w' r h p) {α : Valuation} {l : ℕ} {x : ℤ} {i m : ℕ} {F : Formula} {is : List Item}
-    {β : Valuation} {fr : List Frame} (P : Path c w (r .depth) α (range l x i (suc m) F is β ∷ fr)) where
+module _ {c : World} {w w' : Words} {r : Regs} {h p v : ℕ} (g : Follows w w' r h p v) {α : Valuation} {l : ℕ} {x : ℤ} {i m : ℕ}
+    {E : Environment} {F : Formula} {is : List Item} {β : Valuation} {fr : List Frame} (P : Path c w (r .depth) α (range l x i (suc m) E F is β ∷ fr)) where
   more-here : currentAt w (len fr) < lastAt w (len fr)
   more-here = rw (top-index P) at (g .more)
 
@@ -151,7 +155,7 @@ module _ {c : World} {w w' : Words} {r : Regs} {h p : ℕ} (g : Follows w w' r h
       from-first (currentWord (len fr)) (omega arith) ∙
       rw current-is (getD-set-same w (currentWord (len fr)) (g .v) 0 (omega (arith, P .size, P .inside)) ∙ value-is)
 
-  next-frame : FrameAt c w' (len fr) (siteIn fr) (range l x (suc i) m F is β)
+  next-frame : FrameAt c w' (len fr) (siteIn fr) (range l x (suc i) m E F is β)
   next-frame =
       let a = P .stack .0 in (
         same-word (todoWord (len fr)) (omega arith) (λ y. omega arith) ∙ a .0,
@@ -160,14 +164,15 @@ module _ {c : World} {w w' : Words} {r : Regs} {h p : ℕ} (g : Follows w w' r h
         rw (same-word (nodeSlot (len fr)) (omega arith) (λ y. omega arith)) (a .2),
         rw (now, same-word (lastWord (len fr)) (omega arith) (λ y. omega arith)) (next-left x i (a .3) more-here m refl),
         rw now (next-value x i (a .3) more-here),
-        rw (same-word (restWord (len fr)) (omega arith) (λ y. omega arith)) (pend-keep c w w' (len fr) (restAt w (len fr)) is (next-kept .nodes) (a .5)),
+        rw (same-word (envWord (len fr)) (omega arith) (λ y. omega arith)) (env-kept (c .declared) next-kept (envAt w (len fr)) E (a .5)),
+        rw (same-word (restWord (len fr)) (omega arith) (λ y. omega arith)) (pend-keep c w w' (len fr) (restAt w (len fr)) is next-kept (a .6)),
       )
 
-  next-path : Path c w' (r .depth) (put β (local l) (full (x +ℤ pos (suc i)))) (range l x (suc i) m F is β ∷ fr)
+  next-path : Path c w' (r .depth) (put β (local l) (full (x +ℤ pos (suc i)))) (range l x (suc i) m E F is β ∷ fr)
   next-path =
       let a = P .stack .0 in
       let same = word-slots (currentWord (len fr)) (g .v) (omega arith) current-is in
-      path-top P next-kept (range l x (suc i) m F is β) refl next-frame
+      path-top P next-kept (range l x (suc i) m E F is β) refl next-frame
       (holds-again altered (a .1 .inside) β (full (x +ℤ pos i)) (holds-keep same (subst (Holds w) (P .chain .0) (P .holds))))
       (altered-marks altered (a .1 .inside) (put β (local l) (full (x +ℤ pos i))) (put β (local l) (full (x +ℤ pos (suc i)))) (boundSite l (siteIn fr) .marks)
       (boundSite l (siteIn fr) .marks) (marks-keep same (rw (P .chain .0) at (P .marks)))
@@ -184,23 +189,28 @@ module _ {c : World} {w w' : Words} {r : Regs} {h p : ℕ} (g : Follows w w' r h
 
 -- ---- the next son
 
-pub next-up : {c : World} {o : Bytes} {w w' : Words} {r : Regs} {h p e n : ℕ} → Follows w w' r h p → e ≡ endAt w (h + 2) → n ≡ endAt w e → Up c o w r →
-    Down c o w' (dueRegs r (r .depth) (formulaDue w n p) (r .inner) (r .bad))
+pub next-up : {c : World} {o : Bytes} {w w' : Words} {r : Regs} {h p v e n : ℕ} → Follows w w' r h p v → e ≡ endAt w (h + 2) → n ≡ endAt w e → Up c o w r →
+    Down c o w' (dueRegs r (r .depth) (formulaDue w n p v) (r .inner) (r .bad))
 unfolding sonsFrom
-next-up {c} {o} {w} {w'} {r} {h} {p} {e} {n} g ee en u =
+next-up {c} {o} {w} {w'} {r} {h} {p} {v} {e} {n} g ee en u =
     top-range
-    (λ fr. r .inner ≡ siteIn fr .inner → no c fr (u .e) (r .tallies) (u .b) ≡ c .result → Down c o w' (dueRegs r (r .depth) (formulaDue w n p) (r .inner) (r .bad)))
-    (g .some) (g .todo) (λ l x i m F is β fr P k q. go l x i m F is β fr P k q) (u .fr) (u .path) (u .inner) (u .result)
+    (λ fr. r .inner ≡ siteIn fr .inner → no c fr (u .e) (r .tallies) (u .b) ≡ c .result → Down c o w' (dueRegs r (r .depth) (formulaDue w n p v) (r .inner) (r .bad)))
+    (g .some) (g .todo) (λ l x i m E F is β fr P k q. go l x i m E F is β fr P k q) (u .fr) (u .path) (u .inner) (u .result)
   where
-    go : (l : ℕ) (x : ℤ) (i m : ℕ) (F : Formula) (is : List Item) (β : Valuation) (fr : List Frame) →
-        Path c w (r .depth) (u .α) (range l x i m F is β ∷ fr) → r .inner ≡ siteIn fr .inner →
-        no c (range l x i m F is β ∷ fr) (u .e) (r .tallies) (u .b) ≡ c .result →
-        Down c o w' (dueRegs r (r .depth) (formulaDue w n p) (r .inner) (r .bad))
-    go l x i zero F is β fr P k q =
+    go : (l : ℕ) (x : ℤ) (i m : ℕ) (E : Environment) (F : Formula) (is : List Item) (β : Valuation) (fr : List Frame) →
+        Path c w (r .depth) (u .α) (range l x i m E F is β ∷ fr) → r .inner ≡ siteIn fr .inner →
+        no c (range l x i m E F is β ∷ fr) (u .e) (r .tallies) (u .b) ≡ c .result →
+        Down c o w' (dueRegs r (r .depth) (formulaDue w n p v) (r .inner) (r .bad))
+    go l x i zero E F is β fr P k q =
         let more : currentAt w (len fr) < lastAt w (len fr) = rw (top-index P) at (g .more) in
         absurd (omega (arith, P .stack .0 .3 .count))
-    go l x i (suc m) F is β fr P k q =
+    go l x i (suc m) E F is β fr P k q =
         let b = P .stack .0 .2 in
         let at = body-is g P ee en in
-        son-due r (u .e) (u .b) (the (form F ∷ is)) (next-path g P) k (u .bad)
-        (code-here (c .tables) w (P .tokens) (rw at (b .inside)), rw at (b .inside), rw at (b .body), rest-under P (next-kept g P) is (g .rest) (P .stack .0 .5)) (u .out) (u .count) q
+        son-due r (u .e) (u .b) (the (form E F ∷ is)) (next-path g P) k (u .bad) (
+          code-here (c .tables) w (P .tokens) (rw at (b .inside)),
+          rw at (b .inside),
+          rw at (b .body),
+          env-under P (next-kept g P) E (g .env) (P .stack .0 .5),
+          rest-under P (next-kept g P) is (g .rest) (P .stack .0 .6),
+        ) (u .out) (u .count) q

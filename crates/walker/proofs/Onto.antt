@@ -17,11 +17,13 @@ use Rattle.specification.proofs.Laws.Contradiction.{contradiction}
 use Rattle.specification.proofs.Laws.Place.{put-same, put-other, valid-put}
 use Rattle.values.specs.Word.{signed}
 use Rattle.tables.specs.declared.nodes.Node.{Node}
-use Rattle.tables.specs.Node.{Marked, Linked, Pushed}
+use Rattle.tables.specs.Kept.{SameSlots, Kept}
+use Rattle.tables.specs.Node.{todoAt, Marked, Linked, Pushed}
 use Rattle.tables.specs.Layout.{maxTokens}
 use Rattle.tables.proofs.Laws.Kept.{marked-kept, marked-slots}
 use Rattle.sheet.specs.Tables.{Words}
 use Rattle.sheet.specs.Held.{endAt, slotOf}
+use Rattle.terms.specs.Environment.{Environment, EnvAt}
 use Rattle.walker.specs.declared.Due.{Due}
 use Rattle.walker.specs.declared.Regs.{Regs}
 use Rattle.walker.specs.Walk.{sonsFrom, within, walk}
@@ -39,12 +41,24 @@ use Rattle.walker.proofs.Registered.{site-depth, bound-other}
 use Rattle.walker.proofs.Keep.{frame-keep}
 use Rattle.walker.proofs.Slots.{holds-keep, holds-put, marks-keep, altered-marks}
 use Rattle.walker.proofs.Whole.{altered-kept, path-onto}
-use Rattle.walker.proofs.Pushes.{Replaces, replaces-kept, rest-onto}
+use Rattle.walker.proofs.Pushes.{Replaces, replaces-kept, rest-onto, env-there}
 
 -- the node that asks for an inner tree
 abbrev pub askNode : Regs → Node
 askNode r =
-    record { head = r .due .head; rest = r .due .rest; todo = judgeTodo; slot = 0; had = 0; old = 0; current = 0; last = 0; inner = r .inner; bad = r .bad }
+    record {
+      head = r .due .head;
+      rest = r .due .rest;
+      todo = judgeTodo;
+      env = r .due .env;
+      slot = 0;
+      had = 0;
+      old = 0;
+      current = 0;
+      last = 0;
+      inner = r .inner;
+      bad = r .bad;
+    }
 
 module _ {c : World} {o : Bytes} {w : Words} {r : Regs} (i : In c o w r) where
   -- ---- the son
@@ -74,11 +88,10 @@ module _ {c : World} {o : Bytes} {w : Words} {r : Regs} (i : In c o w r) where
   }
 
   -- a frame that changes no slot
-  plain : {w' : Words} {todo : ℕ} → Marked w w' (r .depth) todo → (f : Frame) → below f ≡ i .α → here f ≡ i .α → siteIn (f ∷ i .fr) .marks ≡ siteIn (i .fr) .marks →
+  plain : {w' : Words} → Kept (r .depth) w w' → SameSlots w w' → (f : Frame) → below f ≡ i .α → here f ≡ i .α → siteIn (f ∷ i .fr) .marks ≡ siteIn (i .fr) .marks →
       FrameAt c w' (r .depth) (siteIn (i .fr)) f → Path c w' (r .depth + 1) (below f) (f ∷ i .fr)
-  plain g f e e′ m q =
-      path-onto (i .path) f (i .room) (marked-kept g) e′ q (rw e (holds-keep (marked-slots g) (i .path .holds)))
-      (rw (e, m) (marks-keep (marked-slots g) (i .path .marks))) (rw e (i .path .valid))
+  plain k u f e e′ m q =
+      path-onto (i .path) f (i .room) k e′ q (rw e (holds-keep u (i .path .holds))) (rw (e, m) (marks-keep u (i .path .marks))) (rw e (i .path .valid))
 
   -- a frame that changes one
   changed : {w' : Words} {n : Node} (p : Place) (s : Slot) (a : Replaces (c .declared) w w' (r .depth) n (i .α) p s) → n .inner ≡ r .inner → (f : Frame) →
@@ -97,7 +110,7 @@ module _ {c : World} {o : Bytes} {w : Words} {r : Regs} (i : In c o w r) where
         mark = λ none. g .value ∙ a .mark ∙ i .path .marks p (a .inside) none;
         inner = g .inner ∙ kept ∙ i .inner;
       } in
-      path-onto (i .path) f (i .room) (replaces-kept a) e′ (frame-keep c (a .mid) w' (r .depth) (siteIn (i .fr)) f (k .nodes) (q ch))
+      path-onto (i .path) f (i .room) (replaces-kept a) e′ (frame-keep c (a .mid) w' (r .depth) (siteIn (i .fr)) f k (q ch))
       (rw e (holds-put (a .altered) (a .inside) (holds-keep same (i .path .holds))))
       (rw e
       (altered-marks (a .altered) (a .inside) (i .α) (put (i .α) p s) (siteIn (i .fr) .marks) (siteIn (f ∷ i .fr) .marks) (marks-keep same (i .path .marks))
@@ -115,11 +128,17 @@ module _ {c : World} {o : Bytes} {w : Words} {r : Regs} (i : In c o w r) where
   inner-number = ap (_+ innerRoot) (sym at-depth)
 
   -- nothing is left to do
-  pub down-pass : {w' : Words} → Marked w w' (r .depth) noTodo → (x : What) →
+  pub down-passed : {w' : Words} → Kept (r .depth) w w' → SameSlots w w' → todoAt w' (r .depth) ≡ noTodo → (x : What) →
       tree c (i .fr) (i .x) (i .α) ≡ step (son c (i .fr) x (i .α)) → {d : Due} → Job c w' (r .depth + 1) d x →
       Down c o w' (dueRegs r (r .depth + 1) d (r .inner) (r .bad))
   unfolding within
-  down-pass g x e j = onto (pass (i .α)) x (i .e) (plain g (pass (i .α)) refl refl refl (g .left)) (i .inner) (i .bad) j (rw add-one (rw e at (i .result)))
+  down-passed k u t x e j = onto (pass (i .α)) x (i .e) (plain k u (pass (i .α)) refl refl refl t) (i .inner) (i .bad) j (rw add-one (rw e at (i .result)))
+
+  -- at a node that is marked so
+  pub down-pass : {w' : Words} → Marked w w' (r .depth) noTodo → (x : What) →
+      tree c (i .fr) (i .x) (i .α) ≡ step (son c (i .fr) x (i .α)) → {d : Due} → Job c w' (r .depth + 1) d x →
+      Down c o w' (dueRegs r (r .depth + 1) d (r .inner) (r .bad))
+  down-pass g = down-passed (marked-kept g) (marked-slots g) (g .left)
 
   -- a local that is bound
   pub down-bound : {w' : Words} {n : Node} (l : ℕ) (s : Slot) → Replaces (c .declared) w w' (r .depth) n (i .α) (local l) s → n .todo ≡ undoTodo →
@@ -144,29 +163,36 @@ module _ {c : World} {o : Bytes} {w : Words} {r : Regs} (i : In c o w r) where
       (i .bad) j (rw add-one (rw e at (i .result)))
 
   -- the second son of `or`
-  pub down-other : {w' : Words} → Linked w w' (r .depth) (r .due .head) (r .due .rest) otherTodo → (x : What) (G : Formula) (is : List Item) →
-      tree c (i .fr) (i .x) (i .α) ≡ fork (son c (i .fr) x (i .α)) (son c (i .fr) (the (form G ∷ is)) (i .α)) →
-      suc (r .due .head) < maxTokens → endAt (c .tables) (suc (r .due .head)) < maxTokens → Stands (c .declared) (c .tables) (endAt (c .tables) (suc (r .due .head))) G →
-      Pend c w (r .depth) (r .due .rest) is → {d : Due} → Job c w' (r .depth + 1) d x →
+  pub down-other : {w' : Words} → Linked w w' (r .depth) (r .due .head) (r .due .rest) otherTodo (r .due .env) → (x : What) (E : Environment) (G : Formula) (is : List Item) →
+      tree c (i .fr) (i .x) (i .α) ≡ fork (son c (i .fr) x (i .α)) (son c (i .fr) (the (form E G ∷ is)) (i .α)) →
+      suc (r .due .head) < maxTokens → endAt (c .tables) (suc (r .due .head)) < maxTokens → Stands (c .declared) (c .tables) E (endAt (c .tables) (suc (r .due .head))) G →
+      EnvAt (c .declared) w (r .depth) (r .due .env) E → Pend c w (r .depth) (r .due .rest) is → {d : Due} → Job c w' (r .depth + 1) d x →
       Down c o w' (dueRegs r (r .depth + 1) d (r .inner) (r .bad))
   unfolding within
-  down-other g x G is e small far st q j =
-      onto (other G is (i .α)) x (i .e)
-      (plain (g .marked) (other G is (i .α)) refl refl refl
-      (g .marked .left, rw (g .head) small, rw (g .head) far, rw (g .head) st, rw (g .rest) (rest-onto i is (r .depth) (marked-kept (g .marked)) (omega arith) q)))
+  down-other g x E G is e small far st v q j =
+      onto (other E G is (i .α)) x (i .e)
+      (plain (marked-kept (g .marked)) (marked-slots (g .marked)) (other E G is (i .α)) refl refl refl (
+        g .marked .left,
+        rw (g .head) small,
+        rw (g .head) far,
+        rw (g .head) st,
+        rw (g .env) (env-there i E (r .depth) (marked-kept (g .marked)) (omega arith) v),
+        rw (g .rest) (rest-onto i is (r .depth) (marked-kept (g .marked)) (omega arith) q),
+      ))
       (i .inner) (i .bad) j (rw (add-one, ← i .path .deep) (rw e at (i .result)))
 
   -- the next values of a `some`
-  pub down-range : {w' : Words} {low high : ℕ} (l : ℕ) (x : ℤ) (n : ℕ) (F : Formula) (is : List Item) →
+  pub down-range : {w' : Words} {low high : ℕ} (l : ℕ) (x : ℤ) (n : ℕ) (E : Environment) (F : Formula) (is : List Item) →
       Replaces (c .declared) w w' (r .depth) (binderNode w r (r .due .head) nextTodo low high) (i .α) (local l) (full (x +ℤ pos 0)) →
-      tree c (i .fr) (i .x) (i .α) ≡ fan x (suc n) (λ j. treeItems (c .declared) (form F ∷ is) (boundSite l (siteIn (i .fr))) (put (i .α) (local l) (full (x +ℤ pos j)))) →
-      Binds (c .declared) (c .tables) (r .due .head) l F → LeftAfter low high n (x +ℤ pos 1) → signed low ≡ x +ℤ pos 0 → Pend c w (r .depth) (r .due .rest) is →
-      {d : Due} → Job c w' (r .depth + 1) d (the (form F ∷ is)) →
+      tree c (i .fr) (i .x) (i .α) ≡ fan x (suc n) (λ j. treeItems (c .declared) (form E F ∷ is) (boundSite l (siteIn (i .fr))) (put (i .α) (local l) (full (x +ℤ pos j)))) →
+      Binds (c .declared) (c .tables) E (r .due .head) l F → LeftAfter low high n (x +ℤ pos 1) → signed low ≡ x +ℤ pos 0 →
+      EnvAt (c .declared) w (r .depth) (r .due .env) E → Pend c w (r .depth) (r .due .rest) is →
+      {d : Due} → Job c w' (r .depth + 1) d (the (form E F ∷ is)) →
       Down c o w' (dueRegs r (r .depth + 1) d (r .inner) (r .bad))
   unfolding within sonsFrom
-  down-range l x n F is a e bi le lo q j =
-      onto (range l x 0 n F is (i .α)) (the (form F ∷ is)) (i .e)
-      (changed (local l) (full (x +ℤ pos 0)) a refl (range l x 0 n F is (i .α)) refl refl (bound-other l (siteIn (i .fr))) (λ none. contradiction cc) (λ h.
+  down-range l x n E F is a e bi le lo v q j =
+      onto (range l x 0 n E F is (i .α)) (the (form E F ∷ is)) (i .e)
+      (changed (local l) (full (x +ℤ pos 0)) a refl (range l x 0 n E F is (i .α)) refl refl (bound-other l (siteIn (i .fr))) (λ none. contradiction cc) (λ h.
       let g = a .pushed in
       let at = g .linked in (
         at .marked .left,
@@ -174,21 +200,22 @@ module _ {c : World} {o : Bytes} {w : Words} {r : Regs} (i : In c o w r) where
         rw (at .head) bi,
         rw (g .now, g .upper) le,
         rw (g .now) lo,
+        rw (at .env) (env-there i E (r .depth) (marked-kept (at .marked)) (omega arith) v),
         rw (at .rest) (rest-onto i is (r .depth) (marked-kept (at .marked)) (omega arith) q),
       )))
       (i .inner) (i .bad) j (rw (add-one, ← i .path .deep) (rw e at (i .result)))
 
   -- an inner tree to judge
-  pub down-asks : {w' : Words} → Pushed w w' (r .depth) (askNode r) → (F : Formula) (q : Question) (is : List Item) →
-      (let I = treeItems (c .declared) (form F ∷ []) (innerSite (siteIn (i .fr))) (i .α) in
+  pub down-asks : {w' : Words} → Pushed w w' (r .depth) (askNode r) → (E : Environment) (F : Formula) (q : Question) (is : List Item) →
+      (let I = treeItems (c .declared) (form E F ∷ []) (innerSite (siteIn (i .fr))) (i .α) in
       tree c (i .fr) (i .x) (i .α) ≡ ask I (sonOf (c .declared) (r .due .head) q is (verdict I) (sonSite (siteIn (i .fr))) (i .α))) →
-      r .due .head < maxTokens → Asks c (r .due .head) q → Pend c w (r .depth) (r .due .rest) is → {d : Due} → Job c w' (r .depth + 1) d (the (form F ∷ [])) →
+      r .due .head < maxTokens → Asks c w' (r .depth) (r .due .head) q → Pend c w (r .depth) (r .due .rest) is → {d : Due} → Job c w' (r .depth + 1) d (the (form E F ∷ [])) →
       Down c o w' (dueRegs r (r .depth + 1) d (r .depth + innerRoot) 0)
-  down-asks g F q is e small a p j =
+  down-asks g E F q is e small a p j =
       let m = innerIn (i .fr) in
       let after : Verdict → Tree = λ v. sonOf (c .declared) (r .due .head) q is v (sonSite (siteIn (i .fr))) (i .α) in
       let at = g .linked in
-      let P = plain (at .marked) (asks (r .due .head) q is (i .α) (i .e)) refl refl refl (
+      let P = plain (marked-kept (at .marked)) (marked-slots (at .marked)) (asks (r .due .head) q is (i .α) (i .e)) refl refl refl (
         at .marked .left,
         at .head,
         small,
@@ -197,9 +224,9 @@ module _ {c : World} {o : Bytes} {w : Words} {r : Regs} (i : In c o w r) where
         g .bad ∙ i .bad,
         rw (at .rest) (rest-onto i is (r .depth) (marked-kept (at .marked)) (omega arith) p),
       ) in
-      let h = within-ask (conditionsOf c) (treeItems (c .declared) (form F ∷ []) (innerSite (siteIn (i .fr))) (i .α)) after m (suc (r .depth))
+      let h = within-ask (conditionsOf c) (treeItems (c .declared) (form E F ∷ []) (innerSite (siteIn (i .fr))) (i .α)) after m (suc (r .depth))
       (yes c (i .fr)) (no c (i .fr)) (i .e) (r .tallies) (i .b) in
-      onto (asks (r .due .head) q is (i .α) (i .e)) (the (form F ∷ [])) false P inner-number refl j
+      onto (asks (r .due .head) q is (i .α) (i .e)) (the (form E F ∷ [])) false P inner-number refl j
       (rw (add-one, ← i .path .deep) (sym h ∙ (rw e at (i .result))))
 
 -- ---- a step

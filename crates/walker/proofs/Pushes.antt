@@ -21,6 +21,8 @@ use Rattle.tables.specs.Codes.{andCode, allCode}
 use Rattle.tables.proofs.Laws.Kept.{kept-both, marked-kept}
 use Rattle.sheet.specs.Tables.{Words}
 use Rattle.sheet.specs.Held.{codeAt, endAt, slotOf}
+use Rattle.terms.specs.Environment.{Environment, EnvAt}
+use Rattle.terms.proofs.Laws.Here.{code-here}
 use Rattle.walker.specs.declared.Regs.{Regs}
 use Rattle.walker.specs.Frame.{Item, form, again, the}
 use Rattle.walker.specs.Path.{World, Pend, Job, Saved, InTable}
@@ -29,8 +31,7 @@ use Rattle.walker.specs.Sim.{In}
 use Rattle.walker.specs.Steps.{Leads}
 use Rattle.walker.specs.Registers.{formulaDue}
 use Rattle.walker.specs.Binding.{binderNode, Alters}
-use Rattle.walker.proofs.Here.{code-here}
-use Rattle.walker.proofs.Keep.{pend-keep, pend-onto}
+use Rattle.walker.proofs.Keep.{env-onto, pend-keep, pend-onto}
 use Rattle.walker.proofs.Slots.{Altered, second-word, alter}
 use Rattle.walker.proofs.Whole.{altered-kept}
 
@@ -71,16 +72,21 @@ pub replaces-kept : {D : Declared} {w w' : Words} {d : ℕ} {n : Node} {α : Val
 replaces-kept {d = d} a = kept-both (marked-kept (a .pushed .linked .marked)) (altered-kept d (a .inside) (a .altered))
 
 -- a formula of the tables is due
-pub formula-job : (c : World) (w : Words) (n i p : ℕ) (F : Formula) (is : List Item) → SameTokens (c .tables) w → i < maxTokens →
-    Stands (c .declared) (c .tables) i F → Pend c w n p is → Job c w n (formulaDue w i p) (the (form F ∷ is))
-formula-job c w n i p F is s h st q = (code-here (c .tables) w s h, h, st, q)
+pub formula-job : (c : World) (w : Words) (n i p e : ℕ) (E : Environment) (F : Formula) (is : List Item) → SameTokens (c .tables) w → i < maxTokens →
+    Stands (c .declared) (c .tables) E i F → EnvAt (c .declared) w n e E → Pend c w n p is → Job c w n (formulaDue w i p e) (the (form E F ∷ is))
+formula-job c w n i p e E F is s h st v q = (code-here (c .tables) w s h, h, st, v, q)
 
 module _ {c : World} {o : Bytes} {w : Words} {r : Regs} (i : In c o w r) where
   -- ---- the rest of the list
 
   pub rest-onto : {w' : Words} (is : List Item) (n : ℕ) → Kept (r .depth) w w' → r .depth ≤ n → Pend c w (r .depth) (r .due .rest) is →
       Pend c w' n (r .due .rest) is
-  rest-onto {w'} is n k h q = pend-onto c w w' (r .depth) n (r .due .rest) is h (k .nodes) q
+  rest-onto {w'} is n k h q = pend-onto c w w' (r .depth) n (r .due .rest) is h k q
+
+  -- the node's environment
+  pub env-there : {w' : Words} (E : Environment) (n : ℕ) → Kept (r .depth) w w' → r .depth ≤ n → EnvAt (c .declared) w (r .depth) (r .due .env) E →
+      EnvAt (c .declared) w' n (r .due .env) E
+  env-there {w'} E n k h q = env-onto (c .declared) w w' (r .depth) n (r .due .env) E h k q
 
   pub rest-leads : {w' : Words} (is : List Item) → Kept (r .depth) w w' → Pend c w (r .depth) (r .due .rest) is → Leads w' (r .due .rest)
   rest-leads is k q = record {
@@ -95,11 +101,11 @@ module _ {c : World} {o : Bytes} {w : Words} {r : Regs} (i : In c o w r) where
   -- ---- the node as a cell
 
   -- of an `and`: its second part
-  pub cons-form : {w' : Words} {todo : ℕ} → Linked w w' (r .depth) (r .due .head) (r .due .rest) todo → (G : Formula) (is : List Item) →
+  pub cons-form : {w' : Words} {todo : ℕ} → Linked w w' (r .depth) (r .due .head) (r .due .rest) todo (r .due .env) → (E : Environment) (G : Formula) (is : List Item) →
       suc (r .due .head) < maxTokens → codeAt (c .tables) (r .due .head) ≡ andCode → endAt (c .tables) (suc (r .due .head)) < maxTokens →
-      Stands (c .declared) (c .tables) (endAt (c .tables) (suc (r .due .head))) G → Pend c w (r .depth) (r .due .rest) is →
-      Pend c w' (r .depth + 1) (r .depth + 1) (form G ∷ is)
-  cons-form g G is small code far st q = (
+      Stands (c .declared) (c .tables) E (endAt (c .tables) (suc (r .due .head))) G → EnvAt (c .declared) w (r .depth) (r .due .env) E →
+      Pend c w (r .depth) (r .due .rest) is → Pend c w' (r .depth + 1) (r .depth + 1) (form E G ∷ is)
+  cons-form g E G is small code far st v q = (
     r .depth,
     add-one (r .depth),
     omega arith,
@@ -107,24 +113,27 @@ module _ {c : World} {o : Bytes} {w : Words} {r : Regs} (i : In c o w r) where
     rw (g .head) code,
     rw (g .head) far,
     rw (g .head) st,
+    rw (g .env) (env-there E (r .depth) (marked-kept (g .marked)) (omega arith) v),
     rw (g .rest) (rest-onto is (r .depth) (marked-kept (g .marked)) (omega arith) q),
   )
 
   -- of an `all`: the same over the values left
   pub cons-again : {w' : Words} {h todo current last : ℕ} {α : Valuation} {p : Place} {s : Slot} →
       Replaces (c .declared) w w' (r .depth) (binderNode w r h todo current last) α p s →
-      (l : ℕ) (F : Formula) (n : ℕ) (v : ℤ) (is : List Item) → codeAt (c .tables) h ≡ allCode → Binds (c .declared) (c .tables) h l F →
-      LeftAfter current last n v → Pend c w (r .depth) (r .due .rest) is → Pend c w' (r .depth + 1) (r .depth + 1) (again l F n v ∷ is)
-  cons-again {w'} a l F n v is code bi le q =
+      (E : Environment) (l : ℕ) (F : Formula) (n : ℕ) (v : ℤ) (is : List Item) → codeAt (c .tables) h ≡ allCode → Binds (c .declared) (c .tables) E h l F →
+      LeftAfter current last n v → EnvAt (c .declared) w (r .depth) (r .due .env) E → Pend c w (r .depth) (r .due .rest) is →
+      Pend c w' (r .depth + 1) (r .depth + 1) (again E l F n v ∷ is)
+  cons-again {w'} a E l F n v is code bi le env q =
       let g = a .pushed in
       let at = g .linked in
       let k = altered-kept (r .depth + 1) (a .inside) (a .altered) in
-      pend-keep c (a .mid) w' (r .depth + 1) (r .depth + 1) (again l F n v ∷ is) (k .nodes) (
+      pend-keep c (a .mid) w' (r .depth + 1) (r .depth + 1) (again E l F n v ∷ is) k (
         r .depth,
         add-one (r .depth),
         omega arith,
         rw (at .head) code,
         rw (at .head) bi,
         rw (g .now, g .upper) le,
+        rw (at .env) (env-there E (r .depth) (marked-kept (at .marked)) (omega arith) env),
         rw (at .rest) (rest-onto is (r .depth) (marked-kept (at .marked)) (omega arith) q),
       )

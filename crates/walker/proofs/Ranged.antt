@@ -8,6 +8,7 @@ use lib.IntN.{ℤ, pos, _+ℤ_}
 use Rattle.specification.specs.Bytes.{Bytes}
 use Rattle.specification.specs.Lines.{Declared}
 use Rattle.specification.specs.Ast.{Term, Formula}
+use Rattle.specification.specs.Fill.{fillTerm, fill}
 use Rattle.specification.specs.Arithmetic.{count}
 use Rattle.specification.specs.Value.{Valuation, pairOf, side}
 use Rattle.specification.specs.Tree.{bounded}
@@ -18,19 +19,21 @@ use Rattle.sheet.specs.Tables.{Words}
 use Rattle.tables.proofs.Laws.Kept.{spare-kept}
 use Rattle.sheet.specs.Held.{endAt}
 use Rattle.terms.specs.declared.Sides.{Sides}
+use Rattle.terms.specs.Environment.{Environment, termsOf, EnvAt}
 use Rattle.terms.specs.Results.{Valued, valueTag}
+use Rattle.terms.proofs.Laws.Environment.{env-kept}
 use Rattle.walker.specs.declared.Regs.{Regs}
 use Rattle.walker.specs.Frame.{Item, treeItems, siteIn}
 use Rattle.walker.specs.Site.{Site, RestAt, growAt}
 use Rattle.walker.specs.Path.{World, Pend}
-use Rattle.walker.specs.Stands.{Binds, bodyOf, LeftAfter}
+use Rattle.walker.specs.Stands.{filled, Binds, bodyOf, LeftAfter}
 use Rattle.walker.specs.Sim.{tree, In}
 use Rattle.walker.specs.Steps.{Entered}
 use Rattle.walker.proofs.Here.{body-here}
 use Rattle.walker.proofs.Under.{Ranges, Says}
 use Rattle.walker.proofs.Keep.{pend-keep}
 use Rattle.walker.proofs.Heads.{at-form, form-tree, in-spare}
-use Rattle.walker.proofs.Sided.{Terms, Errs, back, left-value, right-value, left-signed, right-signed}
+use Rattle.walker.proofs.Sided.{leftOf, rightOf, Terms, Errs, back, left-value, right-value, left-signed, right-signed}
 
 -- the place of the lower bound, as the code has it
 pub two : (h : ℕ) → h + 2 ≡ suc (suc h)
@@ -67,54 +70,70 @@ module _ (low high : ℕ) (x y : ℤ) (b : Bounds low high x y) where
 pub record Quantifier (n : ℕ) : Type 0 where
   pub make : ℕ → ℕ → Term → Term → Formula → Formula
   pub over : Declared → ℕ → Formula → RestAt → ℤ → ℕ → RestAt
-  pub says : (D : Declared) (t : Words) (h : ℕ) (F : Formula) → Says D t h n F → Ranges D t h (make h) F
+  pub says : (D : Declared) (t : Words) (E : Environment) (h : ℕ) (F : Formula) → Says D t E h n F → Ranges D t E h (make h) F
+  pub fills :
+      (ts : List Term) (tok l : ℕ) (a b : Term) (F : Formula) →
+      fill ts (make tok l a b F) ≡ make tok l (fillTerm ts a) (fillTerm ts b) (fill ts F)
   pub grows :
       (D : Declared) (tok l : ℕ) (a b : Term) (F : Formula) (k : RestAt) (s : Site) (α : Valuation) →
       growAt D (make tok l a b F) k s α ≡ bounded tok (pairOf (side D α a) (side D α b)) (λ x y. over D l F k x (count x y) s) α
 
 module _ {n : ℕ} (Q : Quantifier n) {w : Words} {r : Regs} (x : Entered w r n) where
-  abbrev pub quantifier : (c : World) (o : Bytes) (i : In c o w r) → Ranges (c .declared) (c .tables) (r .due .head) (Q .make (r .due .head)) (at-form i (x .formula) (x .code) .F)
-  quantifier c o i = let a = at-form i (x .formula) (x .code) in Q .says (c .declared) (c .tables) (r .due .head) (a .F) (a .under)
-
-  -- the tree, by its bounds
-  pub grown : (c : World) (o : Bytes) (i : In c o w r) →
-      tree c (i .fr) (i .x) (i .α) ≡
-      bounded (r .due .head) (pairOf (side (c .declared) (i .α) (quantifier c o i .low)) (side (c .declared) (i .α) (quantifier c o i .high)))
-      (λ y z.
-      Q .over (c .declared) (quantifier c o i .l) (quantifier c o i .body) (λ t β. treeItems (c .declared) (at-form i (x .formula) (x .code) .is) t β) y (count y z)
-      (siteIn (i .fr)))
-      (i .α)
-  grown c o i =
-      let a = at-form i (x .formula) (x .code) in
-      let q = quantifier c o i in
-      let k : RestAt = λ t β. treeItems (c .declared) (a .is) t β in
-      form-tree i a ∙ ap (λ F. growAt (c .declared) F k (siteIn (i .fr)) (i .α)) (q .is) ∙
-      Q .grows (c .declared) (r .due .head) (q .l) (q .low) (q .high) (q .body) k (siteIn (i .fr)) (i .α)
+  abbrev pub quantifier : (c : World) (o : Bytes) (i : In c o w r) →
+      let a = at-form i (x .formula) (x .code) in Ranges (c .declared) (c .tables) (a .E) (r .due .head) (Q .make (r .due .head)) (a .F)
+  quantifier c o i = let a = at-form i (x .formula) (x .code) in Q .says (c .declared) (c .tables) (a .E) (r .due .head) (a .F) (a .under)
 
   unfoldable pub range-terms : Terms w r (r .due .head + 2) (bodyOf w (r .due .head))
   range-terms = record {
     at = x .at;
     both = λ c o i.
+        let a = at-form i (x .formula) (x .code) in
         let q = quantifier c o i in
-        (q .low, q .high, rw (two (r .due .head), body-here (c .tables) w (i .path .tokens) (q .binds)) (q .terms));
+        record {
+          E = a .E;
+          left = q .low;
+          right = q .high;
+          terms = rw (two (r .due .head), body-here (c .tables) w (i .path .tokens) (q .binds)) (q .terms);
+          env = a .env;
+        };
   }
+
+  -- the tree, by its bounds
+  pub grown : (c : World) (o : Bytes) (i : In c o w r) →
+      tree c (i .fr) (i .x) (i .α) ≡
+      (let a = at-form i (x .formula) (x .code) in
+      let q = quantifier c o i in
+      let t = range-terms .both c o i in
+      bounded (r .due .head) (pairOf (leftOf t (i .α)) (rightOf t (i .α)))
+      (λ y z. Q .over (c .declared) (q .l) (filled (a .E) (q .body)) (λ t β. treeItems (c .declared) (a .is) t β) y (count y z) (siteIn (i .fr))) (i .α))
+  unfolding range-terms
+  grown c o i =
+      let a = at-form i (x .formula) (x .code) in
+      let q = quantifier c o i in
+      let ts = termsOf (a .E) in
+      let k : RestAt = λ t β. treeItems (c .declared) (a .is) t β in
+      form-tree i a ∙
+      ap (λ F. growAt (c .declared) F k (siteIn (i .fr)) (i .α)) (ap (fill ts) (q .is) ∙ Q .fills ts (r .due .head) (q .l) (q .low) (q .high) (q .body)) ∙
+      Q .grows (c .declared) (r .due .head) (q .l) (fillTerm ts (q .low)) (fillTerm ts (q .high)) (fill ts (q .body)) k (siteIn (i .fr)) (i .α)
 
   pub range-errs : Errs w r (r .due .head + 2) (bodyOf w (r .due .head)) range-terms
   unfolding bounded range-terms
   range-errs c o i κ e = grown c o i ∙ rw e
 
-  module _ {w' : Words} {s : Sides} (v : Valued w w' (r .due .head + 2) (bodyOf w (r .due .head)) s) (l : s .ltag ≡ valueTag) (h : s .rtag ≡ valueTag) where
+  module _ {w' : Words} {s : Sides} (v : Valued w w' (r .due .head + 2) (bodyOf w (r .due .head)) (r .due .env) s) (l : s .ltag ≡ valueTag) (h : s .rtag ≡ valueTag) where
     -- the values of the bounds, and the tree by them
     pub record Valuable (c : World) (o : Bytes) (i : In c o w' r) : Type 0 where
       pub y : ℤ
       pub z : ℤ
       pub bounds : Bounds (s .left) (s .right) y z
       pub is : List Item
+      pub E : Environment
       pub local : ℕ
       pub body : Formula
-      pub binds : Binds (c .declared) (c .tables) (r .due .head) local body
+      pub binds : Binds (c .declared) (c .tables) E (r .due .head) local body
+      pub env : EnvAt (c .declared) w' (r .depth) (r .due .env) E
       pub rest : Pend c w' (r .depth) (r .due .rest) is
-      pub grown : tree c (i .fr) (i .x) (i .α) ≡ Q .over (c .declared) local body (λ t β. treeItems (c .declared) is t β) y (count y z) (siteIn (i .fr)) (i .α)
+      pub grown : tree c (i .fr) (i .x) (i .α) ≡ Q .over (c .declared) local (filled E body) (λ t β. treeItems (c .declared) is t β) y (count y z) (siteIn (i .fr)) (i .α)
 
     pub valuable : (c : World) (o : Bytes) (i : In c o w' r) → Valuable c o i
     unfolding range-terms back in-spare bounded pairOf
@@ -124,7 +143,8 @@ module _ {n : ℕ} (Q : Quantifier n) {w : Words} {r : Regs} (x : Entered w r n)
         let t = quantifier c o j in
         let p = left-value range-terms v l c o i in
         let q = right-value range-terms v h c o i in
-        let in-right = sane-val (c .declared) (t .terms .scope) (i .α) (i .path .valid) (t .high) (t .terms .right) (q .z) (q .is) in
+        let in-right = sane-val (c .declared) (t .terms .scope) (i .α) (i .path .valid) (fillTerm (termsOf (a .E)) (t .high)) (t .terms .right) (q .z) (q .is) in
+        let k = spare-kept w w' (v .kept) (v .size) (r .depth) in
         record {
           y = p .z;
           z = q .z;
@@ -134,23 +154,38 @@ module _ {n : ℕ} (Q : Quantifier n) {w : Words} {r : Regs} (x : Entered w r n)
             fits = subst (_< 4294967296) (sym (q .word)) (biased-word (q .z) in-right);
           };
           is = a .is;
+          E = a .E;
           local = t .l;
           body = t .body;
           binds = t .binds;
-          rest = pend-keep c w w' (r .depth) (r .due .rest) (a .is) (spare-kept w w' (v .kept) (v .size) (r .depth) .nodes) (a .rest);
+          env = env-kept (c .declared) k (r .due .env) (a .E) (a .env);
+          rest = pend-keep c w w' (r .depth) (r .due .rest) (a .is) k (a .rest);
           grown = grown c o j ∙ rw (p .is, q .is);
         }
 
     -- the first value, and how many are left after it
     pub first-value : s .left ≤ s .right → (c : World) (o : Bytes) (i : In c o w' r) →
-        (b : ℕ) × (F : Formula) × (m : ℕ) × (y : ℤ) × (is : List Item)
-        × (tree c (i .fr) (i .x) (i .α) ≡ Q .over (c .declared) b F (λ t β. treeItems (c .declared) is t β) y (suc m) (siteIn (i .fr)) (i .α))
-        × Binds (c .declared) (c .tables) (r .due .head) b F
+        (E : Environment) × (b : ℕ) × (F : Formula) × (m : ℕ) × (y : ℤ) × (is : List Item)
+        × (tree c (i .fr) (i .x) (i .α) ≡ Q .over (c .declared) b (filled E F) (λ t β. treeItems (c .declared) is t β) y (suc m) (siteIn (i .fr)) (i .α))
+        × Binds (c .declared) (c .tables) E (r .due .head) b F
         × LeftAfter (s .left) (s .right) m (y +ℤ pos 1)
         × (signed (s .left) ≡ y)
+        × EnvAt (c .declared) w' (r .depth) (r .due .env) E
         × Pend c w' (r .depth) (r .due .rest) is
     first-value more c o i =
         let a = valuable c o i in
         let b = a .bounds in
-        let some : count (a .y) (a .z) ≡ suc (s .right - s .left) = count-some (s .left) (s .right) (a .y) (a .z) b more in
-        (a .local, a .body, s .right - s .left, a .y, a .is, rw some at (a .grown), a .binds, left-after (s .left) (s .right) (a .y) (a .z) b more, b .first, a .rest)
+        let some : count (a .y) (a .z) ≡ suc (s .right - s .left) = count-some (s .left) (s .right) (a .y) (a .z) b more in (
+          a .E,
+          a .local,
+          a .body,
+          s .right - s .left,
+          a .y,
+          a .is,
+          rw some at (a .grown),
+          a .binds,
+          left-after (s .left) (s .right) (a .y) (a .z) b more,
+          b .first,
+          a .env,
+          a .rest,
+        )

@@ -18,10 +18,10 @@ use Rattle.walker.specs.States.{mainTree, givenTree}
 pub site-depth : (fr : List Frame) → siteIn fr .depth ≡ len fr
 site-depth [] = refl
 site-depth (pass α ∷ fr) = ap suc (site-depth fr)
-site-depth (other G is α ∷ fr) = ap suc (site-depth fr)
+site-depth (other E G is α ∷ fr) = ap suc (site-depth fr)
 site-depth (bound l s α ∷ fr) = ap suc (site-depth fr)
 site-depth (given p v α ∷ fr) = ap suc (site-depth fr)
-site-depth (range l x i n F is α ∷ fr) = ap suc (site-depth fr)
+site-depth (range l x i n E F is α ∷ fr) = ap suc (site-depth fr)
 site-depth (asks tok q is α e ∷ fr) = ap suc (site-depth fr)
 
 -- a binder marks no other place
@@ -42,12 +42,12 @@ after-tells false m n h f = h
 register : (fr : List Frame) → Tells (innerIn fr) (siteIn fr .inner)
 register [] = refl
 register (pass α ∷ fr) = register fr
-register (other G is α ∷ fr) = register fr
+register (other E G is α ∷ fr) = register fr
 register (bound l s α ∷ fr) = register fr
 register (given p v α ∷ fr) =
     after-tells (ltb (siteIn fr .marks p) (siteIn fr .inner)) (innerIn fr) (siteIn fr .inner) (register fr)
     (λ e. le-ltb (siteIn fr .marks p) (siteIn fr .inner) (omega arith))
-register (range l x i n F is α ∷ fr) = register fr
+register (range l x i n E F is α ∷ fr) = register fr
 register (asks tok q is α e ∷ fr) = omega arith
 
 pub inner-main : (fr : List Frame) → siteIn fr .inner ≡ mainTree → innerIn fr ≡ false

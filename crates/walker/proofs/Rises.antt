@@ -18,6 +18,7 @@ use Rattle.tables.specs.Node.{todoAt, slotAt, hadAt, oldAt, currentAt, lastAt, 
 use Rattle.tables.specs.Kept.{Kept}
 use Rattle.sheet.specs.Tables.{Words}
 use Rattle.sheet.specs.Held.{Holds}
+use Rattle.terms.specs.Environment.{Environment}
 use Rattle.walker.specs.declared.Regs.{Regs}
 use Rattle.walker.specs.Walk.{sonsFrom}
 use Rattle.walker.specs.Frame.{Item, Frame, pass, other, bound, given, range, asks, here, len, siteIn}
@@ -53,9 +54,9 @@ module _ {w : Words} {r : Regs} (u : Rising w r) (some : 0 < r .depth) where
       go c α [] P = let deep = P .deep in absurd (omega arith)
       go c α (pass β ∷ fr) P =
           (record { top = pass β; under = fr; parts = refl; same-no = λ m. refl; same-yes = refl }, refl, refl, refl)
-      go c α (other G is β ∷ fr) P = (
+      go c α (other E G is β ∷ fr) P = (
         record {
-          top = other G is β;
+          top = other E G is β;
           under = fr;
           parts = refl;
           same-no = λ m. absurd (n1 (ap (todoAt w) (top-index P) ∙ P .stack .0 .0) m);
@@ -67,7 +68,7 @@ module _ {w : Words} {r : Regs} (u : Rising w r) (some : 0 < r .depth) where
       )
       go c α (bound l s β ∷ fr) P = absurd (n2 (ap (todoAt w) (top-index P) ∙ P .stack .0 .0))
       go c α (given p v β ∷ fr) P = absurd (n2 (ap (todoAt w) (top-index P) ∙ P .stack .0 .0))
-      go c α (range l x i n F is β ∷ fr) P = absurd (n3 (ap (todoAt w) (top-index P) ∙ P .stack .0 .0))
+      go c α (range l x i n E F is β ∷ fr) P = absurd (n3 (ap (todoAt w) (top-index P) ∙ P .stack .0 .0))
       go c α (asks tok q is β e ∷ fr) P = absurd (n4 (ap (todoAt w) (top-index P) ∙ P .stack .0 .0))
 
   -- a slot is to be put back
@@ -83,26 +84,26 @@ module _ {w : Words} {r : Regs} (u : Rising w r) (some : 0 < r .depth) where
   }
 
   -- no value is left
-  none-left : (c : World) (l : ℕ) (x : ℤ) (i n : ℕ) (F : Formula) (is : List Item) (β : Valuation) (fr : List Frame) → n ≡ 0 →
-      no c (range l x i n F is β ∷ fr) ≡ no c fr
+  none-left : (c : World) (l : ℕ) (x : ℤ) (i n : ℕ) (E : Environment) (F : Formula) (is : List Item) (β : Valuation) (fr : List Frame) → n ≡ 0 →
+      no c (range l x i n E F is β ∷ fr) ≡ no c fr
   unfolding sonsFrom
-  none-left c l x i n F is β fr e = rw e
+  none-left c l x i n E F is β fr e = rw e
 
   pub range-restores : todoAt w (r .depth - 1) ≡ nextTodo → (r .mode ≡ upMode → ¬ (currentAt w (r .depth - 1) < lastAt w (r .depth - 1))) → Restores w r
   range-restores t last = record {
     at = u;
     some = some;
     back = λ c α fr P. top-range (Undoable c w r) some t
-        (λ l x i n F is β fr P.
+        (λ l x i n E F is β fr P.
         let e = top-index P in
         let a = P .stack .0 .3 in (
           record {
-            top = range l x i n F is β;
+            top = range l x i n E F is β;
             under = fr;
             parts = refl;
             same-no = λ m.
                 let h : ¬ (currentAt w (len fr) < lastAt w (len fr)) = rw e at (last m) in
-                none-left c l x i n F is β fr (omega (arith, a .count, h));
+                none-left c l x i n E F is β fr (omega (arith, a .count, h));
             same-yes = refl;
           },
           local l,
@@ -223,14 +224,14 @@ module _ {w : Words} {r : Regs} (x : Restores w r) where
 
 module _ {c : World} {o : Bytes} {w : Words} {r : Regs} (none : r .depth ≡ 0) where
   over-up : Up c o w r → Sim c o w (stopRegs r doneEnd)
-  over-up u = over refl (record { b = u .b; out = u .out; result = ap resultOf (go (u .fr) (u .path .deep) (u .result)) })
+  over-up u = over (omega arith) (record { b = u .b; out = u .out; result = ap resultOf (go (u .fr) (u .path .deep) (u .result)) })
     where
       go : (fr : List Frame) → r .depth ≡ len fr → no c fr (u .e) (r .tallies) (u .b) ≡ c .result → going (r .tallies) (u .b) ≡ c .result
       go [] e q = q
       go (f ∷ fr) e q = absurd (omega arith)
 
   over-yes : Yes c o w r → Sim c o w (stopRegs r doneEnd)
-  over-yes u = over refl (record { b = u .b; out = u .out; result = ap resultOf (go (u .fr) (u .path .deep) (u .result)) })
+  over-yes u = over (omega arith) (record { b = u .b; out = u .out; result = ap resultOf (go (u .fr) (u .path .deep) (u .result)) })
     where
       go : (fr : List Frame) → r .depth ≡ len fr → yes c fr (r .tallies) (u .b) ≡ c .result → going (r .tallies) (u .b) ≡ c .result
       go [] e q = q

@@ -8,6 +8,7 @@ use lib.IntN.{ℤ}
 use Rattle.specification.specs.Bytes.{Bytes}
 use Rattle.specification.specs.Lines.{Declared}
 use Rattle.specification.specs.Ast.{Term}
+use Rattle.specification.specs.Fill.{fillTerm}
 use Rattle.specification.specs.Place.{Place}
 use Rattle.specification.specs.Value.{Valuation, Side, val, bare, err, faulty, pairOf, side}
 use Rattle.specification.specs.WellFormed as scopes
@@ -18,35 +19,45 @@ use Rattle.values.proofs.Laws.Word.{signed-biased}
 use Rattle.sheet.specs.Tables.{Words}
 use Rattle.sheet.specs.Held.{slotOf}
 use Rattle.terms.specs.declared.Sides.{Sides}
+use Rattle.terms.specs.Environment.{Environment, termsOf, EnvAt, Memory}
 use Rattle.terms.specs.Results.{tagOf, wordOf, sidesOf, span, Given, Asked, Valued, valueTag, bareTag}
+use Rattle.terms.proofs.Laws.Here.{terms-here}
 use Rattle.walker.specs.declared.Regs.{Regs}
 use Rattle.walker.specs.Frame as frames
 use Rattle.walker.specs.Path.{World}
 use Rattle.walker.specs.Sim.{tree, In}
 use Rattle.walker.specs.Steps.{Visited, OneLeaf, BothValues, FaultOf}
 use Rattle.walker.specs.Registers.{errorDue}
-use Rattle.walker.proofs.Here.{terms-here}
 use Rattle.walker.proofs.Under.{TermsIn}
 use Rattle.walker.proofs.Heads.{in-spare}
 
 -- ---- what `sides` asks
 
 module _ {c : World} {o : Bytes} {w : Words} {r : Regs} (i : In c o w r) where
-  pub given : (from to : ℕ) (a b : Term) → TermsIn (c .declared) (c .tables) from to a b → Given w (span from to) (c .declared) (i .α) a b
-  given from to a b t = record {
-    terms = terms-here (c .tables) w (i .path .tokens) from to a b (t .terms);
+  pub memory : (E : Environment) → EnvAt (c .declared) w (r .depth) (r .due .env) E → Memory w (r .depth) (r .due .env) (c .declared) (i .α) E
+  memory E v = record {
     holds = i .path .holds;
-    arrays = i .path .arrays;
     valid = i .path .valid;
+    arrays = i .path .arrays;
     cells = i .path .cells;
     few = i .path .few;
+    filled = i .path .procedures .none;
+    environment = v;
+    size = omega (arith, i .path .size, i .path .inside);
+  }
+
+  pub given : (from to : ℕ) (E : Environment) (a b : Term) → EnvAt (c .declared) w (r .depth) (r .due .env) E →
+      TermsIn (c .declared) (c .tables) E from to a b → Given w (span from to) (r .due .env) (c .declared) (i .α) E a b
+  given from to E a b v t = record {
+    depth = r .depth;
+    memory = memory E v;
+    terms = terms-here (c .tables) w (i .path .tokens) from to a b (t .terms);
     scope = t .scope;
     locals = t .locals;
     left = t .left;
     right = t .right;
     left-low = t .left-low;
     right-low = t .right-low;
-    size = omega (arith, i .path .size);
   }
 
 -- ---- by the tags
@@ -85,28 +96,51 @@ has-place (err κ) w e h = absurd (omega arith)
 value-is : (D : Declared) (S : scopes.Scope) (α : Valuation) → scopes.Valid D α → (t : Term) → scopes.OkTerm D S t → (w : ℕ) (z : ℤ) → side D α t ≡ val z → w ≡ biased z → signed w ≡ z
 value-is D S α v t ok w z e h = ap signed h ∙ signed-biased z (sane-val D S α v t ok z e)
 
-pub both-values : {w w' : Words} {from to : ℕ} {s : Sides} → Valued w w' from to s → (b : Bool) → b ≡ true → BothValues s b → BothValues s true
+pub both-values : {w w' : Words} {from to env : ℕ} {s : Sides} → Valued w w' from to env s → (b : Bool) → b ≡ true → BothValues s b → BothValues s true
 both-values v b e h = rw e at h
 
 -- ---- the two terms of the node's formula
 
+-- with their environment
+pub record Operands (c : World) (w : Words) (r : Regs) (from to : ℕ) : Type 0 where
+  pub E : Environment
+  pub left : Term
+  pub right : Term
+  pub terms : TermsIn (c .declared) (c .tables) E from to left right
+  pub env : EnvAt (c .declared) w (r .depth) (r .due .env) E
+
+-- what they are under a valuation
+module _ {c : World} {w : Words} {r : Regs} {from to : ℕ} (q : Operands c w r from to) (α : Valuation) where
+  abbrev pub leftOf : Side
+  leftOf = side (c .declared) α (fillTerm (termsOf (q .E)) (q .left))
+
+  abbrev pub rightOf : Side
+  rightOf = side (c .declared) α (fillTerm (termsOf (q .E)) (q .right))
+
 pub record Terms (w : Words) (r : Regs) (from to : ℕ) : Type 0 where
   pub at : Visited w r
-  pub both : (c : World) (o : Bytes) → In c o w r → (a : Term) × (b : Term) × TermsIn (c .declared) (c .tables) from to a b
+  pub both : (c : World) (o : Bytes) → In c o w r → Operands c w r from to
 
-pub terms-asked : {w : Words} {r : Regs} {from to : ℕ} → Terms w r from to → Asked w from to
+pub terms-asked : {w : Words} {r : Regs} {from to : ℕ} → Terms w r from to → Asked w from to (r .due .env)
 terms-asked {from = from} {to = to} p =
     let q = p .both (p .at .c) (p .at .o) (p .at .ins) in
-    record { declared = p .at .c .declared; valuation = p .at .ins .α; left = q .0; right = q .1; given = given (p .at .ins) from to (q .0) (q .1) (q .2) }
+    record {
+      declared = p .at .c .declared;
+      valuation = p .at .ins .α;
+      environment = q .E;
+      left = q .left;
+      right = q .right;
+      given = given (p .at .ins) from to (q .E) (q .left) (q .right) (q .env) (q .terms);
+    }
 
 -- an error on either side leads to an error leaf
 abbrev pub Errs : (w : Words) (r : Regs) (from to : ℕ) → Terms w r from to → Type 0
 Errs w r from to p =
     (c : World) (o : Bytes) (i : In c o w r) (κ : ℕ) →
-    pairOf (side (c .declared) (i .α) (p .both c o i .0)) (side (c .declared) (i .α) (p .both c o i .1)) ≡ faulty κ →
+    pairOf (leftOf (p .both c o i) (i .α)) (rightOf (p .both c o i) (i .α)) ≡ faulty κ →
     tree c (i .fr) (i .x) (i .α) ≡ step (errorLeaf κ (r .due .head) (i .α))
 
-module _ {w w' : Words} {r : Regs} {from to : ℕ} {s : Sides} (p : Terms w r from to) (v : Valued w w' from to s) where
+module _ {w w' : Words} {r : Regs} {from to : ℕ} {s : Sides} (p : Terms w r from to) (v : Valued w w' from to (r .due .env) s) where
   -- the invariant before the evaluation, from the one after it
   unfoldable pub back : {c : World} {o : Bytes} → In c o w' r → In c o w r
   back i = in-spare w' w (λ k h. sym (v .kept k h)) (sym (v .size)) i
@@ -115,16 +149,16 @@ module _ {w w' : Words} {r : Regs} {from to : ℕ} {s : Sides} (p : Terms w r fr
   forth i = in-spare w w' (v .kept) (v .size) i
 
   abbrev pub left-side : (c : World) (o : Bytes) → In c o w' r → Side
-  left-side c o i = side (c .declared) (i .α) (p .both c o (back i) .0)
+  left-side c o i = leftOf (p .both c o (back i)) (i .α)
 
   abbrev pub right-side : (c : World) (o : Bytes) → In c o w' r → Side
-  right-side c o i = side (c .declared) (i .α) (p .both c o (back i) .1)
+  right-side c o i = rightOf (p .both c o (back i)) (i .α)
 
   pub sides-are : (c : World) (o : Bytes) (i : In c o w' r) → s ≡ sidesOf (left-side c o i) (right-side c o i)
   unfolding back in-spare
   sides-are c o i =
       let q = p .both c o (back i) in
-      v .sides (c .declared) (i .α) (q .0) (q .1) (given (back i) from to (q .0) (q .1) (q .2))
+      v .sides (c .declared) (i .α) (q .E) (q .left) (q .right) (given (back i) from to (q .E) (q .left) (q .right) (q .env) (q .terms))
 
   -- not both have values
   pub sides-error : Errs w r from to p → {k : ℕ} (b : Bool) → b ≡ false → BothValues s b → FaultOf s k → OneLeaf w' r (errorDue k (r .due .head))
@@ -167,12 +201,12 @@ module _ {w w' : Words} {r : Regs} {from to : ℕ} {s : Sides} (p : Terms w r fr
 
   pub left-signed : (z : s .ltag ≡ valueTag) (c : World) (o : Bytes) (i : In c o w' r) → signed (s .left) ≡ left-value z c o i .z
   left-signed z c o i =
-      let (a, b, t) = p .both c o (back i) in
+      let q = p .both c o (back i) in
       let h = left-value z c o i in
-      value-is (c .declared) (t .scope) (i .α) (i .path .valid) a (t .left) (s .left) (h .z) (h .is) (h .word)
+      value-is (c .declared) (q .terms .scope) (i .α) (i .path .valid) (fillTerm (termsOf (q .E)) (q .left)) (q .terms .left) (s .left) (h .z) (h .is) (h .word)
 
   pub right-signed : (z : s .rtag ≡ valueTag) (c : World) (o : Bytes) (i : In c o w' r) → signed (s .right) ≡ right-value z c o i .z
   right-signed z c o i =
-      let (a, b, t) = p .both c o (back i) in
+      let q = p .both c o (back i) in
       let h = right-value z c o i in
-      value-is (c .declared) (t .scope) (i .α) (i .path .valid) b (t .right) (s .right) (h .z) (h .is) (h .word)
+      value-is (c .declared) (q .terms .scope) (i .α) (i .path .valid) (fillTerm (termsOf (q .E)) (q .right)) (q .terms .right) (s .right) (h .z) (h .is) (h .word)

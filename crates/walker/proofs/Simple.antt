@@ -5,6 +5,7 @@ use native.Mathlib.Numerals.{add-one}
 use mathlib.Core.Path.{_≡_, _∙_}
 use mathlib.Core.List.{[], _∷_}
 use Rattle.specification.specs.Bytes.{Bytes}
+use Rattle.specification.specs.Fill.{fill}
 use Rattle.tables.specs.Node.{Marked, Linked}
 use Rattle.tables.specs.Codes.{trueCode, andCode, orCode}
 use Rattle.tables.specs.Layout.{maxTokens}
@@ -21,14 +22,14 @@ use Rattle.walker.specs.Registers.{formulaDue, dueRegs}
 use Rattle.walker.specs.States.{successJob, noTodo, otherTodo}
 use Rattle.walker.proofs.Inverse.{code-range}
 use Rattle.walker.proofs.Heads.{at-form, form-tree}
-use Rattle.walker.proofs.Pushes.{formula-job, rest-onto, rest-leads, cons-form}
+use Rattle.walker.proofs.Pushes.{formula-job, rest-onto, env-there, rest-leads, cons-form}
 use Rattle.walker.proofs.Onto.{down-pass, down-other}
 
 -- a leaf's words do not lie in memory
 leaf-job : (c : World) (w w' : Words) (n m : ℕ) (d : Due) (x : What) → successJob ≤ d .job → Job c w n d x → Job c w' m d x
 leaf-job c w w' n m d (the []) h q = absurd (omega (arith, q))
-leaf-job c w w' n m d (the (form F ∷ is)) h q = absurd (omega (arith, h, q .0, code-range (c .declared) (c .tables) (d .head) F (q .2) .1))
-leaf-job c w w' n m d (the (again l F k v ∷ is)) h q = absurd (omega (arith, q .0))
+leaf-job c w w' n m d (the (form E F ∷ is)) h q = absurd (omega (arith, h, q .0, code-range (c .declared) (c .tables) E (d .head) F (q .2) .1))
+leaf-job c w w' n m d (the (again E l F k v ∷ is)) h q = absurd (omega (arith, q .0))
 leaf-job c w w' n m d success h q = q
 leaf-job c w w' n m d failure h q = q
 leaf-job c w w' n m d (error κ tok) h q = q
@@ -54,7 +55,7 @@ module _ {w w' : Words} {r : Regs} (g : Marked w w' (r .depth) noTodo) where
 
 -- `true`
 pub true-goes : {w : Words} {r : Regs} → Entered w r trueCode → GoesOn w r
-unfolding growAt
+unfolding growAt fill
 true-goes x = record {
   at = x .at;
   son = λ c o i. let a = at-form i (x .formula) (x .code) in (a .is, form-tree i a ∙ rw (a .under), a .rest);
@@ -72,27 +73,31 @@ pub or-near : {w : Words} {r : Regs} → Entered w r orCode → r .due .head + 1
 or-near x = omega (arith, at-form (x .at .ins) (x .formula) (x .code) .under .near)
 
 -- `and`: the node is the list's next cell
-pub and-down : {w w' : Words} {r : Regs} {d : Due} → Entered w r andCode → Linked w w' (r .depth) (r .due .head) (r .due .rest) noTodo → d ≡ formulaDue w' (r .due .head + 1) (r .depth + 1) →
+pub and-down : {w w' : Words} {r : Regs} {d : Due} → Entered w r andCode → Linked w w' (r .depth) (r .due .head) (r .due .rest) noTodo (r .due .env) →
+    d ≡ formulaDue w' (r .due .head + 1) (r .depth + 1) (r .due .env) →
     (c : World) (o : Bytes) → In c o w r → Down c o w' (dueRegs r (r .depth + 1) d (r .inner) (r .bad))
-unfolding growAt treeItems
+unfolding growAt treeItems fill
 and-down {w' = w'} {r = r} x g k c o i =
     let a = at-form i (x .formula) (x .code) in
     let b = a .under in
     let m = marked-kept (g .marked) in
-    down-pass i (g .marked) (the (form (b .first) ∷ form (b .second) ∷ a .is)) (form-tree i a ∙ rw (b .is))
+    down-pass i (g .marked) (the (form (a .E) (b .first) ∷ form (a .E) (b .second) ∷ a .is)) (form-tree i a ∙ rw (b .is))
     (rw (k, add-one (r .due .head))
-    (formula-job c w' (r .depth + 1) (suc (r .due .head)) (r .depth + 1) (b .first) (form (b .second) ∷ a .is) (λ j h. m .tokens j h ∙ i .path .tokens j h) (b .near)
-    (b .left) (cons-form i g (b .second) (a .is) (b .near) (a .code) (b .far) (b .right) (a .rest))))
+    (formula-job c w' (r .depth + 1) (suc (r .due .head)) (r .depth + 1) (r .due .env) (a .E) (b .first) (form (a .E) (b .second) ∷ a .is)
+    (λ j h. m .tokens j h ∙ i .path .tokens j h) (b .near) (b .left) (env-there i (a .E) (r .depth + 1) m (omega arith) (a .env))
+    (cons-form i g (a .E) (b .second) (a .is) (b .near) (a .code) (b .far) (b .right) (a .env) (a .rest))))
 
 -- `or`: its second part is left for later
-pub or-down : {w w' : Words} {r : Regs} {d : Due} → Entered w r orCode → Linked w w' (r .depth) (r .due .head) (r .due .rest) otherTodo → d ≡ formulaDue w' (r .due .head + 1) (r .due .rest) →
+pub or-down : {w w' : Words} {r : Regs} {d : Due} → Entered w r orCode → Linked w w' (r .depth) (r .due .head) (r .due .rest) otherTodo (r .due .env) →
+    d ≡ formulaDue w' (r .due .head + 1) (r .due .rest) (r .due .env) →
     (c : World) (o : Bytes) → In c o w r → Down c o w' (dueRegs r (r .depth + 1) d (r .inner) (r .bad))
-unfolding growAt treeItems
+unfolding growAt treeItems fill
 or-down {w' = w'} {r = r} x g k c o i =
     let a = at-form i (x .formula) (x .code) in
     let b = a .under in
     let m = marked-kept (g .marked) in
-    down-other i g (the (form (b .first) ∷ a .is)) (b .second) (a .is) (form-tree i a ∙ rw (b .is)) (b .near) (b .far) (b .right) (a .rest)
+    down-other i g (the (form (a .E) (b .first) ∷ a .is)) (a .E) (b .second) (a .is) (form-tree i a ∙ rw (b .is)) (b .near) (b .far) (b .right) (a .env) (a .rest)
     (rw (k, add-one (r .due .head))
-    (formula-job c w' (r .depth + 1) (suc (r .due .head)) (r .due .rest) (b .first) (a .is) (λ j h. m .tokens j h ∙ i .path .tokens j h) (b .near) (b .left)
+    (formula-job c w' (r .depth + 1) (suc (r .due .head)) (r .due .rest) (r .due .env) (a .E) (b .first) (a .is)
+    (λ j h. m .tokens j h ∙ i .path .tokens j h) (b .near) (b .left) (env-there i (a .E) (r .depth + 1) m (omega arith) (a .env))
     (rest-onto i (a .is) (r .depth + 1) m (omega arith) (a .rest))))

@@ -1,61 +1,25 @@
 -- The tree that the walk knows is the specification's: from a site that tracks the valuation, `growAt` is `grow`, and so the tree of the
 -- walk's start is the tree of the sheet's formula. Assumes nothing.
 use Prim.Native.Nat.{ℕ, zero, suc, _+_, _<_}
-use mathlib.Core.Path.{_≡_, refl, _∙_, ap, ap₂, fun-ext}
-use mathlib.Core.Bool.{Bool, true, false}
+use mathlib.Core.Path.{_≡_, refl, ap, ap₂, fun-ext}
 use mathlib.Core.List.{[], _∷_}
 use lib.Dec.{T}
 use lib.IntN.{ℤ, pos, _+ℤ_}
 use Rattle.specification.specs.Lines.{Declared}
-use Rattle.specification.specs.Ast.{Rel, Term, Formula, truth, and, or, imp, neg, eq, compare, ex, some, all}
-use Rattle.specification.specs.Arithmetic.{eqZ, test, count}
+use Rattle.specification.specs.Ast.{Term, Formula, truth, and, or, imp, neg, eq, compare, ex, some, all, call}
+use Rattle.specification.specs.Arithmetic.{eqZ, count}
 use Rattle.specification.specs.Place.{Place, local, put}
-use Rattle.specification.specs.Value.{Slot, empty, full, Valuation, Side, val, bare, err, Pair, values, faulty, pairOf, side}
+use Rattle.specification.specs.Value.{Slot, empty, full, Valuation, Side, val, bare, err, pairOf, side}
 use Rattle.specification.specs.WellFormed.{Scope, nowhere, enter, OkTerm, Ok}
 use Rattle.specification.specs.Outside.{binds}
-use Rattle.specification.specs.Tree.{Verdict, succeeds, fails, undecided, verdict, step, fork, ask, Rest, check, equate, compared, bounded, sons, rounds, denied, implied, enquire, doneInside, grow, treeOf}
+use Rattle.specification.specs.Tree.{step, fork, Rest, equate, sons, rounds, denied, implied, doneInside, grow, treeOf}
 use Rattle.specification.proofs.Laws.Value.{sane-bare}
 use Rattle.specification.proofs.Laws.Outside.{and-within, or-within, imp-within, ex-within, some-within, all-within, Covers, covers-nowhere, covers-enter}
 use Rattle.walker.specs.States.{innerRoot}
 use Rattle.walker.specs.Site.{Site, RestAt, rootSite, sonSite, boundSite, innerSite, givenSite, equateAt, roundsAt, doneAt, growAt}
 use Rattle.walker.specs.Frame.{form, treeItems}
+use Rattle.walker.proofs.Alike.{check-same, compared-same, bounded-same, enquire-same, denied-same, implied-same, fill-none}
 use Rattle.walker.proofs.Tracks.{Home, main, inner, Bound, Tracks, tracks-root, tracks-inner, tracks-son, tracks-bound, tracks-leave, tracks-given, done-main, done-inner}
-
--- ---- nodes whose parts are the same
-
-check-same : (b : Bool) (k k′ : Rest) (α : Valuation) → k α ≡ k′ α → check b k α ≡ check b k′ α
-check-same true k k′ α e = e
-check-same false k k′ α e = refl
-
-compared-same : (tok : ℕ) (r : Rel) (p : Pair) (k k′ : Rest) (α : Valuation) → k α ≡ k′ α → compared tok r p k α ≡ compared tok r p k′ α
-unfolding compared
-compared-same tok r (values x y) k k′ α e = check-same (test r x y) k k′ α e
-compared-same tok r (faulty κ) k k′ α e = refl
-
-bounded-same :
-    (tok : ℕ) (p : Pair) (k k′ : ℤ → ℤ → Rest) (α : Valuation) → ((x y : ℤ) → k x y α ≡ k′ x y α) →
-    bounded tok p k α ≡ bounded tok p k′ α
-unfolding bounded
-bounded-same tok (values x y) k k′ α e = e x y
-bounded-same tok (faulty κ) k k′ α e = refl
-
-enquire-same :
-    (I I′ : Rest) (k k′ : Verdict → Rest) (α : Valuation) → I α ≡ I′ α → ((v : Verdict) → k v α ≡ k′ v α) →
-    enquire I k α ≡ enquire I′ k′ α
-unfolding enquire
-enquire-same I I′ k k′ α e f = ap (λ J. ask J (k (verdict J) α)) e ∙ ap (ask (I′ α)) (f (verdict (I′ α)))
-
-denied-same : (tok : ℕ) (v : Verdict) (k k′ : Rest) (α : Valuation) → k α ≡ k′ α → denied tok v k α ≡ denied tok v k′ α
-denied-same tok succeeds k k′ α e = refl
-denied-same tok fails k k′ α e = e
-denied-same tok undecided k k′ α e = refl
-
-implied-same :
-    (tok : ℕ) (v : Verdict) (g g′ k k′ : Rest) (α : Valuation) → g α ≡ g′ α → k α ≡ k′ α →
-    implied tok v g k α ≡ implied tok v g′ k′ α
-implied-same tok succeeds g g′ k k′ α d e = d
-implied-same tok fails g g′ k k′ α d e = e
-implied-same tok undecided g g′ k k′ α d e = refl
 
 -- ---- the tree
 
@@ -131,7 +95,7 @@ module _ (D : Declared) where
         (rounds-sited l F F′ f n (v +ℤ pos 1)) (full v) s α t)
 
   sited : (F : Formula) → Sited F
-  unfolding growAt grow Ok
+  unfolding growAt grow Ok binds
   sited truth S h o c p k k′ go s α t = ap step (son-sited S h k k′ go s α t)
   sited (eq tok a b) S h o c p k k′ go s α t =
       ap step (equate-sited S h k k′ go c s α t tok a b (o .0) (o .1) (side D α a) (side D α b) refl refl)
@@ -172,10 +136,11 @@ module _ (D : Declared) where
       (λ x y. rounds (λ g β. grow D F g β) l k′ (count x y) x) α
       (λ x y. rounds-sited S h k k′ go l (λ g r β. growAt D F g r β) (λ g β. grow D F g β)
       (below-sited F (sited F) S h l (o .2) (o .4) c (p l (w .0)) (λ j b. p j (w .1 j b))) (count x y) x s α t)
+  sited (call K ts F) S h o c p k k′ go s α t = ap step (sited F S h (o .2) c p k k′ go (sonSite s) α (tracks-son t))
 
   -- the tree of the walk's start
-  pub root-sited : (F : Formula) → Ok D nowhere F → (α : Valuation) → treeItems D (form F ∷ []) rootSite α ≡ treeOf D (F ∷ []) α
+  pub root-sited : (F : Formula) → Ok D nowhere F → (α : Valuation) → treeItems D (form [] F ∷ []) rootSite α ≡ treeOf D (F ∷ []) α
   unfolding treeItems treeOf
   root-sited F o α =
-      sited F nowhere main o (covers-nowhere D) (λ l b. tt) (λ r β. treeItems D [] r β) (λ β. treeOf D [] β) (λ r β u. done-main u) rootSite α
-      (tracks-root D α)
+      rw (fill-none F) (sited F nowhere main o (covers-nowhere D) (λ l b. tt) (λ r β. treeItems D [] r β) (λ β. treeOf D [] β) (λ r β u. done-main u) rootSite α
+      (tracks-root D α))

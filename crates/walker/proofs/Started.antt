@@ -11,6 +11,7 @@ use Rattle.specification.specs.declared.Outcome.the-variants.{Ran}
 use Rattle.specification.specs.Bytes.{Bytes}
 use Rattle.specification.specs.Sheet.{Sheet}
 use Rattle.specification.specs.Place.{cell, local}
+use Rattle.specification.specs.WellFormed.{nowhere}
 use Rattle.specification.specs.Run.{conditions, tallies, going}
 use Rattle.specification.specs.Outcome.{start, runOf, outputAfter}
 use Rattle.specification.specs.Report.{endFrom}
@@ -21,13 +22,15 @@ use Rattle.walker.specs.declared.Regs.{Regs}
 use Rattle.walker.specs.declared.Task.{Task}
 use Rattle.walker.specs.Walk.{walk}
 use Rattle.walker.specs.Frame.{form, the}
+use Rattle.walker.specs.Stands.{Good}
 use Rattle.walker.specs.Path.{World, Marks}
 use Rattle.walker.specs.Sim.{Down, Sim}
 use Rattle.walker.specs.Loop.{Fixed}
 use Rattle.walker.specs.Walked.{Ready, startRegs, Finished, Walked}
-use Rattle.walker.specs.States.{overMode}
+use Rattle.walker.specs.States.{downMode}
 use Rattle.walker.proofs.Here.{formula-ends}
 use Rattle.walker.proofs.Walk.{walk-run}
+use Rattle.walker.proofs.Alike.{fill-none}
 use Rattle.walker.proofs.Sited.{root-sited}
 use Rattle.walker.proofs.Moves.{sim-over}
 
@@ -39,7 +42,7 @@ worldOf w o t s =
     record { tables = w; declared = s .declared; setting = t .setting; output = o; result = runOf s (t .setting) (length o) }
 
 pub start-small : {w : Words} {t : Task} (s : Sheet) → Ready w t s → t .formula < maxTokens
-start-small {w} {t} s a = let e = formula-ends w (t .formula) (s .formula) (a .formula .held) in omega (arith, e .after, e .inside)
+start-small {w} {t} s a = let e = formula-ends w (t .formula) (s .formula) (a .formula) in omega (arith, e .after, e .inside)
 
 module _ {w : Words} {o : Bytes} {t : Task} (s : Sheet) (a : Ready w t s) where
   pub world-fixed : Fixed (worldOf w o t s) t
@@ -47,7 +50,7 @@ module _ {w : Words} {o : Bytes} {t : Task} (s : Sheet) (a : Ready w t s) where
 
   pub start-down : t .setting .budget < 4294967296 → Down (worldOf w o t s) o w (startRegs w (t .formula))
   start-down fits = record {
-    x = the (form (s .formula) ∷ []);
+    x = the (form [] (s .formula) ∷ []);
     fr = [];
     α = start (s .given);
     e = false;
@@ -59,6 +62,13 @@ module _ {w : Words} {o : Bytes} {t : Task} (s : Sheet) (a : Ready w t s) where
       arrays = a .firsts;
       cells = a .well .limits .cells;
       few = a .well .limits .arrays;
+      procedures = record {
+        none = a .well .limits .parameters;
+        few = a .well .limits .procedures;
+        ok = a .well .procedures;
+        held = a .procedures;
+        same = λ K h. refl;
+      };
       deep = refl;
       inside = omega arith;
       stack = tt;
@@ -69,13 +79,17 @@ module _ {w : Words} {o : Bytes} {t : Task} (s : Sheet) (a : Ready w t s) where
     };
     inner = refl;
     bad = refl;
-    job = (refl, start-small s a, a .formula, refl);
+    job = (refl, start-small s a, record { held = a .formula; good = start-good }, refl, refl);
     out = record { count = refl; inside = omega arith; bytes = refl };
     count = record { fits = fits; budget = omega arith; leaves = omega arith };
     result = ap (λ T. walk (conditions (s .declared) (t .setting) (length o)) false 1 T (λ t w. going t w) (λ e t w. going t w) false (tallies 0 0 0 0) [])
         (root-sited (s .declared) (s .formula) (a .well .formula) (start (s .given))) ∙ sym (walk-run s (t .setting) (length o));
   }
     where
+      start-good : Good (s .declared) [] (s .formula)
+      start-good =
+          record { scope = nowhere; locals = λ l h. absurd h; ok = rw (fill-none (s .formula)) (a .well .formula); shallow = a .shallow }
+
       unmarked : Marks w (start (s .given)) (λ p. 0)
       unmarked (cell c) h e = rw add-one (a .unmarked .cells c h e)
       unmarked (local l) h e = rw add-one (a .unmarked .locals l h e)
@@ -83,7 +97,7 @@ module _ {w : Words} {o : Bytes} {t : Task} (s : Sheet) (a : Ready w t s) where
 -- ---- the end
 
 -- the registers of a walk that is over
-pub finished : {w w' : Words} {o o' : Bytes} {t : Task} {r : Regs} → r .mode ≡ overMode → length w' ≡ length w → length o' ≡ length o →
+pub finished : {w w' : Words} {o o' : Bytes} {t : Task} {r : Regs} → r .mode < downMode → length w' ≡ length w → length o' ≡ length o →
     ((s : Sheet) → Ready w t s → Sim (worldOf w o t s) o' w' r) → Finished w w' o o' t r
 finished {o = o} m words size f = record {
   run = λ s a. let v = sim-over m (f s a) in (v .b, v .result, v .out .count, v .out .bytes ∙ ap (λ (n : ℕ). v .b ++ drop n o) (v .out .count));
@@ -91,7 +105,7 @@ finished {o = o} m words size f = record {
   size = size;
 }
 
-pub walked : {w w' : Words} {o o' : Bytes} {t : Task} {r : Regs} {e : End} → Finished w w' o o' t r → e ≡ endFrom (r .end) →
+pub walked : {w w' : Words} {o o' : Bytes} {t : Task} {r : Regs} {e : End} → Finished w w' o o' t r → e ≡ endFrom (r .mode) →
     Walked w w' o o' t (Ran e (r .tallies) (r .written))
 unfolding outputAfter
 walked {r = r} {e = e} f n = record {

@@ -8,27 +8,29 @@ use mathlib.Core.Bool.{Bool}
 use mathlib.Core.Logic.{inr}
 use mathlib.Core.List.{List, _∷_}
 use lib.ListN.{set}
-use lib.Seq.{getD-set-same}
+use lib.Seq.{getD-set-same, getD-set-other}
 use Rattle.specification.specs.Bytes.{Bytes}
 use Rattle.specification.specs.Value.{Valuation}
 use Rattle.specification.specs.Tree.{Tree}
-use Rattle.tables.specs.Node.{todoWord, headAt, restAt, todoAt}
+use Rattle.tables.specs.Node.{todoWord, envWord, headAt, restAt, todoAt, envAt}
 use Rattle.tables.specs.Kept.{Kept}
 use Rattle.tables.specs.Layout.{maxTokens}
 use Rattle.tables.proofs.Laws.Kept.{word-kept, word-slots}
 use Rattle.sheet.specs.Tables.{Words}
 use Rattle.sheet.specs.Held.{endAt, Holds}
+use Rattle.terms.specs.Environment.{Environment, EnvAt}
+use Rattle.terms.proofs.Laws.Here.{code-here, end-here}
 use Rattle.walker.specs.declared.Regs.{Regs}
 use Rattle.walker.specs.declared.Due.{Due}
 use Rattle.walker.specs.Walk.{walk}
 use Rattle.walker.specs.Frame.{Item, form, What, the, Frame, pass, here, below, len, innerIn, siteIn}
-use Rattle.walker.specs.Path.{World, conditionsOf, Pend, Job, bit, Path, Output, Count}
+use Rattle.walker.specs.Path.{World, conditionsOf, Pend, Job, bit, Path}
+use Rattle.walker.specs.Made.{Output, Count}
 use Rattle.walker.specs.Sim.{yes, no, tree, Down, Up, Yes, down}
 use Rattle.walker.specs.Registers.{formulaDue, dueRegs}
 use Rattle.walker.specs.Loop.{Topped, Rose}
 use Rattle.walker.specs.States.{upMode, wonMode, otherTodo}
-use Rattle.walker.proofs.Keep.{pend-onto}
-use Rattle.walker.proofs.Here.{code-here, end-here}
+use Rattle.walker.proofs.Keep.{env-onto, pend-onto}
 use Rattle.walker.proofs.Slots.{holds-keep, marks-keep}
 use Rattle.walker.proofs.Whole.{path-top}
 use Rattle.walker.proofs.Tops.{top-index, top-other}
@@ -81,7 +83,13 @@ module _ {c : World} {w w' : Words} {d : ℕ} {α : Valuation} {f : Frame} {fr :
   pub rest-under : {p : ℕ} (is : List Item) → p ≡ restAt w (d - 1) → Pend c w (len fr) (restAt w (len fr)) is → Pend c w' d p is
   rest-under is e q =
       let deep = P .deep in
-      rw (e, top-index P) (pend-onto c w w' (len fr) d (restAt w (len fr)) is (omega arith) (k .nodes) q)
+      rw (e, top-index P) (pend-onto c w w' (len fr) d (restAt w (len fr)) is (omega arith) k q)
+
+  -- the node's environment
+  pub env-under : {p : ℕ} (E : Environment) → p ≡ envAt w (d - 1) → EnvAt (c .declared) w (len fr) (envAt w (len fr)) E → EnvAt (c .declared) w' d p E
+  env-under E e q =
+      let deep = P .deep in
+      rw (e, top-index P) (env-onto (c .declared) w w' (len fr) d (envAt w (len fr)) E (omega arith) k q)
 
 -- ---- nothing is left to do at the node afterwards
 
@@ -89,6 +97,9 @@ module _ {c : World} {w w' : Words} {d : ℕ} {α : Valuation} {f : Frame} {fr :
     (e : w' ≡ set w (todoWord (d - 1)) 0) where
   pub turned-kept : Kept (len fr) w w'
   turned-kept = let deep = P .deep in word-kept (len fr) (todoWord (d - 1)) 0 (omega arith) e
+
+  pub turned-env : envAt w' (d - 1) ≡ envAt w (d - 1)
+  turned-env = rw e (getD-set-other w (todoWord (d - 1)) (envWord (d - 1)) 0 0 (λ z. omega arith))
 
   pub turned : below f ≡ here f → siteIn (f ∷ fr) .marks ≡ siteIn fr .marks → Path c w' d (here f) (pass (here f) ∷ fr)
   turned q m =
@@ -102,30 +113,30 @@ module _ {c : World} {w w' : Words} {d : ℕ} {α : Valuation} {f : Frame} {fr :
 -- the second son of an `or`
 pub other-small : {w : Words} {r : Regs} → Topped w r otherTodo → suc (headAt w (r .depth - 1)) < maxTokens
 other-small {w} {r} t =
-    top-other (λ fr. suc (headAt w (r .depth - 1)) < maxTokens) (t .some) (t .todo) (λ G is β fr P. rw (top-index P) (P .stack .0 .1)) (t .fr) (t .path)
+    top-other (λ fr. suc (headAt w (r .depth - 1)) < maxTokens) (t .some) (t .todo) (λ E G is β fr P. rw (top-index P) (P .stack .0 .1)) (t .fr) (t .path)
 
 pub other-far : {w : Words} {r : Regs} {h n : ℕ} → Topped w r otherTodo → h ≡ headAt w (r .depth - 1) → n ≡ endAt w (h + 1) → n < maxTokens
 other-far {w} {r} {h} {n} t eh en =
     top-other (λ fr. n < maxTokens) (t .some) (t .todo)
-    (λ G is β fr P.
+    (λ E G is β fr P.
     let a = P .stack .0 in
     let k = headAt w (len fr) in
     let eh′ : h ≡ k = eh ∙ ap (headAt w) (top-index P) in
     let far : endAt w (suc k) ≡ endAt (t .c .tables) (suc k) = end-here (t .c .tables) w (P .tokens) (a .1) in
     rw (en, eh′, add-one k, far) (a .2)) (t .fr) (t .path)
 
-pub other-up : {c : World} {o : Bytes} {w w' : Words} {r : Regs} {h n p : ℕ} → 0 < r .depth → todoAt w (r .depth - 1) ≡ otherTodo → h ≡ headAt w (r .depth - 1) →
-    n ≡ endAt w (h + 1) → p ≡ restAt w (r .depth - 1) → w' ≡ set w (todoWord (r .depth - 1)) 0 → Up c o w r →
-    Down c o w' (dueRegs r (r .depth) (formulaDue w n p) (r .inner) (r .bad))
-other-up {c} {o} {w} {w'} {r} {h} {n} {p} some t eh en ep ew u =
+pub other-up : {c : World} {o : Bytes} {w w' : Words} {r : Regs} {h n p v : ℕ} → 0 < r .depth → todoAt w (r .depth - 1) ≡ otherTodo → h ≡ headAt w (r .depth - 1) →
+    n ≡ endAt w (h + 1) → p ≡ restAt w (r .depth - 1) → v ≡ envAt w (r .depth - 1) → w' ≡ set w (todoWord (r .depth - 1)) 0 → Up c o w r →
+    Down c o w' (dueRegs r (r .depth) (formulaDue w n p v) (r .inner) (r .bad))
+other-up {c} {o} {w} {w'} {r} {h} {n} {p} {v} some t eh en ep ev ew u =
     top-other
-    (λ fr. r .inner ≡ siteIn fr .inner → no c fr (u .e) (r .tallies) (u .b) ≡ c .result → Down c o w' (dueRegs r (r .depth) (formulaDue w n p) (r .inner) (r .bad)))
+    (λ fr. r .inner ≡ siteIn fr .inner → no c fr (u .e) (r .tallies) (u .b) ≡ c .result → Down c o w' (dueRegs r (r .depth) (formulaDue w n p v) (r .inner) (r .bad)))
     some t
-    (λ G is β fr P i q.
+    (λ E G is β fr P i q.
     let k = turned-kept P ew in
     let a = P .stack .0 in
     let eh′ : h ≡ headAt w (len fr) = eh ∙ ap (headAt w) (top-index P) in
     let at : n ≡ endAt (c .tables) (suc (headAt w (len fr))) = en ∙ rw (add-one, eh′) (end-here (c .tables) w (P .tokens) (a .1)) in
-    son-due r (u .e) (u .b) (the (form G ∷ is)) (turned P ew refl refl) i (u .bad)
-    (code-here (c .tables) w (P .tokens) (rw at (a .2)), rw at (a .2), rw at (a .3), rest-under P k is ep (a .4)) (u .out) (u .count) q)
+    son-due r (u .e) (u .b) (the (form E G ∷ is)) (turned P ew refl refl) i (u .bad)
+    (code-here (c .tables) w (P .tokens) (rw at (a .2)), rw at (a .2), rw at (a .3), env-under P k E ev (a .4), rest-under P k is ep (a .5)) (u .out) (u .count) q)
     (u .fr) (u .path) (u .inner) (u .result)

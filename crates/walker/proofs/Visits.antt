@@ -62,11 +62,11 @@ module _ {c : World} {o : Bytes} {w : Words} {r : Regs} (d : Down c o w r) where
 
 module _ {w : Words} {r q : Regs} {path budget : ℕ} where
   pub stops-spent : q ≡ stopRegs r spentEnd → r .mode ≡ downMode → r .tallies .nodes ≡ budget → Arrived w w r q path budget
-  stops-spent e m h = rw e (record { sim = λ c o p b d. over refl (no-budget d (h ∙ sym b)); falls = omega arith })
+  stops-spent e m h = rw e (record { sim = λ c o p b d. over (omega arith) (no-budget d (h ∙ sym b)); falls = omega arith })
 
   pub stops-path : q ≡ stopRegs r pathEnd → r .mode ≡ downMode → (r .tallies .nodes ≡ budget → ⊥) → path ≤ r .depth → Arrived w w r q path budget
   stops-path e m n h = rw e (record {
-    sim = λ c o p b d. over refl (no-path d (λ z. n (z ∙ b)) (omega (arith, p)));
+    sim = λ c o p b d. over (omega arith) (no-path d (λ z. n (z ∙ b)) (omega (arith, p)));
     falls = omega arith;
   })
 

@@ -6,12 +6,12 @@ use mathlib.Core.List.{List, _∷_}
 use Rattle.specification.specs.Place.{Place}
 use Rattle.specification.specs.Value.{Slot, Valuation}
 use Rattle.specification.specs.WellFormed.{Valid}
-use Rattle.tables.specs.Layout.{firstSlot}
+use Rattle.tables.specs.Layout.{firstSlot, procSlot}
 use Rattle.tables.specs.Kept.{Kept}
 use Rattle.sheet.specs.Tables.{Words}
 use Rattle.sheet.specs.Held.{Holds}
 use Rattle.walker.specs.Frame.{Frame, here, below, len, siteIn}
-use Rattle.walker.specs.Path.{World, InTable, Marks, FrameAt, Stack, Chain, Path}
+use Rattle.walker.specs.Path.{World, InTable, Marks, FrameAt, Stack, Chain, Procedures, Path}
 use Rattle.walker.proofs.Keep.{stack-keep}
 use Rattle.walker.proofs.Slots.{in-table, Altered}
 
@@ -28,6 +28,16 @@ altered-kept {w} {w'} {p} n h a =
 
 -- ---- the path
 
+pub procedures-kept : {c : World} {w w' : Words} {n : ℕ} → Kept n w w' → Procedures c w → Procedures c w'
+procedures-kept k p =
+    record {
+      none = p .none;
+      few = p .few;
+      ok = p .ok;
+      held = p .held;
+      same = λ K h. k .firsts (procSlot K) (omega arith) (omega arith) ∙ p .same K h;
+    }
+
 module _ {c : World} {w w' : Words} {d : ℕ} {α : Valuation} {fr : List Frame} (P : Path c w d α fr) where
   -- other frames in the words w'
   with-frames : {n d' : ℕ} (β : Valuation) (fr′ : List Frame) → Kept n w w' → d' ≡ len fr′ → d' ≤ c .setting .path → Stack c w' fr′ → Chain (c .declared) β fr′ →
@@ -39,6 +49,7 @@ module _ {c : World} {w w' : Words} {d : ℕ} {α : Valuation} {fr : List Frame}
     arrays = λ a b. k .firsts (firstSlot a) (omega arith) (omega arith) ∙ P .arrays a b;
     cells = P .cells;
     few = P .few;
+    procedures = procedures-kept k (P .procedures);
     deep = e;
     inside = i;
     stack = s;
@@ -51,7 +62,7 @@ module _ {c : World} {w w' : Words} {d : ℕ} {α : Valuation} {fr : List Frame}
   -- the same path
   pub path-kept : Kept d w w' → Holds w' α → Marks w' α (siteIn fr .marks) → Path c w' d α fr
   path-kept k h m =
-      with-frames α fr k (P .deep) (P .inside) (stack-keep c w w' fr (rw (P .deep) at (k .nodes)) (P .stack)) (P .chain) h m (P .valid)
+      with-frames α fr k (P .deep) (P .inside) (stack-keep c w w' fr (rw (P .deep) at k) (P .stack)) (P .chain) h m (P .valid)
 
   -- a frame more
   pub path-onto : (f : Frame) → d < c .setting .path → Kept d w w' → here f ≡ α → FrameAt c w' d (siteIn fr) f → Holds w' (below f) →
@@ -59,7 +70,7 @@ module _ {c : World} {w w' : Words} {d : ℕ} {α : Valuation} {fr : List Frame}
   path-onto f room k e q h m v =
       let deep = P .deep in
       with-frames (below f) (f ∷ fr) k (omega arith) (omega arith)
-      (subst (λ n. FrameAt c w' n (siteIn fr) f) deep q, stack-keep c w w' fr (rw deep at (k .nodes)) (P .stack))
+      (subst (λ n. FrameAt c w' n (siteIn fr) f) deep q, stack-keep c w w' fr (rw deep at k) (P .stack))
       (refl, rw e (P .valid), rw e (P .chain)) h m v
 
 module _ {c : World} {w w' : Words} {d : ℕ} {α : Valuation} {f : Frame} {fr : List Frame} (P : Path c w d α (f ∷ fr)) (k : Kept (len fr) w w') where
@@ -67,11 +78,11 @@ module _ {c : World} {w w' : Words} {d : ℕ} {α : Valuation} {f : Frame} {fr :
   pub path-top : (g : Frame) → here g ≡ here f → FrameAt c w' (len fr) (siteIn fr) g → Holds w' (below g) → Marks w' (below g) (siteIn (g ∷ fr) .marks) →
       Valid (c .declared) (below g) → Path c w' d (below g) (g ∷ fr)
   path-top g e q h m v =
-      with-frames P (below g) (g ∷ fr) k (P .deep) (P .inside) (q, stack-keep c w w' fr (k .nodes) (P .stack .1))
+      with-frames P (below g) (g ∷ fr) k (P .deep) (P .inside) (q, stack-keep c w w' fr k (P .stack .1))
       (refl, rw e (P .chain .1), rw e (P .chain .2)) h m v
 
   -- the topmost frame is left
   pub path-pop : Holds w' (here f) → Marks w' (here f) (siteIn fr .marks) → Path c w' (d - 1) (here f) fr
   path-pop h m =
-      with-frames P (here f) fr k (omega (arith, P .deep)) (omega (arith, P .inside)) (stack-keep c w w' fr (k .nodes) (P .stack .1)) (P .chain .2) h m
+      with-frames P (here f) fr k (omega (arith, P .deep)) (omega (arith, P .inside)) (stack-keep c w w' fr k (P .stack .1)) (P .chain .2) h m
       (P .chain .1)

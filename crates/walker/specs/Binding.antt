@@ -35,6 +35,7 @@ binderNode w r h todo current last = record {
   head = h;
   rest = r .due .rest;
   todo = todo;
+  env = r .due .env;
   slot = binderSlot w h;
   had = getD w (binderSlot w h) 0;
   old = getD w (binderSlot w h + 1) 0;

@@ -1,4 +1,5 @@
--- What is left of a walk: the items still to hold, and for each path node what is left to do there. Assumes nothing.
+-- What is left of a walk: the items still to hold, and for each path node what is left to do there. A formula stands here with its
+-- parameters, beside the environment that says what they stand for. Assumes nothing.
 use Prim.Native.Nat.{ℕ, suc}
 use mathlib.Core.Bool.{Bool, true, false}
 use mathlib.Core.List.{List, [], _∷_}
@@ -9,21 +10,23 @@ use Rattle.specification.specs.Place.{Place, local, put}
 use Rattle.specification.specs.Value.{Slot, full, Valuation}
 use Rattle.specification.specs.Tree.{Tree, successLeaf, failureLeaf, errorLeaf, Verdict, succeeds, denied, implied}
 use Rattle.specification.specs.Run.{Conditions, going}
+use Rattle.terms.specs.Environment.{Environment}
 use Rattle.walker.specs.Walk.{Next, flagged, sonsFrom, walk}
 use Rattle.walker.specs.Site.{Site, rootSite, sonSite, boundSite, givenSite, innerSite, roundsAt, doneAt, growAt}
+use Rattle.walker.specs.Stands.{filled}
 
 -- ---- items: a formula, or an `all` over the n values from v on
 
 pub data Item : Type 0 where
-  form : Formula → Item
-  again : ℕ → Formula → ℕ → ℤ → Item
+  form : Environment → Formula → Item
+  again : Environment → ℕ → Formula → ℕ → ℤ → Item
 
 module _ (D : Declared) where
   -- the tree of a list of items, from a site
   unfoldable pub treeItems : List Item → Site → Valuation → Tree
   treeItems [] s α = doneAt s α
-  treeItems (form F ∷ is) s α = growAt D F (λ t β. treeItems is t β) s α
-  treeItems (again l F n v ∷ is) s α = roundsAt (λ k t β. growAt D F k t β) l (λ t β. treeItems is t β) n v s α
+  treeItems (form E F ∷ is) s α = growAt D (filled E F) (λ t β. treeItems is t β) s α
+  treeItems (again E l F n v ∷ is) s α = roundsAt (λ k t β. growAt D (filled E F) k t β) l (λ t β. treeItems is t β) n v s α
 
 -- what is to be visited: a node with its list, or a leaf
 pub data What : Type 0 where
@@ -42,36 +45,36 @@ treeWhat D (error κ tok) s α = errorLeaf κ tok α
 -- what a verdict is asked for: `not`, or `imp` with its second part
 pub data Question : Type 0 where
   denying : Question
-  implying : Formula → Question
+  implying : Environment → Formula → Question
 
 pub data Frame : Type 0 where
   pass : Valuation → Frame
   -- the second part of an `or`, before these items
-  other : Formula → List Item → Valuation → Frame
+  other : Environment → Formula → List Item → Valuation → Frame
   -- a local that `ex` or `all` bound, with its slot
   bound : ℕ → Slot → Valuation → Frame
   -- a place that `eq` gave a value
   given : Place → ℤ → Valuation → Frame
   -- `some` for the local from a lower bound on: the present value's index, how many come after it, its formula before these items
-  range : ℕ → ℤ → ℕ → ℕ → Formula → List Item → Valuation → Frame
+  range : ℕ → ℤ → ℕ → ℕ → Environment → Formula → List Item → Valuation → Frame
   -- an inner tree that token asks for, before these items, and whether the tree around it has had an error leaf
   asks : ℕ → Question → List Item → Valuation → Bool → Frame
 
 -- the valuation at a node, and the one that its present son has
 abbrev pub here : Frame → Valuation
 here (pass α) = α
-here (other G is α) = α
+here (other E G is α) = α
 here (bound l s α) = α
 here (given p v α) = α
-here (range l x i n F is α) = α
+here (range l x i n E F is α) = α
 here (asks tok q is α e) = α
 
 abbrev pub below : Frame → Valuation
 below (pass α) = α
-below (other G is α) = α
+below (other E G is α) = α
 below (bound l s α) = put α (local l) s
 below (given p v α) = put α p (full v)
-below (range l x i n F is α) = put α (local l) (full (x +ℤ pos i))
+below (range l x i n E F is α) = put α (local l) (full (x +ℤ pos i))
 below (asks tok q is α e) = α
 
 abbrev pub len : List Frame → ℕ
@@ -82,26 +85,26 @@ len (f ∷ fr) = suc (len fr)
 abbrev pub innerIn : List Frame → Bool
 innerIn [] = false
 innerIn (pass α ∷ fr) = innerIn fr
-innerIn (other G is α ∷ fr) = innerIn fr
+innerIn (other E G is α ∷ fr) = innerIn fr
 innerIn (bound l s α ∷ fr) = innerIn fr
 innerIn (given p v α ∷ fr) = innerIn fr
-innerIn (range l x i n F is α ∷ fr) = innerIn fr
+innerIn (range l x i n E F is α ∷ fr) = innerIn fr
 innerIn (asks tok q is α e ∷ fr) = true
 
 -- the site of those sons
 abbrev pub siteIn : List Frame → Site
 siteIn [] = rootSite
 siteIn (pass α ∷ fr) = sonSite (siteIn fr)
-siteIn (other G is α ∷ fr) = sonSite (siteIn fr)
+siteIn (other E G is α ∷ fr) = sonSite (siteIn fr)
 siteIn (bound l s α ∷ fr) = boundSite l (siteIn fr)
 siteIn (given p v α ∷ fr) = givenSite p (siteIn fr)
-siteIn (range l x i n F is α ∷ fr) = boundSite l (siteIn fr)
+siteIn (range l x i n E F is α ∷ fr) = boundSite l (siteIn fr)
 siteIn (asks tok q is α e ∷ fr) = innerSite (siteIn fr)
 
 -- the son that a verdict leads to, from a site
 abbrev pub sonOf : Declared → ℕ → Question → List Item → Verdict → Site → Valuation → Tree
 sonOf D tok denying is v s α = denied tok v (λ β. treeItems D is s β) α
-sonOf D tok (implying G) is v s α = implied tok v (λ β. treeItems D (form G ∷ is) s β) (λ β. treeItems D is s β) α
+sonOf D tok (implying E G) is v s α = implied tok v (λ β. treeItems D (form E G ∷ is) s β) (λ β. treeItems D is s β) α
 
 -- ---- what is left once the present son of the topmost node is finished: after a success leaf of an inner tree, and otherwise
 
@@ -109,20 +112,20 @@ module _ (C : Conditions) where
   -- of one frame at a site, whose sons have paths of d, in an inner tree or not
   abbrev pub yesOf : Frame → Site → ℕ → Bool → Next → (Bool → Next) → Next
   yesOf (pass α) u d m y k = y
-  yesOf (other G is α) u d m y k = y
+  yesOf (other E G is α) u d m y k = y
   yesOf (bound l s α) u d m y k = y
   yesOf (given p v α) u d m y k = y
-  yesOf (range l x i n F is α) u d m y k = y
+  yesOf (range l x i n E F is α) u d m y k = y
   yesOf (asks tok q is α e) u d m y k = walk C m d (sonOf (C .declared) tok q is succeeds (sonSite u) α) y k e
 
   abbrev pub restOf : Frame → Site → ℕ → Bool → Next → (Bool → Next) → Bool → Next
   restOf (pass α) u d m y k = k
-  restOf (other G is α) u d m y k = λ e. walk C m d (treeItems (C .declared) (form G ∷ is) (sonSite u) α) y k e
+  restOf (other E G is α) u d m y k = λ e. walk C m d (treeItems (C .declared) (form E G ∷ is) (sonSite u) α) y k e
   restOf (bound l s α) u d m y k = k
   restOf (given p v α) u d m y k = k
-  restOf (range l x i n F is α) u d m y k =
+  restOf (range l x i n E F is α) u d m y k =
       λ e. sonsFrom C n (suc i)
-      (λ j k′ e′. walk C m d (treeItems (C .declared) (form F ∷ is) (boundSite l u) (put α (local l) (full (x +ℤ pos j)))) y k′ e′) k e
+      (λ j k′ e′. walk C m d (treeItems (C .declared) (form E F ∷ is) (boundSite l u) (put α (local l) (full (x +ℤ pos j)))) y k′ e′) k e
   restOf (asks tok q is α e) u d m y k = λ e′. walk C m d (sonOf (C .declared) tok q is (flagged e′) (sonSite u) α) y k e
 
   abbrev mutual

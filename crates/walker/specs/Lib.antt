@@ -2,9 +2,10 @@
 pub mod States
 pub mod Walk
 pub mod Site
-pub mod Frame
 pub mod Stands
+pub mod Frame
 pub mod Path
+pub mod Made
 pub mod Registers
 pub mod Sim
 pub mod Steps

@@ -15,8 +15,9 @@ use Rattle.walker.specs.declared.Regs.{Regs}
 use Rattle.walker.specs.Walk as walks
 use Rattle.walker.specs.Frame.{What, treeWhat, Frame, innerIn, siteIn, resumeYes, resume}
 use Rattle.walker.specs.Site.{sonSite}
-use Rattle.walker.specs.Path.{World, conditionsOf, Job, bit, Path, Output, Count}
-use Rattle.walker.specs.States.{overMode, downMode, upMode, wonMode, blockMode, successJob, errorJob}
+use Rattle.walker.specs.Path.{World, conditionsOf, Job, bit, Path}
+use Rattle.walker.specs.Made.{Output, Count}
+use Rattle.walker.specs.States.{downMode, upMode, wonMode, blockMode, successJob, errorJob}
 
 -- ---- the states of a walk
 
@@ -115,14 +116,14 @@ pub record Leaf (c : World) (o : Bytes) (w : Words) (r : Regs) : Type 0 where
   pub leaves : r .tallies .answers + r .tallies .errors + r .tallies .fails < r .tallies .nodes
   pub result : walks.leaf (conditionsOf c) v (no c fr e) (r .tallies) b ≡ c .result
 
--- the walk is over; the number of its end stands in a word
+-- the walk is over; the mode is the number of its end
 pub record Over (c : World) (o : Bytes) (r : Regs) : Type 0 where
   pub b : Bytes
   pub out : Output c o (r .written) b
-  pub result : ran (endFrom (r .end)) (r .tallies) b ≡ resultOf (c .result)
+  pub result : ran (endFrom (r .mode)) (r .tallies) b ≡ resultOf (c .result)
 
 pub data Sim (c : World) (o : Bytes) (w : Words) (r : Regs) : Type 0 where
-  over : r .mode ≡ overMode → Over c o r → Sim c o w r
+  over : r .mode < downMode → Over c o r → Sim c o w r
   down : r .mode ≡ downMode → Down c o w r → Sim c o w r
   up : r .mode ≡ upMode → Up c o w r → Sim c o w r
   won : r .mode ≡ wonMode → Yes c o w r → Sim c o w r

@@ -6,7 +6,7 @@ use lib.Dec.{ltb, eqb}
 use lib.IntN.{ℤ, pos, _+ℤ_}
 use Rattle.specification.specs.Bytes.{pick}
 use Rattle.specification.specs.Lines.{Declared}
-use Rattle.specification.specs.Ast.{Formula, truth, and, or, imp, neg, eq, compare, ex, some, all}
+use Rattle.specification.specs.Ast.{Formula, truth, and, or, imp, neg, eq, compare, ex, some, all, call}
 use Rattle.specification.specs.Arithmetic.{noValue, undecidedInside, eqZ, count}
 use Rattle.specification.specs.Place.{Place, local, put}
 use Rattle.specification.specs.Value.{empty, full, Side, val, bare, err, pairOf, side}
@@ -88,3 +88,4 @@ module _ (D : Declared) where
       (λ x y β. sons x (count x y) (λ i. growAt F k (boundSite l s) (put β (local l) (full (x +ℤ pos i))))) α
   growAt (all tok l a b F) k s α =
       bounded tok (pairOf (side D α a) (side D α b)) (λ x y. roundsAt (λ k′ t β. growAt F k′ t β) l k (count x y) x s) α
+  growAt (call K ts F) k s α = step (growAt F k (sonSite s) α)

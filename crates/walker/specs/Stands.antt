@@ -1,39 +1,47 @@
--- A formula that stands in the tables, the formula under a quantifier, and the values left to it. Assumes nothing.
+-- A formula that stands in the tables, in an environment that says what its parameters stand for; the formula under a quantifier, and the values
+-- left to it. Assumes nothing.
 use Prim.Native.Nat.{ℕ, suc, _-_, _≤_, _<_}
 use mathlib.Core.Path.{_≡_}
 use lib.Dec.{T}
 use lib.IntN.{ℤ, pos, _+ℤ_}
 use Rattle.specification.specs.Lines.{Declared}
 use Rattle.specification.specs.Ast.{Formula}
+use Rattle.specification.specs.Fill.{fill}
 use Rattle.specification.specs.WellFormed.{Scope, Ok}
 use Rattle.values.specs.Word.{signed}
 use Rattle.tables.specs.Layout.{maxTokens, maxLocals}
 use Rattle.sheet.specs.Tables.{Words}
 use Rattle.sheet.specs.Held.{endAt, LocalAt, FormulaAt, Shallow}
+use Rattle.terms.specs.Environment.{Environment, termsOf, numberOf}
 
-pub record Good (D : Declared) (F : Formula) : Type 0 where
+-- F with the environment's terms in place of its parameters
+abbrev pub filled : Environment → Formula → Formula
+filled E F = fill (termsOf E) F
+
+pub record Good (D : Declared) (E : Environment) (F : Formula) : Type 0 where
   pub scope : Scope
   pub locals : (l : ℕ) → T (scope l) → l < maxLocals
-  pub ok : Ok D scope F
-  pub shallow : Shallow F
+  pub ok : Ok D scope (filled E F)
+  -- it calls procedures earlier than the environment's only
+  pub shallow : Shallow (numberOf E) F
 
 -- F stands from token i of the tables t on
-pub record Stands (D : Declared) (t : Words) (i : ℕ) (F : Formula) : Type 0 where
+pub record Stands (D : Declared) (t : Words) (E : Environment) (i : ℕ) (F : Formula) : Type 0 where
   pub held : FormulaAt t i F
-  pub good : Good D F
+  pub good : Good D E F
 
 -- the formula under a `some` or `all` whose token is h
 abbrev pub bodyOf : Words → ℕ → ℕ
 bodyOf t h = endAt t (endAt t (suc (suc h)))
 
 -- token h is a quantifier over the local l, of F
-pub record Binds (D : Declared) (t : Words) (h l : ℕ) (F : Formula) : Type 0 where
+pub record Binds (D : Declared) (t : Words) (E : Environment) (h l : ℕ) (F : Formula) : Type 0 where
   pub near : suc (suc h) < maxTokens
   pub middle : endAt t (suc (suc h)) < maxTokens
   pub local : LocalAt t (suc h) l
   pub small : l < maxLocals
   pub inside : bodyOf t h < maxTokens
-  pub body : Stands D t (bodyOf t h) F
+  pub body : Stands D t E (bodyOf t h) F
 
 -- n values are left after the word `current`, up to the word `last`, and v is the lowest
 pub record LeftAfter (current last n : ℕ) (v : ℤ) : Type 0 where

@@ -3,24 +3,22 @@
 use Prim.Native.Nat.{ℕ, _+_}
 use Rattle.specification.specs.declared.End.the-variants.{Done, Spent, Path, Output}
 use Rattle.specification.specs.Report.{endNumber}
-use Rattle.tables.specs.Codes.{badConstantCode}
+use Rattle.tables.specs.Codes.{lastCode}
 
--- ---- modes: the walk is over, a visit is due, a son is finished, an inner tree has succeeded, a block is due
-
-abbrev pub overMode : ℕ
-overMode = 0
+-- ---- modes: a visit is due, a son is finished, an inner tree has succeeded, a block is due; below these the walk is over, and the mode is the
+-- number of its end
 
 abbrev pub downMode : ℕ
-downMode = 1
+downMode = 4
 
 abbrev pub upMode : ℕ
-upMode = 2
+upMode = 5
 
 abbrev pub wonMode : ℕ
-wonMode = 3
+wonMode = 6
 
 abbrev pub blockMode : ℕ
-blockMode = 4
+blockMode = 7
 
 -- ---- jobs that are no formula's code: the empty list; above every code an `all` that goes on and the three leaves
 
@@ -28,16 +26,16 @@ abbrev pub emptyJob : ℕ
 emptyJob = 0
 
 abbrev pub againJob : ℕ
-againJob = badConstantCode + 1
+againJob = lastCode + 1
 
 abbrev pub successJob : ℕ
-successJob = badConstantCode + 2
+successJob = lastCode + 2
 
 abbrev pub failureJob : ℕ
-failureJob = badConstantCode + 3
+failureJob = lastCode + 3
 
 abbrev pub errorJob : ℕ
-errorJob = badConstantCode + 4
+errorJob = lastCode + 4
 
 -- ---- what is left to do at a node: nothing, the second son of an `or`, a slot to put back, the next value of a `some`, an inner tree to judge
 

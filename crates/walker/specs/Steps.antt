@@ -22,6 +22,7 @@ use Rattle.sheet.specs.Held.{codeAt, slotOf}
 use Rattle.sheet.specs.Codes.{relCode}
 use Rattle.terms.specs.declared.Sides.{Sides}
 use Rattle.terms.specs.Results.{valueTag, bareTag}
+use Rattle.terms.specs.Environment.{Environment, EnvAt}
 use Rattle.walker.specs.declared.Due.{Due}
 use Rattle.walker.specs.declared.Regs.{Regs}
 use Rattle.walker.specs.Frame.{Item, form, again, What, the, treeItems, siteIn}
@@ -109,12 +110,13 @@ pub record Opens (w : Words) (r : Regs) (low high : ℕ) : Type 0 where
   pub at : Entered w r someCode
   pub sons :
       (c : World) (o : Bytes) (i : In c o w r) →
-      (l : ℕ) × (F : Formula) × (n : ℕ) × (x : ℤ) × (is : List Item)
+      (E : Environment) × (l : ℕ) × (F : Formula) × (n : ℕ) × (x : ℤ) × (is : List Item)
       × (tree c (i .fr) (i .x) (i .α)
-      ≡ fan x (suc n) (λ j. treeItems (c .declared) (form F ∷ is) (boundSite l (siteIn (i .fr))) (put (i .α) (local l) (full (x +ℤ pos j)))))
-      × Binds (c .declared) (c .tables) (r .due .head) l F
+      ≡ fan x (suc n) (λ j. treeItems (c .declared) (form E F ∷ is) (boundSite l (siteIn (i .fr))) (put (i .α) (local l) (full (x +ℤ pos j)))))
+      × Binds (c .declared) (c .tables) E (r .due .head) l F
       × LeftAfter low high n (x +ℤ pos 1)
       × (signed low ≡ x)
+      × EnvAt (c .declared) w (r .depth) (r .due .env) E
       × Pend c w (r .depth) (r .due .rest) is
 
 -- an `all` at token h that takes the word `value`, and the values up to the word `last` later
@@ -123,12 +125,13 @@ pub record Rounds (w : Words) (r : Regs) (h value last : ℕ) : Type 0 where
   pub code : codeAt w h ≡ allCode
   pub son :
       (c : World) (o : Bytes) (i : In c o w r) →
-      (l : ℕ) × (F : Formula) × (n : ℕ) × (v : ℤ) × (is : List Item)
+      (E : Environment) × (l : ℕ) × (F : Formula) × (n : ℕ) × (v : ℤ) × (is : List Item)
       × (tree c (i .fr) (i .x) (i .α)
-      ≡ step (treeItems (c .declared) (form F ∷ again l F n (v +ℤ pos 1) ∷ is) (boundSite l (siteIn (i .fr))) (put (i .α) (local l) (full v))))
-      × Binds (c .declared) (c .tables) h l F
+      ≡ step (treeItems (c .declared) (form E F ∷ again E l F n (v +ℤ pos 1) ∷ is) (boundSite l (siteIn (i .fr))) (put (i .α) (local l) (full v))))
+      × Binds (c .declared) (c .tables) E h l F
       × LeftAfter value last n (v +ℤ pos 1)
       × (signed value ≡ v)
+      × EnvAt (c .declared) w (r .depth) (r .due .env) E
       × Pend c w (r .depth) (r .due .rest) is
 
 -- the kind of the error of a side without a value

@@ -10,19 +10,20 @@ use Rattle.specification.specs.WellFormed.{WellFormed}
 use Rattle.specification.specs.Run.{tallies}
 use Rattle.specification.specs.Outcome.{ran, resultOf, start, runOf, outcome, outputAfter}
 use Rattle.specification.specs.Report.{endFrom}
-use Rattle.tables.specs.Layout.{nodeSlot, maxPath}
+use Rattle.tables.specs.Layout.{nodeSlot, maxProcs, maxPath}
 use Rattle.sheet.specs.Tables.{Words}
-use Rattle.sheet.specs.Held.{Holds, Unmarked, ArraysAt}
+use Rattle.sheet.specs.Held.{FormulaAt, Shallow, Holds, Unmarked, ArraysAt, ProceduresAt}
 use Rattle.walker.specs.declared.Regs.{Regs}
 use Rattle.walker.specs.declared.Task.{Task}
-use Rattle.walker.specs.Stands.{Stands}
 use Rattle.walker.specs.Registers.{formulaDue}
-use Rattle.walker.specs.States.{downMode, doneEnd, mainTree}
+use Rattle.walker.specs.States.{downMode, mainTree}
 
 -- the work words hold the sheet's tables, with room for the path
 pub record Ready (w : Words) (t : Task) (s : Sheet) : Type 0 where
   pub well : WellFormed s
-  pub formula : Stands (s .declared) w (t .formula) (s .formula)
+  pub formula : FormulaAt w (t .formula) (s .formula)
+  pub shallow : Shallow maxProcs (s .formula)
+  pub procedures : ProceduresAt w (s .declared)
   pub holds : Holds w (start (s .given))
   pub unmarked : Unmarked w (start (s .given))
   pub firsts : ArraysAt w (s .declared)
@@ -40,17 +41,16 @@ abbrev pub startRegs : Words → ℕ → Regs
 startRegs w formula = record {
   mode = downMode;
   depth = 0;
-  due = formulaDue w formula 0;
+  due = formulaDue w formula 0 0;
   inner = mainTree;
   bad = 0;
-  end = doneEnd;
   tallies = tallies 0 0 0 0;
   written = 0;
 }
 
 -- the walk is over: its registers and the output are those of the sheet's run
 pub record Finished (w w' : Words) (o o' : Bytes) (t : Task) (r : Regs) : Type 0 where
-  pub run : (s : Sheet) → Ready w t s → (b : Bytes) × (ran (endFrom (r .end)) (r .tallies) b ≡ resultOf (runOf s (t .setting) (length o))) × (r .written ≡ length b) × (o' ≡ b ++ drop (length b) o)
+  pub run : (s : Sheet) → Ready w t s → (b : Bytes) × (ran (endFrom (r .mode)) (r .tallies) b ≡ resultOf (runOf s (t .setting) (length o))) × (r .written ≡ length b) × (o' ≡ b ++ drop (length b) o)
   pub words : length w' ≡ length w
   pub size : length o' ≡ length o
 

@@ -25,6 +25,7 @@ fn assign(w: &mut [u32], r: Regs, slot: u32, value: u32) -> Regs
         head: r.due.head,
         rest: r.due.rest,
         todo: todos::UNDO,
+        env: r.due.env,
         slot,
         had: 0,
         old: mark,
@@ -55,7 +56,7 @@ pub(crate) fn enter_eq(w: &mut [u32], r: Regs) -> Regs
 {
     let h = r.due.head;
     let e = tables::end(w, h);
-    let s = terms::evaluation::sides(w, h + 1, e);
+    let s = terms::evaluation::sides(w, h + 1, e, r.due.env);
     if s.ltag == tags::ERROR {
         return sons::err(w, r, s.left);
     }
@@ -126,7 +127,7 @@ pub(crate) fn enter_compare(w: &mut [u32], r: Regs, code: u32) -> Regs
 {
     let h = r.due.head;
     let e = tables::end(w, h);
-    let s = terms::evaluation::sides(w, h + 1, e);
+    let s = terms::evaluation::sides(w, h + 1, e, r.due.env);
     if !valued(s) {
         return sons::err(w, r, fault(s));
     }

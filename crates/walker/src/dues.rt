@@ -12,11 +12,11 @@ use tables::codes;
 use tables::nodes;
 
 // The formula at token i.
-pub(crate) fn formula(w: &[u32], i: u32, rest: u32) -> Due
+pub(crate) fn formula(w: &[u32], i: u32, rest: u32, env: u32) -> Due
     requires { ⌜ tokenSlot i < length (now w) ⌝ }
-    ensures { λ d. ⌜ d ≡ formulaDue (now (w .entry)) i rest ⌝ }
+    ensures { λ d. ⌜ d ≡ formulaDue (now (w .entry)) i rest env ⌝ }
 {
-    registers::plain_due(tables::code(w, i), i, rest)
+    registers::plain_due(tables::code(w, i), i, rest, env)
 }
 
 // The list that pointer p stands for: what comes first in it, and the pointer to the rest. The cons that an `and` node adds is its second
@@ -26,13 +26,14 @@ pub(crate) fn list_at(w: &[u32], p: u32) -> Due
     ensures { λ d. ⌜ Listed (now (w .entry)) p d ⌝ }
 {
     if p == 0 {
-        return registers::plain_due(jobs::EMPTY, 0, 0);
+        return registers::bare_due(jobs::EMPTY);
     }
     let k = p - 1;
     let h = nodes::head_of(w, k);
     let q = nodes::rest_of(w, k);
+    let env = nodes::env_of(w, k);
     if tables::code(w, h) == codes::AND {
-        return formula(w, tables::end(w, h + 1), q);
+        return formula(w, tables::end(w, h + 1), q, env);
     }
-    registers::plain_due(jobs::AGAIN, p, q)
+    registers::plain_due(jobs::AGAIN, p, q, env)
 }

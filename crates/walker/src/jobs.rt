@@ -5,13 +5,13 @@ use tables::codes;
 pub(crate) const EMPTY: u32 = 0;
 
 // An `all` that goes on.
-pub(crate) const AGAIN: u32 = codes::BAD_CONSTANT + 1;
+pub(crate) const AGAIN: u32 = codes::LAST + 1;
 
 // A success leaf.
-pub(crate) const SUCCESS: u32 = codes::BAD_CONSTANT + 2;
+pub(crate) const SUCCESS: u32 = codes::LAST + 2;
 
 // A failure leaf.
-pub(crate) const FAILURE: u32 = codes::BAD_CONSTANT + 3;
+pub(crate) const FAILURE: u32 = codes::LAST + 3;
 
 // An error leaf.
-pub(crate) const ERROR: u32 = codes::BAD_CONSTANT + 4;
+pub(crate) const ERROR: u32 = codes::LAST + 4;

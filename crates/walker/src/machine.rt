@@ -15,6 +15,7 @@ use crate::dues;
 use crate::inner;
 use crate::jobs;
 use crate::modes;
+use crate::procedures;
 use crate::quantifiers;
 use crate::registers;
 use crate::rise;
@@ -63,6 +64,7 @@ fn enter(w: &mut [u32], r: Regs) -> Regs
         codes::EX => quantifiers::enter_ex(w, r),
         codes::SOME => quantifiers::enter_some(w, r),
         codes::ALL => quantifiers::enter_all(w, r),
+        codes::CALL => procedures::enter_call(w, r),
         jobs::AGAIN => quantifiers::enter_again(w, r),
         jobs::SUCCESS | jobs::FAILURE | jobs::ERROR => at_leaf(r),
         _ => atoms::enter_compare(w, r, job),
@@ -175,7 +177,7 @@ fn start(w: &[u32], formula: u32) -> Regs
     requires { ⌜ tokenSlot formula < length (now w) ⌝ }
     ensures { λ r. ⌜ r ≡ startRegs (now (w .entry)) formula ⌝ }
 {
-    let d = dues::formula(w, formula, 0);
+    let d = dues::formula(w, formula, 0, 0);
     let t = Tallies {
         nodes: 0,
         answers: 0,
@@ -188,7 +190,6 @@ fn start(w: &[u32], formula: u32) -> Regs
         due: d,
         inner: inner::MAIN,
         bad: 0,
-        end: registers::DONE,
         tallies: t,
         written: 0,
     }
@@ -211,7 +212,7 @@ pub fn walk_tables(w: &mut [u32], out: &mut [u8], task: Task) -> Outcome
     ensures { λ r. ⌜ Walked (now (w .entry)) (now (w .exit)) (now (out .entry)) (now (out .exit)) task r ⌝ }
 {
     let r = walk(w, out, task);
-    let end = registers::end_of(r.end);
+    let end = registers::end_of(r.mode);
     let t = r.tallies;
     Outcome::Ran {
         end,

@@ -34,6 +34,7 @@ fn binder(w: &[u32], r: Regs, head: u32, todo: u32, current: u32, last: u32) -> 
         head,
         rest: r.due.rest,
         todo,
+        env: r.due.env,
         slot,
         had,
         old,
@@ -54,12 +55,12 @@ fn body(w: &[u32], h: u32) -> u32
 }
 
 // The values of the two bounds of the quantifier at token h.
-fn bounds(w: &mut [u32], h: u32) -> Sides
-    requires { ⌜ Middle (now w) h × Asked (now w) (h + afterLocal) (bodyOf (now w) h) ⌝ }
-    ensures { λ s. ⌜ Valued (now (w .entry)) (now (w .exit)) (h + afterLocal) (bodyOf (now (w .entry)) h) s ⌝ }
+fn bounds(w: &mut [u32], h: u32, env: u32) -> Sides
+    requires { ⌜ Middle (now w) h × Asked (now w) (h + afterLocal) (bodyOf (now w) h) env ⌝ }
+    ensures { λ s. ⌜ Valued (now (w .entry)) (now (w .exit)) (h + afterLocal) (bodyOf (now (w .entry)) h) env s ⌝ }
 {
     let e = body(w, h);
-    terms::evaluation::sides(w, h + AFTER_LOCAL, e)
+    terms::evaluation::sides(w, h + AFTER_LOCAL, e, env)
 }
 
 // `ex`: its formula, the local without a value, then the rest. Its mark (inner.rt) is one more than this node's depth.
@@ -69,7 +70,7 @@ pub(crate) fn enter_ex(w: &mut [u32], r: Regs) -> Regs
 {
     let n = binder(w, r, r.due.head, todos::UNDO, 0, 0);
     changes::alter(w, r.depth, n, 0, r.depth + 1);
-    let d = dues::formula(w, r.due.head + AFTER_LOCAL, r.due.rest);
+    let d = dues::formula(w, r.due.head + AFTER_LOCAL, r.due.rest, r.due.env);
     registers::due(r, r.depth + 1, d, r.inner, r.bad)
 }
 
@@ -81,7 +82,7 @@ fn open(w: &mut [u32], r: Regs, low: u32, high: u32) -> Regs
     let b = body(w, r.due.head);
     let n = binder(w, r, r.due.head, todos::NEXT, low, high);
     changes::alter(w, r.depth, n, 1, low);
-    let d = dues::formula(w, b, r.due.rest);
+    let d = dues::formula(w, b, r.due.rest, r.due.env);
     registers::due(r, r.depth + 1, d, r.inner, r.bad)
 }
 
@@ -89,7 +90,7 @@ pub(crate) fn enter_some(w: &mut [u32], r: Regs) -> Regs
     requires { ⌜ Entered (now w) r someCode ⌝ }
     ensures { λ q. ⌜ Stepped (now (w .entry)) (now (w .exit)) r q ⌝ }
 {
-    let s = bounds(w, r.due.head);
+    let s = bounds(w, r.due.head, r.due.env);
     if !atoms::valued(s) {
         return sons::err(w, r, atoms::fault(s));
     }
@@ -108,7 +109,7 @@ fn round(w: &mut [u32], r: Regs, head: u32, value: u32, last: u32) -> Regs
     let b = body(w, head);
     let n = binder(w, r, head, todos::UNDO, value, last);
     changes::alter(w, r.depth, n, 1, value);
-    let d = dues::formula(w, b, r.depth + 1);
+    let d = dues::formula(w, b, r.depth + 1, r.due.env);
     registers::due(r, r.depth + 1, d, r.inner, r.bad)
 }
 
@@ -116,7 +117,7 @@ pub(crate) fn enter_all(w: &mut [u32], r: Regs) -> Regs
     requires { ⌜ Entered (now w) r allCode ⌝ }
     ensures { λ q. ⌜ Stepped (now (w .entry)) (now (w .exit)) r q ⌝ }
 {
-    let s = bounds(w, r.due.head);
+    let s = bounds(w, r.due.head, r.due.env);
     if !atoms::valued(s) {
         return sons::err(w, r, atoms::fault(s));
     }

@@ -18,13 +18,13 @@ same-length c = search needs
 returns : tie.Need-returns
 returns c = search needs
 
-plain-due-requires : tie.Need-plain-due-requires
-plain-due-requires c κs = search needs
+bare-due-requires : tie.Need-bare-due-requires
+bare-due-requires c κs = search needs
 
 to-leaf-requires-2 : tie.Need-to-leaf-requires-2
 to-leaf-requires-2 c κs =
     let (v, j) = c .before .before .before .before .before .pre in
-    rw (c .before .plain-due .ensures) (empty-success v j (c .before .before .if1 .left))
+    rw (c .before .bare-due .ensures) (empty-success v j (c .before .before .if1 .left))
 
 same-length-2 : tie.Need-same-length-2
 same-length-2 c = search needs
@@ -35,4 +35,4 @@ returns-2 c = search needs
 pub enter-empty-spec : {M : Type 1} → statement M
 enter-empty-spec =
     tie.close
-    (tie.spec error-due-requires to-leaf-requires same-length returns plain-due-requires to-leaf-requires-2 same-length-2 returns-2)
+    (tie.spec error-due-requires to-leaf-requires same-length returns bare-due-requires to-leaf-requires-2 same-length-2 returns-2)

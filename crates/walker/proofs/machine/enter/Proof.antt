@@ -2,7 +2,7 @@
 use borrow.Author.Needs.{needs}
 use native.Mathlib.Omega.{arith}
 use mathlib.Core.Logic.{⊎-elim, inl, inr}
-use Rattle.tables.specs.Codes.{trueCode, andCode, orCode, eqCode, exCode, someCode, allCode}
+use Rattle.tables.specs.Codes.{trueCode, andCode, orCode, eqCode, exCode, someCode, allCode, callCode}
 use Rattle.walker.proofs.Enters.{entered, entered-inner, leaf-due, leaf-stepped, entered-compare}
 use Rattle.walker.proofs.machine.enter.Statement.{statement}
 use Rattle.walker.proofs.machine.enter.Tie as tie
@@ -47,16 +47,22 @@ enter-all-requires c κs =
     let start = c .before .before .before in
     entered allCode (start .pre) (c .before .match .keys8) (omega arith) (omega arith)
 
+enter-call-requires : tie.Need-enter-call-requires
+enter-call-requires c κs =
+    let start = c .before .before .before in
+    entered callCode (start .pre) (c .before .match .keys9) (omega arith) (omega arith)
+
 enter-again-requires : tie.Need-enter-again-requires
 enter-again-requires c κs =
     let start = c .before .before .before in
-    ((start .pre), (c .before .match .keys9))
+    ((start .pre), (c .before .match .keys10))
 
 enter-inner-requires : tie.Need-enter-inner-requires
 enter-inner-requires c κs =
     let at-match = c .before .before in
     let start = at-match .before .before in
-    entered-inner (start .pre) (at-match .match .rest .0 .0 .0 .0 .0 .0 .0 .0 .1) (at-match .match .rest .0 .0 .0 .0 .0 .0 .0 .1) (at-match .match .rest .0 .0 .0 .0 .0 .0 .1) (at-match .match .rest .0 .0 .0 .0 .0 .1) (c .before .if1 .taken)
+    let n = at-match .match .rest .0 .0 .0 .0 .0 .0 in
+    entered-inner (start .pre) (n .0 .0 .0 .1) (n .0 .0 .1) (n .0 .1) (n .1) (c .before .if1 .taken)
 
 at-leaf-requires : tie.Need-at-leaf-requires
 at-leaf-requires c κs =
@@ -69,7 +75,8 @@ enter-compare-requires c κs =
     let at-match = c .before .before .before in
     let start = at-match .before .before in
     let n = at-match .match .rest in
-    entered-compare (start .pre) (n .0 .0 .0 .0 .1) (n .0 .0 .0 .1) (n .0 .0 .1) (n .0 .1) (c .before .before .if1 .left) (⊎-elim (λ h. inl (h .taken)) (λ h. inr (h .1 .left)) (c .before .if2 .came))
+    entered-compare (start .pre) (n .0 .0 .0 .0 .0 .1) (n .0 .0 .0 .0 .1) (n .0 .0 .0 .1) (n .0 .0 .1) (n .0 .1) (c .before .before .if1 .left)
+    (⊎-elim (λ h. inl (h .taken)) (λ h. inr (h .1 .left)) (c .before .if2 .came))
 
 same-length : tie.Need-same-length
 same-length c = search needs
@@ -123,22 +130,28 @@ same-length-9 : tie.Need-same-length-9
 same-length-9 c = search needs
 
 returns-9 : tie.Need-returns-9
-returns-9 c = (c .before .before .enter-again .ensures)
+returns-9 c = (c .before .before .enter-call .ensures)
 
 same-length-10 : tie.Need-same-length-10
 same-length-10 c = search needs
 
 returns-10 : tie.Need-returns-10
-returns-10 c = (c .before .before .enter-inner .ensures)
-
-returns-11 : tie.Need-returns-11
-returns-11 c = leaf-stepped (c .at-leaf .ensures)
+returns-10 c = (c .before .before .enter-again .ensures)
 
 same-length-11 : tie.Need-same-length-11
 same-length-11 c = search needs
 
+returns-11 : tie.Need-returns-11
+returns-11 c = (c .before .before .enter-inner .ensures)
+
 returns-12 : tie.Need-returns-12
-returns-12 c = (c .before .before .enter-compare .ensures)
+returns-12 c = leaf-stepped (c .at-leaf .ensures)
+
+same-length-12 : tie.Need-same-length-12
+same-length-12 c = search needs
+
+returns-13 : tie.Need-returns-13
+returns-13 c = (c .before .before .enter-compare .ensures)
 
 pub enter-spec : {M : Type 1} → statement M
-enter-spec = tie.close (tie.spec enter-empty-requires enter-true-requires enter-and-requires enter-or-requires enter-eq-requires enter-ex-requires enter-some-requires enter-all-requires enter-again-requires enter-inner-requires at-leaf-requires enter-compare-requires same-length returns same-length-2 returns-2 same-length-3 returns-3 same-length-4 returns-4 same-length-5 returns-5 same-length-6 returns-6 same-length-7 returns-7 same-length-8 returns-8 same-length-9 returns-9 same-length-10 returns-10 returns-11 same-length-11 returns-12)
+enter-spec = tie.close (tie.spec enter-empty-requires enter-true-requires enter-and-requires enter-or-requires enter-eq-requires enter-ex-requires enter-some-requires enter-all-requires enter-call-requires enter-again-requires enter-inner-requires at-leaf-requires enter-compare-requires same-length returns same-length-2 returns-2 same-length-3 returns-3 same-length-4 returns-4 same-length-5 returns-5 same-length-6 returns-6 same-length-7 returns-7 same-length-8 returns-8 same-length-9 returns-9 same-length-10 returns-10 same-length-11 returns-11 returns-12 same-length-12 returns-13)

@@ -1,5 +1,6 @@
 -- `machine::step` meets its contract: a visit, up, a block, and up again.
 use borrow.Author.Needs.{needs}
+use mathlib.Core.Path.{_∙_}
 use Rattle.walker.proofs.Moves.{live-visit, visited-climbs, climbed-runs, settled-climbs, moved}
 use Rattle.walker.proofs.machine.step.Statement.{statement}
 use Rattle.walker.proofs.machine.step.Tie as tie
@@ -31,7 +32,12 @@ climb-requires-2 c κs =
     settled-climbs (start .pre) (at-visit .visit .ensures) (at-climb .climb .ensures) (at-settle .settle .ensures)
 
 same-length : tie.Need-same-length
-same-length c = search needs
+same-length c =
+    let at-climb2 = c .before .before in
+    let at-settle = at-climb2 .before .before .before .before in
+    let at-climb = at-settle .before .before .before .before .before in
+    let at-visit = at-climb .before .before .before .before in
+    (at-climb2 .climb2 .kept .0) ∙ (at-climb .climb .kept .0) ∙ (at-visit .visit .kept .0)
 
 same-length-2 : tie.Need-same-length-2
 same-length-2 c = search needs

@@ -84,12 +84,20 @@ end-requires c κs =
     let at-set-todo = at-struct-known2 .before .before .before in
     omega (arith, token-small at-set-todo, known at-set-todo .0 .path .size, simp length-set at (ap length (at-set-todo .set-todo .ensures)))
 
+env-of-requires : tie.Need-env-of-requires
+env-of-requires c κs =
+    let at-if2 = c .before .before in
+    let at-set-todo = at-if2 .before .before .before .before .before .before .before in
+    let t = known at-set-todo .0 in
+    omega (arith, t .some, t .path .size, t .path .inside, simp length-set at (ap length (at-set-todo .set-todo .ensures)))
+
 formula-requires : tie.Need-formula-requires
 formula-requires c κs =
-    let at-code = c .before .before .before in
+    let at-if2 = c .before .before .before in
+    let at-code = at-if2 .before in
     let at-w = at-code .before .before .before .before .before in
     let at-set-todo = at-w .before in
-    omega (arith, judge-far (read at-set-todo) (known at-set-todo .0) (sym (at-code .code .ensures) ∙ (c .before .before .if2 .taken)) (c .end .ensures), known at-set-todo .0 .path .size, simp length-set at (ap length (at-set-todo .set-todo .ensures)))
+    omega (arith, judge-far (read at-set-todo) (known at-set-todo .0) (sym (at-code .code .ensures) ∙ (at-if2 .if2 .taken)) (c .before .end .ensures), known at-set-todo .0 .path .size, simp length-set at (ap length (at-set-todo .set-todo .ensures)))
 
 due-requires : tie.Need-due-requires
 due-requires c κs = search needs
@@ -99,15 +107,16 @@ same-length c = search needs
 
 returns : tie.Need-returns
 returns c =
-    let at-if2 = c .before .before .before .before in
+    let at-env-of = c .before .before in
+    let at-if2 = at-env-of .before .before .before in
     let at-code = at-if2 .before in
     let at-if1 = at-code .before .before in
     let at-set-todo = at-if1 .before .before .before .before in
     rose-yes (c .due .ensures) (c .before .formula .ensures) (at-if1 .if1 .taken)
-    (λ d o. judge-imp (read at-set-todo) (sym (at-code .code .ensures) ∙ (at-if2 .if2 .taken)) (c .before .before .end .ensures))
+    (λ d o. judge-imp (read at-set-todo) (sym (at-code .code .ensures) ∙ (at-if2 .if2 .taken)) (at-env-of .before .end .ensures) (at-env-of .env-of .ensures))
 
-plain-due-requires : tie.Need-plain-due-requires
-plain-due-requires c κs = search needs
+bare-due-requires : tie.Need-bare-due-requires
+bare-due-requires c κs = search needs
 
 due-requires-2 : tie.Need-due-requires-2
 due-requires-2 c κs = search needs
@@ -120,7 +129,7 @@ returns-2 c =
     let at-code = c .before .before .before in
     let at-if1 = at-code .before .before in
     let at-set-todo = at-if1 .before .before .before .before in
-    rose-yes (c .due2 .ensures) (c .before .plain-due .ensures) (at-if1 .if1 .taken)
+    rose-yes (c .due2 .ensures) (c .before .bare-due .ensures) (at-if1 .if1 .taken)
     (λ d o. judge-not (read at-set-todo) (λ e. (c .before .before .if2 .left) ((at-code .code .ensures) ∙ e)))
 
 error-due-requires : tie.Need-error-due-requires
@@ -160,4 +169,4 @@ returns-4 c =
 pub judge-spec : {M : Type 1} → statement M
 judge-spec =
     tie.close
-    (tie.spec sub-k head-of-requires rest-of-requires inner-of-requires bad-of-requires set-todo-requires code-requires add-end end-requires formula-requires due-requires same-length returns plain-due-requires due-requires-2 same-length-2 returns-2 error-due-requires due-requires-3 same-length-3 returns-3 list-at-requires due-requires-4 same-length-4 returns-4)
+    (tie.spec sub-k head-of-requires rest-of-requires inner-of-requires bad-of-requires set-todo-requires code-requires add-end end-requires env-of-requires formula-requires due-requires same-length returns bare-due-requires due-requires-2 same-length-2 returns-2 error-due-requires due-requires-3 same-length-3 returns-3 list-at-requires due-requires-4 same-length-4 returns-4)

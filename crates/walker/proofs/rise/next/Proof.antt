@@ -12,14 +12,14 @@ use Rattle.walker.proofs.rise.next.Tie as tie
 
 -- the slot's two words are there
 slot-there : (c : tie.After-slot-of) →
-    (let rest = c .before .before .before in
+    (let rest = c .before .before .before .before in
     let mid = rest .before .before .before .before in
     let head = mid .before .before in
     c .slot-of .result + 1 < length (now (head .before .before .before .before .args .w)))
 slot-there c =
-    let at-end2 = c .before .before .before .before .before in
-    let at-head-of-arg = at-end2 .before .before .before .before .before in
-    let start = at-head-of-arg .before .before .before in
+    let at-rest-of = c .before .before .before .before in
+    let at-head-of = at-rest-of .before .before .before .before .before .before in
+    let start = at-head-of .before .before .before .before in
     let x = (start .pre .0) in
     omega (arith, (c .slot-of .ensures), readable x .slot, x .path .size)
 
@@ -51,12 +51,16 @@ end-requires-2 c κs =
 rest-of-requires : tie.Need-rest-of-requires
 rest-of-requires c κs = search needs
 
+env-of-requires : tie.Need-env-of-requires
+env-of-requires c κs = search needs
+
 formula-requires : tie.Need-formula-requires
 formula-requires c κs =
-    let at-end = c .before .before .before .before in
+    let at-end2 = c .before .before .before in
+    let at-end = at-end2 .before .before in
     let at-head-of = at-end .before .before in
     let start = at-head-of .before .before .before .before in
-    omega (arith, body-small (readable (start .pre .0)) (at-head-of .head-of .ensures) (at-end .end .ensures) (c .before .before .end2 .ensures), (start .pre .0 .path .size))
+    omega (arith, body-small (readable (start .pre .0)) (at-head-of .head-of .ensures) (at-end .end .ensures) (at-end2 .end2 .ensures), (start .pre .0 .path .size))
 
 slot-of-requires : tie.Need-slot-of-requires
 slot-of-requires c κs = search needs
@@ -69,9 +73,9 @@ current-of-requires c κs = search needs
 
 add-value : tie.Need-add-value
 add-value c =
-    let at-rest-of = c .before .before .before .before .before in
-    let at-end-arg = at-rest-of .before .before .before .before .before in
-    let start = at-end-arg .before .before .before .before .before in
+    let at-env-of = c .before .before .before .before .before in
+    let at-end = at-env-of .before .before .before .before .before in
+    let start = at-end .before .before .before .before .before .before in
     let x = (start .pre) in
     omega (arith, (c .current-of .ensures), x .2, readable (x .0) .last)
 
@@ -97,7 +101,8 @@ returns c =
     let at-current-of = at-set-current .before .before in
     let at-slot-of = at-current-of .before .before in
     let at-formula = at-slot-of .before .before in
-    let at-rest-of = at-formula .before in
+    let at-env-of = at-formula .before in
+    let at-rest-of = at-env-of .before in
     let at-end2 = at-rest-of .before .before in
     let at-end = at-end2 .before .before in
     let at-head-of = at-end .before .before in
@@ -115,6 +120,7 @@ returns c =
       more = x .2;
       head = (at-head-of .head-of .ensures);
       rest = (at-rest-of .rest-of .ensures);
+      env = (at-env-of .env-of .ensures);
       slot = (at-slot-of .slot-of .ensures);
       value = ap (λ n. n + 1) (at-current-of .current-of .ensures);
       current = (at-set-current .set-current .ensures);
@@ -124,4 +130,4 @@ returns c =
 pub next-spec : {M : Type 1} → statement M
 next-spec =
     tie.close
-    (tie.spec sub-k head-of-requires add-end end-requires end-requires-2 rest-of-requires formula-requires slot-of-requires cast-i current-of-requires add-value set-current-requires set-slot-requires due-requires same-length returns)
+    (tie.spec sub-k head-of-requires add-end end-requires end-requires-2 rest-of-requires env-of-requires formula-requires slot-of-requires cast-i current-of-requires add-value set-current-requires set-slot-requires due-requires same-length returns)

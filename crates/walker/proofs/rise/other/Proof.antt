@@ -27,9 +27,13 @@ rest-of-requires c κs = search needs
 
 formula-requires : tie.Need-formula-requires
 formula-requires c κs =
-    let at-head-of = c .before .before .before .before in
+    let at-end = c .before .before .before in
+    let at-head-of = at-end .before .before in
     let start = at-head-of .before .before .before .before in
-    omega (arith, other-far (start .pre .0) (at-head-of .head-of .ensures) (c .before .before .end .ensures), (start .pre .0 .path .size))
+    omega (arith, other-far (start .pre .0) (at-head-of .head-of .ensures) (at-end .end .ensures), (start .pre .0 .path .size))
+
+env-of-requires : tie.Need-env-of-requires
+env-of-requires c κs = search needs
 
 set-todo-requires : tie.Need-set-todo-requires
 set-todo-requires c κs = search needs
@@ -44,15 +48,17 @@ returns : tie.Need-returns
 returns c =
     let at-set-todo = c .before .before .before in
     let at-formula = at-set-todo .before .before in
-    let at-rest-of = at-formula .before in
+    let at-env-of = at-formula .before in
+    let at-rest-of = at-env-of .before in
     let at-end = at-rest-of .before .before in
     let at-head-of = at-end .before .before in
     let start = at-head-of .before .before .before .before in
     let x = (start .pre) in
     rose-up (c .due .ensures) (at-formula .formula .ensures) (x .1)
-    (λ d o. other-up (x .0 .some) (x .0 .todo) (at-head-of .head-of .ensures) (at-end .end .ensures) (at-rest-of .rest-of .ensures) (at-set-todo .set-todo .ensures))
+    (λ d o. other-up (x .0 .some) (x .0 .todo) (at-head-of .head-of .ensures) (at-end .end .ensures) (at-rest-of .rest-of .ensures) (at-env-of .env-of .ensures)
+    (at-set-todo .set-todo .ensures))
 
 pub other-spec : {M : Type 1} → statement M
 other-spec =
     tie.close
-    (tie.spec sub-k head-of-requires add-end end-requires rest-of-requires formula-requires set-todo-requires due-requires same-length returns)
+    (tie.spec sub-k head-of-requires add-end end-requires rest-of-requires env-of-requires formula-requires set-todo-requires due-requires same-length returns)
