@@ -3,44 +3,30 @@ use Prim.Native.Nat.{ℕ, _≤_, _<_}
 use native.Mathlib.Omega.{arith}
 use mathlib.Core.Path.{_≡_, refl, sym, _∙_, ap, subst}
 use mathlib.Core.Bool.{Bool, true, false, _&&_}
-use mathlib.Core.List.{List, []}
+use mathlib.Core.List.{List}
 use lib.ListN.{length, replicate}
 use lib.Dec.{leb}
 use borrow.Author.Tests.{leb-true, le-leb, lt-leb}
 use Rattle.specification.specs.declared.Setting.{Setting}
 use Rattle.specification.specs.declared.Outcome.{Outcome}
 use Rattle.specification.specs.declared.Outcome.the-variants as outcomes
-use Rattle.specification.specs.Bytes.{Bytes, bytes, pick, between}
+use Rattle.specification.specs.Bytes.{Bytes, pick, between}
 use Rattle.specification.specs.Parser.{Reader, Read, refused, found}
 use Rattle.specification.specs.Sheet.{Sheet, read}
-use Rattle.specification.specs.WellFormed.{nowhere}
 use Rattle.specification.specs.Outcome.{longestPath, wordsFor, refusal, afterReading, enoughMemory, call, outcome, outputAfter, wordsAfter}
 use Rattle.specification.proofs.Laws.Contradiction.{contradiction}
-use Rattle.specification.proofs.Laws.Parser.{of-found}
-use Rattle.specification.proofs.Laws.SheetLines.{sheet-lines}
-use Rattle.specification.proofs.Laws.ReadLines.{line-post}
 use Rattle.specification.proofs.Laws.ReadSheet.{read-well-formed}
 use Rattle.tables.specs.Layout.{pathAt}
 use Rattle.sheet.specs.declared.Reading.the-variants as reading
-use Rattle.sheet.specs.Tables.{Words}
-use Rattle.sheet.specs.Held.{Shallow}
+use Rattle.sheet.specs.Tables.{Words, formulaStart, tables}
+use Rattle.sheet.specs.Held.{FormulaAt}
 use Rattle.sheet.specs.Whole.{readingOf, wordsOf}
 use Rattle.sheet.proofs.Tables.{tables-length}
 use Rattle.sheet.proofs.ReadSheet.{read-counts, read-ready}
-use Rattle.sheet.proofs.Shallow.{formula-shallow}
 use Rattle.walker.specs.declared.Task.{Task}
 use Rattle.walker.specs.Walked.{Ready, Readied, Walked}
 use Rattle.vodlasim.specs.Lent.{lent}
 use Rattle.vodlasim.specs.Answered.{Answered}
-
--- ---- a sheet that is read has a shallow formula
-
-read-shallow : (b : Bytes) (s : Sheet) (r : Reader) → read b ≡ found s r → Shallow (s .formula)
-unfolding read
-read-shallow b s r e =
-    let l = sheet-lines e in
-    let few = of-found (line-post 0 32 (bytes "locals=") (l .scalars .after)) (l .locals .is) .1 in
-    of-found (formula-shallow (s .declared) few 64 (omega arith) [] (l .start .after)) (l .formula .is)
 
 -- ---- the setting's tests
 
@@ -89,8 +75,8 @@ module _ (b : Bytes) (S : Setting) (n m : ℕ) where
 -- ---- what the walk wants
 
 -- the walk of a sheet that was read, from its formula's first token on
-abbrev taskOf : Setting → ℕ → ℕ → Task
-taskOf S scalars arrays = record { setting = S; scalars = scalars; arrays = arrays; formula = 0 }
+abbrev taskOf : Setting → ℕ → ℕ → ℕ → Task
+taskOf S scalars arrays formula = record { setting = S; scalars = scalars; arrays = arrays; formula = formula }
 
 -- the sheet that was read, and its tables in the words w
 record Found (b : Bytes) (n : ℕ) (w : Words) (t : Task) : Type 0 where
@@ -100,39 +86,39 @@ record Found (b : Bytes) (n : ℕ) (w : Words) (t : Task) : Type 0 where
   pub long : length w ≡ n
   pub ready : Ready w t sheet
 
-module _ (b : Bytes) (S : Setting) (n : ℕ) (limit : S .path ≤ longestPath) (size : wordsFor (S .path) ≤ n) (w : Words) (scalars arrays tokens : ℕ) where
-  found-of : (x : Read Sheet) → read b ≡ x → reading.Read scalars arrays tokens ≡ readingOf x → w ≡ wordsOf n x → Found b n w (taskOf S scalars arrays)
+module _ (b : Bytes) (S : Setting) (n : ℕ) (limit : S .path ≤ longestPath) (size : wordsFor (S .path) ≤ n) (w : Words) (scalars arrays tokens formula : ℕ) where
+  found-of : (x : Read Sheet) → read b ≡ x → reading.Read scalars arrays tokens formula ≡ readingOf x → w ≡ wordsOf n x → Found b n w (taskOf S scalars arrays formula)
   found-of (refused k p) e t h = contradiction cc
   found-of (found s r) e t h =
       let enough : pathAt ≤ n = omega (arith, size) in
       let count = read-counts b s r e in
       let held = read-ready b s r n e enough in
       let well = read-well-formed b s r e in
-      let long : length w ≡ n = ap length h ∙ tables-length s n enough (count .1) in
+      let long : length w ≡ n = ap length h ∙ tables-length s n enough (count .few) in
       let p : scalars ≡ s .declared .scalars = cc in
       let q : arrays ≡ length (s .declared .arrays) = cc in
+      let f : formula ≡ formulaStart s = cc in
       record {
         sheet = s;
         after = r;
         is = e;
         long = long;
-        ready = subst (λ x. Ready x (taskOf S scalars arrays) s) (sym h) (record {
+        ready = subst (λ x. Ready x (taskOf S scalars arrays formula) s) (sym h) (record {
           well = well;
-          formula = record {
-            held = held .formula;
-            good = record { scope = nowhere; locals = λ l x. absurd x; ok = well .formula; shallow = read-shallow b s r e };
-          };
+          formula = subst (λ i. FormulaAt (tables s n) i (s .formula)) (sym f) (held .formula);
+          shallow = held .shallow;
+          procedures = held .procedures;
           holds = held .values;
           unmarked = held .unmarked;
           firsts = held .arrays;
           scalar-count = p;
           array-count = q;
           limit = limit;
-          size = subst (λ k. wordsFor (S .path) ≤ k) (sym (tables-length s n enough (count .1))) size;
+          size = subst (λ k. wordsFor (S .path) ≤ k) (sym (tables-length s n enough (count .few))) size;
         });
       }
 
-  pub readied : reading.Read scalars arrays tokens ≡ readingOf (read b) → w ≡ wordsOf n (read b) → Readied w (taskOf S scalars arrays)
+  pub readied : reading.Read scalars arrays tokens formula ≡ readingOf (read b) → w ≡ wordsOf n (read b) → Readied w (taskOf S scalars arrays formula)
   readied t h = let f = found-of (read b) refl t h in record { sheet = f .sheet; ready = f .ready }
 
 -- ---- the four ways of the call
@@ -155,12 +141,12 @@ module _ (b : Bytes) (S : Setting) (w w' : List ℕ) (o : Bytes) where
         let is = unread-of (read b) k p t in
         refused-answers k p (reads b S (length w) (length o) e l ∙ ap (afterReading S (length o)) is) (h ∙ ap (wordsOf (length w)) is)
 
-    pub walk-answers : (v v' : Words) (o' : Bytes) (scalars arrays tokens : ℕ) (r : Outcome) → reading.Read scalars arrays tokens ≡ readingOf (read b) →
-        v ≡ wordsOf (length w) (read b) → Walked v v' o o' (taskOf S scalars arrays) r → w' ≡ replicate (length v') 0 → Answered b S (lent w w') (lent o o') r
+    pub walk-answers : (v v' : Words) (o' : Bytes) (scalars arrays tokens formula : ℕ) (r : Outcome) → reading.Read scalars arrays tokens formula ≡ readingOf (read b) →
+        v ≡ wordsOf (length w) (read b) → Walked v v' o o' (taskOf S scalars arrays formula) r → w' ≡ replicate (length v') 0 → Answered b S (lent w w') (lent o o') r
     unfolding wordsAfter
-    walk-answers v v' o' scalars arrays tokens r t h walked zero =
+    walk-answers v v' o' scalars arrays tokens formula r t h walked zero =
         let (limit, size) = memory-of (S .path) (length w) e in
-        let f = found-of b S (length w) limit size v scalars arrays tokens (read b) refl t h in
+        let f = found-of b S (length w) limit size v scalars arrays tokens formula (read b) refl t h in
         let c = reads b S (length w) (length o) e l ∙ ap (afterReading S (length o)) (f .is) in
         record {
           result = walked .result (f .sheet) (f .ready) ∙ sym (ap outcome c);

@@ -55,12 +55,13 @@ pub fn run(sheet: &[u8], setting: Setting, work: &mut [u32], output: &mut [u8]) 
             scalars,
             arrays,
             tokens: _,
+            formula,
         } => {
             let task = Task {
                 setting,
                 scalars,
                 arrays,
-                formula: 0,
+                formula,
             };
             let outcome = walk_tables(work, output, task);
             clear(work);

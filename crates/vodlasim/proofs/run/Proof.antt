@@ -69,7 +69,7 @@ walk-tables-requires c κs =
     let enough = sym (at-enough .enough .ensures) ∙ not-false _ (at-if1 .if1 .left) in
     let read = (at-read-sheet .read-sheet .ensures) in
     let (limit, size) = memory-of (a .setting .path) (length (a .work .now)) enough in
-    readied (a .sheet .now) (a .setting) (length (a .work .now)) limit size _ _ _ _ (sym (at-scalars .scalars .given .1) ∙ read .0) (read .1)
+    readied (a .sheet .now) (a .setting) (length (a .work .now)) limit size _ _ _ _ _ (sym (at-scalars .scalars .given .1) ∙ read .0) (read .1)
 
 clear-requires-3 : tie.Need-clear-requires-3
 clear-requires-3 c κs = search needs
@@ -111,7 +111,7 @@ returns-4 c =
     let enough = sym (at-enough .enough .ensures) ∙ not-false _ (at-if1 .if1 .left) in
     let read = (at-read-sheet .read-sheet .ensures) in
     walk-answers (a .sheet .now) (a .setting) (a .work .now) _ (a .output .now) enough
-    (le-leb (length (a .sheet .now)) 4096 (at-if2 .if2 .left)) _ _ _ _ _ _ _
+    (le-leb (length (a .sheet .now)) 4096 (at-if2 .if2 .left)) _ _ _ _ _ _ _ _
     (sym (at-scalars .scalars .given .1) ∙ read .0) (read .1) (at-walk-tables .walk-tables .ensures) (c .before .before .clear3 .ensures)
 
 pub run-spec : {M : Type 1} → statement M
