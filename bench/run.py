@@ -25,6 +25,7 @@ MOST = 2**32 - 1        # a skip that keeps every block back, a budget that is n
 # name, sheet, given line, options, how often a run repeats the search, the search in Prolog
 PROGRAMS = [
     ("queens8", "queens", "v0:8", ["--output", "65536"], 50, ["queens", 8]),
+    ("queens8_call", "queens_call", "v0:8", ["--output", "65536"], 50, ["queens", 8]),
     ("queens11", "queens", "v0:11", ["--skip", MOST], 1, ["queens", 11]),
     ("arithmetic", "arithmetic", "v0:5000", ["--skip", MOST], 1, ["arithmetic", 5000]),
     ("arrays", "arrays", "v0:299", ["--skip", MOST], 1, ["arrays", 299]),

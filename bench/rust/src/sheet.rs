@@ -1,4 +1,5 @@
-//! The sheet: six lines, read into a tree of formulas and terms, or refused with a number and a byte place.
+//! The sheet: six lines and, in edition 2, those of procedures, read into trees of formulas and terms, or refused with a number and a byte
+//! place.
 
 /// Why and where a sheet is refused.
 #[derive(Debug)]
@@ -15,6 +16,13 @@ pub struct Sheet {
     pub names: Vec<String>,
     pub slots: usize,
     pub given: Vec<(Slot, i32)>,
+    pub procedures: Vec<Procedure>,
+    pub formula: Formula,
+}
+
+pub struct Procedure {
+    /// How many parameters it has.
+    parameters: usize,
     pub formula: Formula,
 }
 
@@ -27,15 +35,12 @@ pub enum Formula {
     },
     And(Box<[Formula; 2]>),
     Or(Box<[Formula; 2]>),
-    /// `scope`: the locals bound around it, a bit each.
     Not {
         at: u32,
-        scope: u32,
         formula: Box<Formula>,
     },
     Imp {
         at: u32,
-        scope: u32,
         parts: Box<[Formula; 2]>,
     },
     Ex {
@@ -44,6 +49,11 @@ pub enum Formula {
     },
     Some(Box<Range>),
     All(Box<Range>),
+    /// The procedure of that number, with a term for each of its parameters.
+    Call {
+        procedure: usize,
+        arguments: Box<[Term]>,
+    },
 }
 
 pub struct Range {
@@ -56,7 +66,13 @@ pub struct Range {
 pub enum Term {
     Constant(i32),
     Slot(Slot),
-    Element { first: Slot, length: u16, index: Box<Term> },
+    /// A parameter of the procedure that it stands in.
+    Parameter(u8),
+    Element {
+        first: Slot,
+        length: u16,
+        index: Box<Term>,
+    },
     Operation(Operation, Box<[Term; 2]>),
 }
 
@@ -96,11 +112,15 @@ fn refused<T>(number: u32, place: usize) -> Read<T> {
 struct Reader<'a> {
     bytes: &'a [u8],
     position: usize,
+    edition: u64,
     scalars: usize,
     locals: usize,
     /// First cell and length of each array.
     arrays: Vec<(usize, usize)>,
     cells: usize,
+    procedures: Vec<Procedure>,
+    /// How many parameters there are in the line that is read.
+    parameters: usize,
     tokens: u32,
     /// Locals that have a binder so far, and those in scope here, a bit each.
     bound: u32,
@@ -117,7 +137,12 @@ enum Word<'a> {
 struct Token<'a> {
     place: usize,
     at: u32,
-    word: Word<'a>,
+    text: &'a [u8],
+}
+
+/// Whether a token is written as a number, in good form or not.
+fn is_number(text: &[u8]) -> bool {
+    matches!(text, [b'0'..=b'9' | b'-', ..])
 }
 
 /// A number without minus in good form; one beyond 64 bits counts as the largest.
@@ -139,18 +164,23 @@ fn signed(text: &[u8]) -> Option<i32> {
 // The lines.
 impl<'a> Reader<'a> {
     fn sheet(mut self) -> Read<Sheet> {
-        self.line("edition", |r| r.number(1, 1))?;
+        self.edition = self.line("edition", |r| r.number(1, 2))?;
         self.scalars = self.line("scalars", |r| r.number(0, 64))? as usize;
         self.locals = self.line("locals", |r| r.number(0, 32))? as usize;
         self.cells = self.scalars;
         self.line("arrays", |r| r.items(Self::array))?;
         let mut given = Vec::new();
         self.line("given", |r| r.items(|r| r.given(&mut given)))?;
+        while self.procedure_follows() {
+            let procedure = self.line("proc", Self::procedure)?;
+            self.procedures.push(procedure);
+        }
+        self.parameters = 0;
         let formula = self.line("formula", |r| r.formula(1))?;
         if self.position < self.bytes.len() {
             return refused(5, self.position);
         }
-        Ok(Sheet { names: self.names(), slots: self.cells + self.locals, given, formula })
+        Ok(Sheet { names: self.names(), slots: self.cells + self.locals, given, procedures: self.procedures, formula })
     }
 
     fn names(&self) -> Vec<String> {
@@ -224,6 +254,16 @@ impl<'a> Reader<'a> {
         Ok(())
     }
 
+    fn procedure_follows(&self) -> bool {
+        self.edition == 2 && self.procedures.len() < 16 && self.bytes[self.position..].starts_with(b"proc=")
+    }
+
+    fn procedure(&mut self) -> Read<Procedure> {
+        self.parameters = self.number(0, 8)? as usize;
+        self.want(b':')?;
+        Ok(Procedure { parameters: self.parameters, formula: self.formula(1)? })
+    }
+
     fn here(&self) -> Option<u8> {
         self.bytes.get(self.position).copied()
     }
@@ -257,7 +297,7 @@ impl<'a> Reader<'a> {
     }
 }
 
-// The formula.
+// Formulas.
 impl<'a> Reader<'a> {
     fn token(&mut self, depth: u32) -> Read<Token<'a>> {
         let place = self.position;
@@ -267,35 +307,38 @@ impl<'a> Reader<'a> {
         }
         let at = self.tokens;
         self.tokens += 1;
-        let word = match text {
-            [b'0'..=b'9' | b'-', ..] => match signed(text) {
-                Some(value) => Word::Constant(value),
-                None => return refused(4, place),
-            },
-            [letter @ (b'v' | b'l' | b'a'), index @ ..] => match natural(index) {
-                Some(index) => Word::Name(*letter, index),
-                None => Word::Text(text),
-            },
+        Ok(Token { place, at, text })
+    }
+
+    fn word(&self, token: &Token<'a>) -> Read<Word<'a>> {
+        let Token { place, text, .. } = *token;
+        if is_number(text) {
+            return signed(text).map(Word::Constant).ok_or(Refused { number: 4, place });
+        }
+        let letters: &[u8] = if self.edition == 2 { b"vlap" } else { b"vla" };
+        Ok(match text {
+            [letter, index @ ..] if letters.contains(letter) => natural(index).map_or(Word::Text(text), |n| Word::Name(*letter, n)),
             _ => Word::Text(text),
-        };
-        Ok(Token { place, at, word })
+        })
     }
 
     fn formula(&mut self, depth: u32) -> Read<Formula> {
-        let Token { place, at, word } = self.token(depth)?;
-        let Word::Text(word) = word else { return refused(6, place) };
+        let token = self.token(depth)?;
+        let Token { place, at, .. } = token;
+        let Word::Text(word) = self.word(&token)? else { return refused(6, place) };
         let comparison = match word {
             b"true" => return Ok(Formula::True),
             b"and" => return Ok(Formula::And(Box::new([self.part(depth)?, self.part(depth)?]))),
             b"or" => return Ok(Formula::Or(Box::new([self.part(depth)?, self.part(depth)?]))),
-            b"imp" => return Ok(Formula::Imp { at, scope: self.scope, parts: Box::new([self.part(depth)?, self.part(depth)?]) }),
-            b"not" => return Ok(Formula::Not { at, scope: self.scope, formula: Box::new(self.part(depth)?) }),
+            b"imp" => return Ok(Formula::Imp { at, parts: Box::new([self.part(depth)?, self.part(depth)?]) }),
+            b"not" => return Ok(Formula::Not { at, formula: Box::new(self.part(depth)?) }),
             b"ex" => {
                 let local = self.binder(depth)?;
                 return Ok(Formula::Ex { local, formula: Box::new(self.scoped(local, depth)?) });
             }
             b"some" => return Ok(Formula::Some(Box::new(self.range(at, depth)?))),
             b"all" => return Ok(Formula::All(Box::new(self.range(at, depth)?))),
+            b"call" if self.edition == 2 => return self.call(depth),
             b"eq" => Comparison::Eq,
             b"ne" => Comparison::Ne,
             b"lt" => Comparison::Lt,
@@ -307,6 +350,25 @@ impl<'a> Reader<'a> {
         Ok(Formula::Atom { at, comparison, sides: self.terms(depth)? })
     }
 
+    fn call(&mut self, depth: u32) -> Read<Formula> {
+        let procedure = self.named(depth)?;
+        let parameters = self.procedures[procedure].parameters;
+        let arguments = (0..parameters).map(|_| self.operand(depth)).collect::<Read<_>>()?;
+        Ok(Formula::Call { procedure, arguments })
+    }
+
+    /// The number of the procedure that a call names.
+    fn named(&mut self, depth: u32) -> Read<usize> {
+        self.want(b' ')?;
+        let Token { place, text, .. } = self.token(depth + 1)?;
+        match natural(text) {
+            Some(number) if number < self.procedures.len() as u64 => Ok(number as usize),
+            Some(_) => refused(11, place),
+            None if is_number(text) => refused(4, place),
+            None => refused(6, place),
+        }
+    }
+
     fn part(&mut self, depth: u32) -> Read<Formula> {
         self.want(b' ')?;
         self.formula(depth + 1)
@@ -314,8 +376,9 @@ impl<'a> Reader<'a> {
 
     fn binder(&mut self, depth: u32) -> Read<Slot> {
         self.want(b' ')?;
-        let Token { place, word, .. } = self.token(depth + 1)?;
-        let Word::Name(b'l', index) = word else { return refused(6, place) };
+        let token = self.token(depth + 1)?;
+        let place = token.place;
+        let Word::Name(b'l', index) = self.word(&token)? else { return refused(6, place) };
         if index >= self.locals as u64 {
             return refused(7, place);
         }
@@ -349,38 +412,40 @@ impl<'a> Reader<'a> {
     }
 
     fn term(&mut self, depth: u32) -> Read<Term> {
-        let Token { place, word, .. } = self.token(depth)?;
-        let operation = match word {
+        let token = self.token(depth)?;
+        let operation = match self.word(&token)? {
             Word::Constant(value) => return Ok(Term::Constant(value)),
-            Word::Name(letter, index) => return self.name(letter, index, place, depth),
+            Word::Name(letter, index) => return self.name(letter, index, token.place, depth),
             Word::Text(b"add") => Operation::Add,
             Word::Text(b"sub") => Operation::Sub,
             Word::Text(b"mul") => Operation::Mul,
             Word::Text(b"div") => Operation::Div,
             Word::Text(b"mod") => Operation::Mod,
-            Word::Text(_) => return refused(6, place),
+            Word::Text(_) => return refused(6, token.place),
         };
         Ok(Term::Operation(operation, Box::new(self.terms(depth)?)))
     }
 
     fn name(&mut self, letter: u8, index: u64, place: usize, depth: u32) -> Read<Term> {
-        let declared = match letter {
-            b'v' => self.scalars,
-            b'l' => self.locals,
-            _ => self.arrays.len(),
+        let (declared, refusal) = match letter {
+            b'v' => (self.scalars, 7),
+            b'l' => (self.locals, 7),
+            b'a' => (self.arrays.len(), 7),
+            _ => (self.parameters, 12),
         };
         if index >= declared as u64 {
-            return refused(7, place);
+            return refused(refusal, place);
         }
         let index = index as usize;
-        if letter == b'a' {
-            let (first, length) = self.arrays[index];
-            return Ok(Term::Element { first: first as Slot, length: length as u16, index: Box::new(self.operand(depth)?) });
+        match letter {
+            b'v' => Ok(Term::Slot(index as Slot)),
+            b'l' if self.scope >> index & 1 == 0 => refused(8, place),
+            b'l' => Ok(Term::Slot((self.cells + index) as Slot)),
+            b'a' => {
+                let (first, length) = self.arrays[index];
+                Ok(Term::Element { first: first as Slot, length: length as u16, index: Box::new(self.operand(depth)?) })
+            }
+            _ => Ok(Term::Parameter(index as u8)),
         }
-        if letter == b'l' && self.scope >> index & 1 == 0 {
-            return refused(8, place);
-        }
-        let slot = if letter == b'v' { index } else { self.cells + index };
-        Ok(Term::Slot(slot as Slot))
     }
 }
