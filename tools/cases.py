@@ -14,7 +14,7 @@ import random_sheets
 import walker
 
 FILES = walker.ROOT / "crates" / "cases"
-RANDOM = 150                            # so many random cases, the last ones
+RANDOM = {1: 150, 2: 90}                # so many random cases of each edition, the last ones
 cases = []                              # name and case
 
 
@@ -27,15 +27,24 @@ def case(name, sheet, path=512, budget=1000000, skip=0, output=4096, words=None)
     cases.append((name, walker.Case(sheet, path, budget, skip, output, words)))
 
 
-def lines(edition="1", scalars="1", locals="1", arrays="", given="", formula="true"):
-    """A sheet by the values of its six lines."""
-    return "edition=%s\nscalars=%s\nlocals=%s\narrays=%s\ngiven=%s\nformula=%s\n" % (edition, scalars, locals, arrays, given, formula)
+def lines(edition="1", scalars="1", locals="1", arrays="", given="", procedures=(), formula="true"):
+    """A sheet by the values of its lines."""
+    rows = ["edition=" + edition, "scalars=" + scalars, "locals=" + locals, "arrays=" + arrays, "given=" + given]
+    return "".join(row + "\n" for row in rows + ["proc=" + value for value in procedures] + ["formula=" + formula])
 
 
 def formulas(text, setting={}, **declared):
     """A case for each line of the text, a formula."""
     for formula in text.strip("\n").split("\n"):
         case(formula, lines(formula=formula, **declared), **setting)
+
+
+def libraries(text, setting={}, **declared):
+    """A case for each paragraph of the text, a sheet of edition 2: the values of its proc lines, then its formula."""
+    for paragraph in text.strip("\n").split("\n\n"):
+        *procedures, formula = paragraph.split("\n")
+        sheet = lines(edition="2", procedures=procedures, formula=formula, **declared)
+        case("; ".join(procedures + [formula]), sheet, **setting)
 
 
 def givens(text, **declared):
@@ -144,7 +153,7 @@ imp true eq a0 0 1
     givens("a0.1:1,a0.0:2;\na0.1:1,a0.1:2\na0.0:1,v0:1\nv0:1,a0.0:1,a0.1:2", arrays="2")
     case("the seventeenth array", lines(arrays=",".join("1" * 17)))
     case("scalars=3-", "edition=1\nscalars=3-\n")
-    case("edition=2x", "edition=2x")
+    case("edition=3x", "edition=3x")
     case("arrays=1,", lines(arrays="1,"))
     case("ex under all", lines(scalars="0", locals="2", formula="all l0 1 2 ex l1 eq l1 l0"))
     case("all 32-bit values", lines(formula="some l0 %s %s eq v0 l0" % (LOW, HIGH)), budget=7)
@@ -566,6 +575,840 @@ def negations_cut():
         case("error, answer and error after a skip of %d" % skip, lines(formula="or not eq v0 0 or eq v0 1 not eq v0 2"), skip=skip)
 
 
+# ---------------------------------------------------------------- procedures (document 02, One)
+
+def editions():
+    """Edition 2 without a procedure is edition 1; edition 1 has none."""
+    case("formula (1.1), edition 2", FORMULA_11.replace("edition=1", "edition=2"))
+    for edition in ("3", "02", "2-", "-2", "22", "2x", "2 ", "20", "12"):
+        case("edition=" + edition, lines(edition=edition))
+    for edition in ("1", "2"):
+        formulas("""
+call
+call 0
+call 0 v0
+not call 0
+eq p0 1
+eq 1 p0
+p0
+ex p0 true
+eq p00 1
+eq p 1
+eq p1x 1
+eq a0 p0 1
+""", edition=edition)
+        for value in ("0:true", "1:eq p0 1", "x", ""):
+            case("edition %s with proc=%s" % (edition, value), lines(edition=edition, procedures=[value]))
+        givens("p0:1\np", edition=edition)
+    for word in ("Call", "cal", "calls", "callx", "P0", "proc"):
+        formulas("%s 0" % word, edition="2", procedures=["0:true"])
+
+
+def calls():
+    """A call is one node and then its procedure's formula with the terms in place of the parameters."""
+    declared = dict(scalars="3", locals="3", arrays="3")
+    # where a call may stand
+    formulas("""
+call 0
+call 1 v0
+and call 0 call 0
+and call 1 v0 call 1 v1
+and call 1 v0 call 1 v0
+and call 1 v0 call 2 v0 1
+and call 1 v0 call 2 v0 2
+or call 1 v0 call 1 v1
+not call 0
+not call 2 1 2
+not call 2 1 1
+imp call 0 call 1 v0
+imp call 2 1 2 call 1 v0
+ex l2 and call 1 l2 eq v0 l2
+ex l2 and call 1 l2 call 2 v0 l2
+some l2 1 3 call 2 v0 l2
+some l2 1 3 and call 2 v0 l2 call 2 l2 2
+all l2 1 3 call 3 l2 1
+all l2 0 2 call 2 a0 l2 mul l2 l2
+all l2 0 2 call 1 a0 l2
+and call 3 1 2 call 3 2 2
+call 2 v0 div 7 2
+call 2 div 7 2 v0
+""", edition="2", procedures=["0:true", "1:eq p0 1", "2:eq p0 p1", "2:le p1 p0"], **declared)
+    # where a parameter may stand
+    libraries("""
+1:eq p0 1
+call 0 v0
+
+1:eq 1 p0
+call 0 v0
+
+1:eq v0 add p0 p0
+call 0 4
+
+1:eq v0 sub mul p0 p0 div p0 mod p0 3
+call 0 5
+
+1:eq a0 p0 7
+call 0 2
+
+1:eq v0 a0 add p0 1
+and eq a0 1 8 call 0 0
+
+1:some l0 p0 2 eq v0 l0
+call 0 1
+
+1:some l0 1 p0 eq v0 l0
+call 0 2
+
+2:all l0 p0 p1 eq a0 l0 p1
+call 0 0 2
+
+2:all l0 p0 p1 eq a0 l0 p1
+call 0 2 0
+
+1:not eq p0 1
+call 0 2
+
+1:imp eq p0 1 eq v0 p0
+call 0 1
+
+1:ex l0 and eq l0 p0 eq v0 add l0 p0
+call 0 3
+
+1:eq p0 1
+1:call 0 p0
+call 1 v0
+
+2:eq p0 p1
+1:call 0 v0 add p0 1
+call 1 5
+
+2:eq p0 p1
+2:call 0 p1 p0
+call 1 3 v1
+
+1:eq a0 p0 7
+1:call 0 mul p0 2
+call 1 1
+
+1:eq v0 p0
+1:call 0 a0 p0
+and eq a0 2 6 call 1 2
+
+8:eq v0 add add add p0 p1 add p2 p3 add add p4 p5 add p6 p7
+call 0 1 2 3 4 5 6 7 8
+""", **declared)
+    # which argument stands where: earlier procedures, each called with its own
+    libraries("""
+2:eq p0 p1
+2:and call 0 p0 1 call 0 p1 2
+call 1 v0 v1
+
+2:eq p0 p1
+2:and call 0 p0 p1 call 0 p1 p0
+call 1 v0 4
+
+2:lt p0 p1
+2:and call 0 p0 p1 call 0 add p0 1 sub p1 1
+and call 1 1 4 call 1 1 3
+
+1:eq p0 1
+1:call 0 p0
+1:and call 1 p0 call 0 v2
+call 2 v1
+
+2:eq p0 sub p1 1
+2:call 0 p0 mul 2 p1
+2:call 1 p0 add p1 p1
+call 2 v0 3
+
+2:or eq p0 p1 eq p0 add p1 1
+2:and call 0 p0 p1 call 0 p1 p0
+and eq v0 4 call 1 v1 v0
+""", **declared)
+
+
+def arguments():
+    """When an argument is valued, what it assigns, and which errors arise."""
+    declared = dict(scalars="3", locals="3", arrays="3")
+    # a bare place that is passed in may be assigned
+    libraries("""
+1:eq p0 1
+call 0 v2
+
+1:eq p0 1
+call 0 a0 2
+
+1:eq p0 1
+ex l1 and call 0 l1 eq v0 add l1 1
+
+1:eq p0 1
+and call 0 v0 call 0 v0
+
+1:and eq p0 1 eq p0 2
+call 0 v0
+
+1:or eq p0 1 or eq p0 2 eq p0 1
+call 0 a0 0
+
+1:eq p0 5
+1:call 0 p0
+1:call 1 p0
+all l2 0 2 call 2 a0 l2
+
+1:eq p0 1
+call 0 add v0 0
+
+1:eq p0 1
+call 0 a0 v0
+
+1:eq p0 1
+call 0 a0 3
+
+1:eq p0 1
+and eq v0 2 call 0 a0 v0
+
+2:eq p0 p1
+call 0 v0 v1
+
+2:eq p0 p1
+call 0 v0 v0
+
+2:eq p0 p1
+call 0 v0 a0 1
+
+2:eq p0 p1
+call 0 a0 a0 0 1
+
+2:and eq p0 1 eq p1 2
+call 0 v0 v0
+
+2:and eq p0 1 eq p1 1
+call 0 v0 v0
+
+2:and eq p0 1 eq p1 2
+call 0 v0 v1
+""", **declared)
+    # it is valued where it stands, not at the call
+    libraries("""
+2:and eq p0 1 eq p1 2
+call 0 v0 add v0 1
+
+2:and eq p1 2 eq p0 1
+call 0 v0 add v0 1
+
+2:and eq p0 1 eq p1 5
+call 0 v0 a0 v0
+
+2:and eq p0 1 eq p1 5
+1:call 0 p0 a0 p0
+call 1 v0
+
+2:or and eq p0 1 eq v1 p1 and eq p0 2 eq v1 p1
+call 0 v0 add v0 10
+
+1:and eq v0 3 eq v1 p0
+1:call 0 add p0 1
+call 1 v0
+
+1:and lt p0 5 eq v0 p0
+and eq v1 4 call 0 v1
+
+1:and eq v0 1 some l0 p0 3 eq v1 l0
+call 0 v0
+
+1:some l0 1 2 and eq v0 l0 lt p0 3
+call 0 add v0 1
+
+1:all l0 0 2 and eq a0 l0 l0 le p0 2
+call 0 a0 0
+
+1:some l0 p0 3 eq p0 v0
+call 0 v0
+
+1:and eq p0 7 eq v0 p0
+ex l2 call 0 l2
+""", **declared)
+    # errors: those of a part that stands nowhere do not arise; the others tell the token in the procedure's line
+    libraries("""
+1:true
+call 0 div 1 0
+
+1:true
+call 0 v0
+
+2:eq p1 1
+call 0 a0 9 v0
+
+2:eq p1 1
+1:call 0 div 1 0 p0
+call 1 v0
+
+1:or true eq p0 1
+call 0 div 1 0
+
+1:imp eq 1 2 eq p0 1
+call 0 div 1 0
+
+1:lt p0 3
+call 0 v0
+
+1:lt p0 3
+call 0 div 1 0
+
+1:lt p0 3
+call 0 mul 65536 65536
+
+1:lt p0 3
+call 0 a0 3
+
+0:true
+1:and true lt p0 3
+and true call 1 v0
+
+0:true
+1:and true lt p0 3
+and call 1 1 lt v0 3
+
+1:some l0 p0 3 true
+call 0 v0
+
+1:all l0 0 p0 true
+call 0 div 1 0
+
+1:or lt p0 1 or eq v0 p0 eq p0 add p0 1
+call 0 v1
+
+2:eq p0 p1
+call 0 v0 div 1 0
+
+2:eq p0 p1
+call 0 a0 v0 div 1 0
+
+2:eq p0 p1
+call 0 div 1 0 a0 v0
+
+2:eq p0 add p1 p1
+call 0 v0 v1
+
+2:eq add p0 p1 1
+call 0 div 1 0 mul 65536 65536
+
+2:eq add p1 p0 1
+call 0 div 1 0 mul 65536 65536
+
+1:eq p0 1
+1:or call 0 p0 call 0 add p0 1
+or call 1 v0 call 1 v1
+""", **declared)
+
+
+def bound_anew():
+    """The same procedure called twice in one branch: its locals are bound anew."""
+    libraries("""
+1:ex l0 and eq l0 1 eq p0 l0
+and call 0 v0 call 0 v1
+
+2:ex l0 and eq l0 p1 eq p0 l0
+and call 0 v0 1 call 0 v1 2
+
+2:ex l0 and eq l0 p1 eq p0 add l0 l0
+all l1 0 2 call 0 a0 l1 l1
+
+2:ex l0 or eq l0 p1 eq p0 l0
+all l1 0 1 call 0 a0 l1 l1
+
+1:some l0 1 2 eq p0 l0
+and call 0 v0 call 0 v1
+
+1:some l0 1 2 eq p0 l0
+and call 0 v0 and call 0 v1 ne v0 v1
+
+2:all l0 0 p1 eq p0 p0
+and call 0 1 1 call 0 2 2
+
+1:all l0 0 p0 eq a0 l0 p0
+and call 0 2 call 0 2
+
+1:all l0 0 2 some l1 0 1 or eq a0 l0 add p0 l1 eq a0 l0 sub p0 l1
+call 0 5
+
+2:some l0 p0 p1 eq v0 l0
+some l1 1 2 call 0 l1 add l1 1
+
+1:ex l0 eq p0 l0
+and call 0 v0 call 0 v1
+
+1:ex l0 and eq p0 l0 eq l0 3
+call 0 5
+
+2:ex l0 and eq l0 p0 eq p1 add l0 1
+2:ex l1 and call 0 p0 l1 call 0 l1 p1
+2:ex l2 and call 1 p0 l2 call 1 l2 p1
+and call 2 1 v0 call 2 v0 v1
+
+0:ex l0 and eq l0 1 eq v0 l0
+all l1 1 3 call 0
+""", scalars="3", locals="3", arrays="3")
+
+
+def inner_calls():
+    """`not` and `imp` with calls: what a local of a procedure is to the trees around it, and a parameter without value."""
+    declared = dict(scalars="3", locals="4", arrays="2")
+    # a procedure's `not` or `imp` over a parameter
+    formulas("""
+call 0 v0
+call 0 1
+call 0 0
+call 0 add v0 1
+call 0 a0 1
+call 0 a0 v0
+call 0 div 1 0
+and eq v0 1 call 0 v0
+and eq v0 0 call 0 v0
+ex l3 call 0 l3
+ex l3 and eq l3 1 call 0 l3
+not call 0 v0
+not ex l3 call 0 l3
+not ex l3 and eq l3 1 call 0 l3
+call 1 v0
+and call 1 v0 eq v0 5
+ex l3 and call 1 l3 eq l3 5
+not call 1 v0
+call 2 v0 v1
+call 2 0 v1
+call 2 1 v1
+ex l3 call 2 l3 v1
+ex l3 call 2 v1 l3
+not call 2 0 v1
+not call 2 1 v1
+not ex l3 call 2 0 l3
+ex l3 not call 2 0 l3
+""", edition="2", procedures=["1:not eq p0 0", "1:not and eq p0 0 eq p0 1", "2:imp eq p0 0 eq p1 7"], **declared)
+    libraries("""
+2:not eq p0 0
+ex l0 call 0 l0 v0
+
+1:eq p0 0
+ex l0 not call 0 l0
+
+1:eq p0 0
+not ex l0 call 0 l0
+
+1:eq p0 0
+not call 0 v0
+
+1:eq p0 0
+not call 0 a0 1
+
+1:eq p0 0
+not or call 0 v0 eq 1 1
+
+1:eq p0 0
+not and call 0 v0 call 0 v0
+
+1:eq p0 0
+imp call 0 v0 eq v1 1
+
+1:eq p0 0
+not imp true call 0 v0
+
+1:eq p0 0
+1:not call 0 p0
+not ex l0 call 1 l0
+
+1:eq p0 0
+1:not not call 0 p0
+call 1 v0
+""", **declared)
+    # locals of the procedures called are bound inside whatever calls them
+    libraries("""
+0:ex l0 eq l0 1
+not call 0
+
+0:ex l0 eq l0 1
+not and call 0 call 0
+
+0:ex l0 eq l0 1
+and call 0 not call 0
+
+0:ex l0 eq l0 1
+imp call 0 eq v0 1
+
+0:ex l0 eq l0 1
+0:call 0
+0:ex l1 and eq l1 2 call 1
+not call 2
+
+1:ex l0 eq l0 p0
+not call 0 1
+
+1:ex l0 eq l0 p0
+not call 0 v0
+
+1:ex l0 and eq l0 1 eq p0 l0
+not call 0 v0
+
+1:ex l0 and eq l0 1 eq p0 l0
+not ex l1 call 0 l1
+
+1:ex l0 and eq l0 1 eq p0 l0
+ex l1 not call 0 l1
+
+1:ex l0 and eq l0 1 eq p0 l0
+1:ex l1 and call 0 l1 eq p0 l1
+not ex l2 call 1 l2
+
+1:ex l0 and eq l0 1 eq p0 l0
+1:ex l1 and call 0 l1 eq p0 l1
+not call 1 v0
+
+0:ex l0 not eq l0 0
+not call 0
+
+1:ex l0 not eq p0 0
+ex l1 call 0 l1
+
+1:ex l0 not eq p0 0
+not ex l1 call 0 l1
+
+1:ex l0 and eq l0 p0 not eq l0 2
+and call 0 1 call 0 2
+
+1:ex l0 and not and eq l0 1 eq p0 l0 eq l0 1
+call 0 v0
+
+1:some l0 1 2 eq p0 l0
+not call 0 1
+
+1:some l0 1 2 eq p0 l0
+not call 0 v0
+
+1:all l0 1 2 ex l1 eq l1 p0
+not call 0 3
+
+1:not ex l0 and eq l0 1 eq p0 l0
+1:not ex l1 and eq l1 1 call 0 l1
+call 1 v0
+
+1:not ex l0 and eq l0 1 eq p0 l0
+1:not ex l1 and eq l1 1 call 0 p0
+call 1 v0
+
+1:not ex l0 and eq l0 1 eq p0 l0
+0:not ex l1 call 0 l1
+call 1
+""", **declared)
+
+
+def call_numbers():
+    """K, a token of its own: 9, then 4, then 6, then 11."""
+    text = """
+call
+call 
+call  0
+call 0 
+call 0 v0
+call 0 v0 
+call 0 v0 1
+call 0 v0 v0
+call 1 v0 1
+call 2
+call 3 v0
+call 9
+call 10
+call 99999999999
+call 4294967295
+call 4294967296
+call 4294967297
+call 18446744073709551616
+call 2147483648
+call 00
+call 01
+call -0
+call -1
+call -2147483649
+call -
+call --0
+call +0
+call 0-
+call 0x
+call 0,
+call x
+call v0
+call v0 v0
+call l0
+call a0
+call p0
+call true
+call call
+call call 0 v0
+call 0 true
+call 0 call
+call 0 l0
+call 0 l1
+call 0 v1
+call 0 a0 0
+call 0 00
+call 0 p0
+call 0 ex
+call 0 add v0
+call 0 add v0 1
+call 1 v0
+call 1 v0 
+call 1 v0,
+not call
+and call 0 v0
+and call 0 v0 
+and call 0 v0 call 3
+and call 0 v0 call -3
+"""
+    formulas(text, edition="2", procedures=["1:eq p0 1", "2:eq p0 p1", "0:true"])
+    formulas("call 0\ncall -0\ncall v0\ncall 99999999999\ncall", edition="2")
+    for n in (99, 999):
+        formulas("call " + "1" * n, edition="2", procedures=["0:true"])
+    libraries("""
+0:call 0
+true
+
+0:call 1
+0:true
+true
+
+0:true
+0:call 1
+true
+
+0:call 99999999999
+true
+
+0:call -0
+true
+
+0:call x
+true
+
+1:call 0 p0
+call 0 v0
+
+1:true
+1:call 0
+true
+
+1:true
+1:call 0 p1
+true
+
+1:true
+2:call 0 p1
+call 1 v0 5
+""")
+
+
+def parameter_names():
+    """12, where 7 is tested: after 9, 4 and 6."""
+    formulas("""
+p0
+not p0
+eq p0 1
+eq 1 p0
+eq v0 add 1 p0
+eq a0 p0 1
+eq p1 1
+eq p00 1
+eq p-1 1
+eq p 1
+eq px 1
+eq p0x 1
+eq p99999999999999999999 1
+ex p0 true
+some p0 1 2 true
+some l0 p0 2 true
+call 0 p0
+call p0 v0
+call 0 p0x
+""", edition="2", arrays="1", procedures=["1:eq p0 1"])
+    for n, formula in ((0, "eq p0 1"), (1, "eq p0 1"), (1, "eq p1 1"), (1, "eq p01 1"), (7, "eq p7 1"), (8, "eq p7 1"), (8, "eq p8 1"),
+                       (8, "eq p10 1"), (2, "eq p4294967296 1"), (2, "eq p18446744073709551617 1"), (1, "p0"), (1, "not p0"),
+                       (1, "ex p0 true"), (1, "eq p0 p1"), (2, "eq p1 l1"), (1, "ex l0 eq p0 l0"), (1, "some l0 p0 p1 true")):
+        case("proc=%d:%s" % (n, formula), lines(edition="2", procedures=["%d:%s" % (n, formula)]))
+
+
+def local_binders():
+    """A local has one binder in the whole sheet, and stands in that one's line only."""
+    libraries("""
+0:ex l0 true
+ex l0 true
+
+0:ex l0 true
+0:ex l0 true
+true
+
+0:ex l0 true
+0:ex l1 true
+call 1
+
+0:ex l0 true
+eq l0 1
+
+0:eq l0 1
+ex l0 call 0
+
+0:eq l0 1
+true
+
+1:eq p0 l0
+ex l0 call 0 l0
+
+1:eq p0 1
+call 0 l0
+
+1:eq p0 1
+and ex l0 true call 0 l0
+
+1:eq p0 1
+some l0 1 2 call 0 l0
+
+1:ex l0 call 0 p0
+true
+
+0:some l0 1 2 true
+0:and true all l0 1 2 true
+true
+
+0:true
+0:ex l0 some l0 1 2 true
+true
+
+0:ex l0 true
+0:ex l1 eq l0 1
+true
+
+0:ex l2 true
+true
+""", locals="2")
+
+
+def procedure_lines():
+    """The lines between given and formula: their keys, their numbers, the byte after each."""
+    for value in ("", "0", "0:", "0:true", "8:true", "9:true", "10:true", "00:true", "01:true", "-0:true", "-1:true", "1-:true", "--:true",
+                  "-:true", "x:true", ":true", " 0:true", "0 :true", "0: true", "0:true ", "0::true", "0;true", "0.true", "0=true", "0,true",
+                  "0true", "99999999999:true", "4294967296:true", "9x", "0:x", "0:true x", "0:and true", "0:and true ", "1:eq p0", "1:eq p0 ",
+                  "0:1", "0:2147483648", "0:00", "0:v0", "0:ex true", "0:eq v1 1", "0:eq l1 1", "+1:true", "0:proc=0:true",
+                  "0:formula=true", "0\r:true"):
+        case("proc=%r" % value, lines(edition="2", procedures=[value]))
+    good = lines(edition="2", scalars="1", procedures=["0:true", "2:ex l0 eq p0 p1"], formula="call 1 v0 3")
+    case("whole, with procedures", good)
+    for k in range(good.index("proc="), good.index("call")):
+        case("cut to %d bytes" % k, good[:k])
+        case("byte %d an x" % k, good[:k] + "x" + good[k + 1:])
+    rows = good.split("\n")[:-1]
+    for k in range(4, len(rows)):
+        for row in ("", "proc", "proc=", "Proc=0:true", "procs=0:true", "proc =0:true", "proc=0:true", "formula=true", "given="):
+            case("line %d is %r" % (k, row), "".join(line + "\n" for line in rows[:k] + [row] + rows[k + 1:]))
+            case("%r before line %d" % (row, k), "".join(line + "\n" for line in rows[:k] + [row] + rows[k:]))
+    case("a procedure before the given line", good.replace("given=\nproc=0:true\n", "proc=0:true\ngiven=\n"))
+    case("a procedure after the formula", good + "proc=0:true\n")
+
+
+def procedure_limits():
+    def sheet(procedures, formula):
+        return lines(edition="2", procedures=procedures, formula=formula)
+    # 16 procedures, 8 parameters
+    def chain(n, call="call %d"):
+        return ["0:eq v0 1"] + ["0:" + call % k for k in range(n - 1)]
+    for n in (1, 15, 16, 17, 18):
+        case("%d procedures, each calling the one before" % n, sheet(chain(n), "call %d" % (n - 1)))
+    case("16 procedures, and a call of a seventeenth", sheet(chain(16), "call 16"))
+    case("the seventeenth procedure in bad form", sheet(["0:true"] * 16 + ["x"], "true"))
+    case("a chain of 16 under not", sheet(chain(16, "not call %d"), "call 15"))
+    case("a chain of 5, each with a choice", sheet(["1:eq p0 1"] + ["1:or call %d p0 call %d p0" % (k, k) for k in range(4)], "call 4 v0"))
+    twice = sheet(["0:true"] + ["0:and call %d call %d" % (k, k) for k in range(13)], "call 13")
+    for path in (32768, 32767):
+        case("a chain of 14, each twice, a path of 32,768 nodes, under path limit %d" % path, twice, path=path)
+    for n in (7, 8, 9):
+        case("%d parameters" % n, sheet(["%d:eq p%d 3" % (n, n - 1)], "call 0" + " v0" * n))
+    numbers = " ".join("12345678")
+    case("8 parameters, all used", sheet(["8:eq v0 " + "add " * 7 + " ".join("p%d" % k for k in range(8))], "call 0 " + numbers))
+    case("8 arguments and one more", sheet(["8:true"], "call 0 %s 9" % numbers))
+    case("8 arguments less one", sheet(["8:true"], "call 0 " + numbers[:-2]))
+    case("8 parameters through 16 procedures", sheet(
+        ["8:eq p7 p0"] + ["8:call %d p1 p2 p3 p4 p5 p6 p7 p0" % k for k in range(15)], "call 15 1 2 3 4 5 6 v0 8"))
+    # 1,024 tokens through all lines
+    half = "0:le %s %s" % (ones(7), ones(7))            # 511 tokens
+    for formula in ("call 0", "not not true", "not call 0", "not call -0"):
+        case("1,022 tokens before " + formula, sheet([half, half], formula))
+    case("1,022 tokens before proc=0:not not true", sheet([half, half, "0:not not true"], "true"))
+    case("an error at token 513 in a procedure", sheet([half, "1:and true lt p0 1"], "call 1 v0"))
+    case("an error at token 513 in the formula", sheet([half], "and true lt v0 1"))
+    # nesting 64 in each line
+    deepest = "0:" + "not " * 63 + "true"
+    for depth in (63, 64, 65):
+        deep = "not " * (depth - 1) + "true"
+        case("nesting %d in the first procedure" % depth, sheet(["0:" + deep, "0:true"], "call 0"))
+        case("nesting %d in the second procedure" % depth, sheet([deepest, "0:" + deep], "call 1"))
+        case("nesting %d in the formula" % depth, sheet([deepest], deep))
+        for call in ("call 0 v0", "call -0 v0", "call x", "call 9", "call 0 add", "call 0 p0", "call", "call "):
+            case("%s after %d times not" % (call, depth - 2), sheet(["1:true"], "not " * (depth - 2) + call))
+    deep = ["1:" + "and true " * 62 + "eq p0 1"] + ["1:" + "and true " * 62 + "call %d p0" % k for k in range(3)]
+    case("nesting 64 in each of four procedures", sheet(deep, "call 3 1"))
+
+
+def many_uses():
+    """A parameter that occurs many times in the argument of the next call: a term with more parts than any budget, and few nodes."""
+    def used(name, procedures, formula, given=""):
+        case(name, lines(edition="2", scalars="3", locals="2", arrays="2", given=given, procedures=procedures, formula=formula))
+
+    def deep(first, argument, depth=15):
+        return ["1:" + first] + ["1:call %d %s" % (k, argument) for k in range(depth)]
+
+    def total(parts):
+        half = len(parts) // 2
+        return parts[0] if half == 0 else "add %s %s" % (total(parts[:half]), total(parts[half:]))
+
+    def same(uses):
+        """A term with so many uses of the parameter, an odd number, that is the parameter itself."""
+        return total(["sub p0 p0"] * (uses // 2) + ["p0"])
+
+    used("31 uses, 16 deep, of 7", deep("eq v0 p0", same(31)), "call 15 7")
+    used("61 uses, 8 deep, of a cell without value", deep("eq v0 p0", same(61), 7), "call 7 v1")
+    used("a sum of 31, 16 deep, of 1", deep("eq v0 p0", total(["p0"] * 31)), "call 15 1")
+    five = same(5)
+    for argument in ("0", "7", "v1", "a0 1", "a0 v1", "div 1 0", "mul 65536 65536", "a0 2", HIGH):
+        used("5 uses, 16 deep, of " + argument, deep("eq v0 p0", five), "call 15 " + argument)
+    used("valued in the last procedure only", deep("and eq v1 5 eq v0 p0", five), "call 15 v1")
+    used("valued there again and again", deep("some l0 1 9 and eq v1 l0 eq v0 p0", five), "call 15 v1")
+    used("as a bound", deep("some l0 p0 add p0 2 eq v0 l0", five), "call 15 7")
+    used("as an index", deep("eq a0 p0 5", five), "call 15 1")
+    used("on both sides", deep("eq add p0 p0 mul p0 p0", five), "call 15 2")
+    used("under not, undecided", deep("not eq v0 p0", five), "call 15 7")
+    used("under not, decided", deep("not eq p0 8", five), "call 15 7")
+    used("in each round", deep("eq a0 p0 p0", five), "all l1 0 1 call 15 l1")
+    used("elements of elements", deep("eq v0 p0", "a0 sub mul a0 p0 2 a0 p0"), "call 15 1", given="a0.0:0,a0.1:1")
+    two = ["2:eq v0 add p0 p1"] + ["2:call %d add p0 p1 sub p0 p1" % k for k in range(15)]
+    used("two parameters, each in both arguments", two, "call 15 3 1")
+    used("two parameters, one without value", two, "call 15 3 v1")
+    used("two parameters, exchanged", ["2:eq p0 p1"] + ["2:call %d p1 p0" % k for k in range(15)], "call 15 v1 4")
+
+
+def procedures_cut():
+    """Where a run is ended inside a procedure, at its call or after it, and where blocks are skipped."""
+    library = ["2:eq p0 p1", "1:some l0 1 2 call 0 p0 l0", "1:not call 0 p0 1"]
+    sheet = lines(edition="2", scalars="2", locals="2", procedures=library, formula="and call 1 v0 or call 2 v0 imp call 0 v0 1 lt v1 1")
+    case("a run through procedures", sheet)
+    for path in range(1, 13):
+        case("the same under path limit %d" % path, sheet, path=path)
+    for budget in range(34):
+        case("the same under budget %d" % budget, sheet, budget=budget)
+    for output, skip in ((0, 0), (13, 0), (14, 0), (39, 0), (40, 0), (25, 1), (26, 1), (0, 2), (0, 4)):
+        case("the same in %d bytes after a skip of %d" % (output, skip), sheet, output=output, skip=skip)
+    long = lines(edition="2", locals="2", procedures=["1:ne p0 0"], formula="all l0 1 10000 call 0 l0")
+    for path in (30003, 30002):
+        case("a path of 30,003 nodes under path limit %d" % path, long, path=path)
+    queens = ["4:and ne p1 p3 and ne sub p1 p3 sub p2 p0 ne sub p3 p1 sub p2 p0"]
+    case("four queens with calls", lines(edition="2", scalars="0", locals="3", arrays="4", procedures=queens,
+                                         formula="all l0 0 3 some l1 0 3 and eq a0 l0 l1 all l2 0 sub l0 1 call 0 l2 a0 l2 l0 l1"))
+
+
 # ---------------------------------------------------------------- damaged sheets
 
 def damaged():
@@ -685,20 +1528,20 @@ def taught():
 
 # ---------------------------------------------------------------- random cases
 
-def drawn():
-    """Random and damaged sheets under random settings."""
-    rng = random.Random(20011)
-    for _ in range(RANDOM):
+def drawn(edition):
+    """Random and damaged sheets of an edition under random settings."""
+    rng = random.Random(20010 + edition)
+    for _ in range(RANDOM[edition]):
         path = rng.choice((1, 2, 3, 5, 8, 13, 40, 512, 512, 512, 3000))
         budget = rng.choice((0, 1, 5, 20, 100, 1000, 5000, 5000))
         skip = rng.choice((0, 0, 0, 1, 2, 7, 100))
         output = rng.choice((0, 9, 30, 100, 1000, 4096, 4096))
         words = walker.words_for(path) - (rng.random() < 0.03) + rng.choice((0, 0, 1, 77))
-        yield walker.Case(random_sheets.drawn(rng), path, budget, skip, output, words)
+        yield walker.Case(random_sheets.drawn(rng, (edition,)), path, budget, skip, output, words)
 
 
 def stored():
-    return walker.unpacked((FILES / "stdin").read_bytes())[-RANDOM:]
+    return walker.unpacked((FILES / "stdin").read_bytes())[-sum(RANDOM.values()):]
 
 
 # ---------------------------------------------------------------- the files
@@ -709,9 +1552,10 @@ def main():
     parser.add_argument("--list", action="store_true")
     given = parser.parse_args()
     for group in (marked, readings, slips, declared_limits, text_limits, lent_limits, kinds, words, inner_trees, negations, negations_cut,
-                  damaged, taught):
+                  damaged, taught, editions, calls, arguments, bound_anew, inner_calls, call_numbers, parameter_names, local_binders,
+                  procedure_lines, procedure_limits, many_uses, procedures_cut):
         group()
-    for number, drawn_case in enumerate(drawn() if given.random else stored()):
+    for number, drawn_case in enumerate([*drawn(1), *drawn(2)] if given.random else stored()):
         cases.append(("random %d" % (number + 1), drawn_case))
     if given.list:
         for number, (name, listed) in enumerate(cases):

@@ -1,5 +1,5 @@
 #!/usr/bin/env python3
-"""Random sheets: well formed ones, ones at a limit or one past it, and damaged ones.
+"""Random sheets of editions 1 and 2: well formed ones, ones at a limit or one past it, and damaged ones.
 
   tools/random_sheets.py [SEED]      prints the sheet that a seed gives
 
@@ -13,32 +13,35 @@ LOW, HIGH = -2**31, 2**31 - 1
 COMPARISONS = ("eq", "ne", "lt", "le", "gt", "ge")
 OPERATIONS = ("add", "sub", "mul", "div", "mod")
 CONNECTIVES, QUANTIFIERS = ("and", "or", "imp"), ("some", "all")
-WORDS = ("true", "not", "ex") + CONNECTIVES + QUANTIFIERS + COMPARISONS + OPERATIONS
+WORDS = ("true", "not", "ex", "call") + CONNECTIVES + QUANTIFIERS + COMPARISONS + OPERATIONS
 ENDS = (LOW, LOW + 1, HIGH - 1, HIGH)
 
 
-def drawn(rng):
-    """A sheet: mostly well formed, one in eight at a limit, one in three damaged."""
-    sheet = edge(rng) if rng.random() < 0.12 else well_formed(rng)
+def drawn(rng, editions=(1, 2)):
+    """A sheet of one of the editions: mostly well formed, one in eight at a limit, one in three damaged."""
+    edition = rng.choice(editions)
+    sheet = edge(rng, edition) if rng.random() < 0.12 else well_formed(rng, edition)
     if rng.random() < 0.35:
         for _ in range(rng.choice((1, 1, 1, 2, 4))):
             sheet = damaged(rng, sheet)
     return sheet
 
 
-def lines(scalars=1, locals=1, arrays=(), given="", formula="true"):
-    """A sheet by what its lines hold."""
-    values = 1, scalars, locals, ",".join(map(str, arrays)), given, formula
-    return ("edition=%s\nscalars=%s\nlocals=%s\narrays=%s\ngiven=%s\nformula=%s\n" % values).encode()
+def lines(scalars=1, locals=1, arrays=(), given="", formula="true", edition=1, procedures=()):
+    """A sheet by what its lines hold; a procedure by its number of parameters and its formula."""
+    procedures = "".join("proc=%d:%s\n" % procedure for procedure in procedures)
+    values = edition, scalars, locals, ",".join(map(str, arrays)), given, procedures, formula
+    return ("edition=%s\nscalars=%s\nlocals=%s\narrays=%s\ngiven=%s\n%sformula=%s\n" % values).encode()
 
 
 # ---------------------------------------------------------------- well-formed sheets
 
-def well_formed(rng):
-    """A sheet that no refusal fits: what it declares and gives, and a formula that mostly uses what has a value."""
+def well_formed(rng, edition):
+    """A sheet that no refusal fits: what it declares and gives, and formulas that mostly use what has a value."""
     while True:
-        sheet = Draft(rng).sheet()
-        if len(sheet) <= 4096:
+        sheet = Draft(rng).sheet(edition)
+        tokens = sheet.count(b" ") + sheet.count(b"\nproc=") + 1
+        if len(sheet) <= 4096 and tokens <= 1024:
             return sheet
 
 
@@ -57,9 +60,17 @@ def given_line(rng, scalars, arrays, share):
     return ",".join("%s:%d" % (name, constant(rng)) for name, _ in chosen), [name for _, name in chosen]
 
 
+class Procedure:
+    """A line `proc=`: what it holds, the parameters that need a value where it is called, and what has one afterwards."""
+
+    def __init__(self, parameters, needs):
+        self.parameters, self.needs = parameters, needs
+        self.formula, self.valued = None, set()
+
+
 class Draft:
-    """One sheet while it is drawn. `valued` holds the cells and locals that will have a value, as far as can be seen, when the walk gets
-    to the place that is drawn next: names as the formula writes them, elements by a constant index."""
+    """One sheet while it is drawn. `valued` holds the cells, locals and parameters that will have a value, as far as can be seen, when the
+    walk gets to the place that is drawn next: names as the formula writes them, elements by a constant index."""
 
     def __init__(self, rng):
         self.rng = rng
@@ -71,17 +82,34 @@ class Draft:
         self.unbound = rng.sample(range(self.locals), self.locals)
         self.scope = []
         self.outside = set()        # names that an inner tree should not assign
+        self.procedures = []
+        self.parameters = 0         # of the line that is drawn
 
-    def sheet(self):
+    def sheet(self, edition):
+        if edition == 2:
+            for _ in range(self.rng.choice((0, 1, 1, 2, 2, 3, 4, 6, 16))):
+                self.procedures.append(self.procedure())
         formula = self.formula(self.rng.choice((1, 8, 15, 30, 30, 60, 120, 400)))
-        return lines(self.scalars, self.locals, self.arrays, self.given, formula)
+        procedures = [(procedure.parameters, procedure.formula) for procedure in self.procedures]
+        return lines(self.scalars, self.locals, self.arrays, self.given, formula, edition, procedures)
+
+    def procedure(self):
+        """A procedure; most parameters, and in one of two sheets some cells, are taken to have a value where it is called."""
+        rng, before = self.rng, set(self.valued)
+        self.parameters = rng.choice((0, 1, 1, 1, 2, 2, 3, 4, 8))
+        needs = {"p%d" % n for n in range(self.parameters) if rng.random() < 0.6}
+        self.valued |= needs | {name for name in self.names() if name[0] != "p" and rng.random() < rng.choice((0, 0.3))}
+        drawn = Procedure(self.parameters, needs)
+        drawn.formula = self.formula(rng.choice((1, 5, 8, 15, 30)))
+        drawn.valued, self.valued, self.parameters = self.valued - before, before, 0
+        return drawn
 
     # -- names
 
     def names(self):
-        """Every cell and local that may stand here."""
+        """Every cell, local and parameter that may stand here."""
         elements = ["a%d %d" % (n, e) for n, length in enumerate(self.arrays) for e in range(length)]
-        return ["v%d" % n for n in range(self.scalars)] + elements + self.scope
+        return ["v%d" % n for n in range(self.scalars)] + elements + self.scope + ["p%d" % n for n in range(self.parameters)]
 
     def unvalued(self):
         return [name for name in self.names() if name not in self.valued and name not in self.outside]
@@ -116,6 +144,8 @@ class Draft:
             ways += [self.ranged, self.ranged, self.found]
         if self.unbound and self.arrays:
             ways.append(self.filled)
+        if self.procedures:
+            ways += [self.called] * 6
         return self.rng.choice(ways)(size)
 
     def atom(self, size):
@@ -205,12 +235,31 @@ class Draft:
         self.valued.update("a%d %d" % (array, e) for e in range(last + 1))
         return "all %s 0 %d %s" % (local, last + self.rng.choice((0, 0, 0, 0, -1, 1)), body)
 
+    def called(self, size):
+        """A call, often one of the procedure before: a term for each parameter that needs a value, mostly a bare name for the others."""
+        rng = self.rng
+        number = rng.choice((rng.randrange(len(self.procedures)), len(self.procedures) - 1))
+        procedure = self.procedures[number]
+        arguments, given = [], {name for name in procedure.valued if name[0] in "va"}
+        for parameter in ("p%d" % n for n in range(procedure.parameters)):
+            unvalued = self.unvalued()
+            if parameter in procedure.needs or not unvalued or rng.random() < 0.1:
+                arguments.append(self.term(min(size, rng.choice((1, 1, 2, 3, 3, 5)))))
+            else:
+                arguments.append(rng.choice(unvalued))
+                if parameter in procedure.valued:
+                    given.add(arguments[-1])
+        self.valued |= given
+        return " ".join(["call", str(number)] + arguments)
+
 
 # ---------------------------------------------------------------- sheets at a limit, or one past it
 
-def edge(rng):
+def edge(rng, edition):
     past = rng.random() < 0.4
-    return rng.choice(EDGES)(rng, past)
+    if edition == 2 and rng.random() < 0.6:
+        return rng.choice(PROCEDURE_EDGES)(rng, past)
+    return rng.choice(EDGES)(rng, past).replace(b"edition=1", b"edition=%d" % edition)
 
 
 def deep(rng, past):
@@ -324,6 +373,73 @@ EDGES = (deep, deep, many_tokens, many_bytes, many_cells, many_given, many_array
          end_ranges, long_path)
 
 
+# ---------------------------------------------------------------- the same for procedures
+
+def with_procedures(procedures, formula):
+    return lines(2, 2, (3,), "", formula, 2, procedures)
+
+
+def many_procedures(rng, past):
+    """16 procedures, each but the first calling one before it."""
+    procedures = [(1, rng.choice(("eq p0 1", "eq v0 p0", "lt p0 20", "true")))]
+    for number in range(1, 16 + past):
+        called = rng.choice((number - 1, number - 1, number - 1, rng.randrange(number)))
+        call = "call %d %s" % (called, rng.choice(("p0", "p0", "add p0 1", "a0 p0", "v0")))
+        procedures.append((1, rng.choice(("%s", "%s", "and true %s", "not not %s", "or %s true")) % call))
+    return with_procedures(procedures, "call %d %s" % (len(procedures) - 1, rng.choice(("0", "v0", "v1", "a0 1"))))
+
+
+def many_parameters(rng, past):
+    sums = tree(rng, "add", ["p%d" % n for n in rng.sample(range(8), 8)])
+    arguments = [rng.choice(("v0", "1")) for _ in range(8)] + ["v1"] * past
+    arguments[rng.randrange(8)] = rng.choice(("1", "v1", "a0 1", "div 1 0"))
+    formula = "eq %s %s" % (rng.choice(("v1", "8", "p0", "p7", "p8")), sums)
+    return with_procedures([(8 + past, formula)], "and eq v0 1 call 0 %s" % " ".join(arguments))
+
+
+def many_tokens_by_lines(rng, past):
+    """1,024 tokens through all lines, each line a comparison of a sum of ones, which has twice as many tokens as ones, and one."""
+    procedures, left = [], 1024 + past
+    for _ in range(rng.randint(1, 5)):
+        ones = rng.randint(2, 90)
+        procedures.append((1, "eq %s p0" % tree(rng, "add", ["1"] * ones)))
+        left -= 2 * ones + 1
+    ones, negations = divmod(left - 1, 2)
+    formula = "not " * negations + "%s %s 1" % (rng.choice(COMPARISONS), tree(rng, "add", ["1"] * ones))
+    procedures, formula = rng.choice(((procedures, formula), ([(0, formula)] + procedures[1:], procedures[0][1].replace("p0", "v0"))))
+    return with_procedures(procedures, formula)
+
+
+def deep_by_lines(rng, past):
+    """Nesting 64 in each line, past: 65 in one; K and the arguments of a call are one below it."""
+    depths = [62, 62, 62]
+    depths[rng.randrange(3)] += past
+    outer = [rng.choice(("not ", "and true ", "or eq 1 2 ")) * depth for depth in depths]
+    last = rng.choice(("call 1 1", "call 1 1", "call 01 1", "call 2 1", "call x 1"))
+    return with_procedures([(1, outer[0] + "eq p0 1"), (1, outer[1] + "call 0 p0")], outer[2] + last)
+
+
+def one_number(rng, past):
+    """The number of a procedure or of a parameter at its limit, or past it."""
+    far = rng.choice((2, 2**31, 2**32, 2**32 + 1, 2**64, 10**30)) if past else 1
+    number = rng.choice(("%d" % far, "%d" % far, "-%d" % far, "0%d" % far, "-0", "v0", "p0", "", "%dx" % far))
+    formula = rng.choice(("call %s v0 1", "call 0 p%s 1", "eq p%s 1", "ex p%s true", "p%s", "not call %s v0 v1")) % number
+    procedures = [(2, "eq p0 p1"), (2, rng.choice(("call 0 p%s 1", "call %s p0 p1", "eq p1 p%s")) % rng.choice((number, "0", "1")))]
+    return with_procedures(procedures, formula)
+
+
+def many_uses(rng, past):
+    """A parameter used many times in the argument of the next call: what it stands for is huge where `past`."""
+    uses, depth = (rng.randint(20, 30), 14) if past else (2, rng.randint(1, 8))
+    argument = tree(rng, rng.choice(("add", "sub")), ["p0"] * uses)
+    procedures = [(1, rng.choice(("eq v0 p0", "lt p0 5", "some l0 p0 p0 eq v0 l0", "not eq v1 p0", "and eq v1 0 eq v0 p0")))]
+    procedures += [(1, "call %d %s" % (number, argument)) for number in range(depth)]
+    return with_procedures(procedures, "call %d %s" % (depth, rng.choice(("0", "0", "1", "v1", "a0 v1", "div 1 0"))))
+
+
+PROCEDURE_EDGES = (many_procedures, many_parameters, many_tokens_by_lines, deep_by_lines, one_number, one_number, many_uses)
+
+
 # ---------------------------------------------------------------- damage
 
 def damaged(rng, sheet):
@@ -332,7 +448,7 @@ def damaged(rng, sheet):
 
 def telling(rng):
     """A byte: mostly one that means something in a sheet."""
-    return rng.choice(b"0123456789-=,:. \nval\r\tXx") if rng.random() < 0.8 else rng.randrange(256)
+    return rng.choice(b"0123456789-=,:. \nvalp\r\tXx") if rng.random() < 0.8 else rng.randrange(256)
 
 
 def changed(rng, sheet):
@@ -360,7 +476,7 @@ def cut_short(rng, sheet):
 
 
 def goes_on(rng, sheet):
-    return sheet + rng.choice((b"\n", b" ", b"\0", b"true\n", b"given=\n", sheet))
+    return sheet + rng.choice((b"\n", b" ", b"\0", b"true\n", b"given=\n", b"proc=0:true\n", sheet))
 
 
 def lines_moved(rng, sheet):
@@ -392,13 +508,13 @@ def number_changed(rng, sheet):
     return replaced(rng, sheet, rb"[0-9]+", new)
 
 
-TOKEN = rb"(?<=[ =])[a-z][a-z0-9]*(?=[ \n])"
+TOKEN = rb"(?<=[ =:])[a-z][a-z0-9]*(?=[ \n])"
 
 
 def word_changed(rng, sheet):
     """A token exchanged for any other word, name or constant, or its case changed."""
     def new(old):
-        name = "%s%d" % (rng.choice("vla"), rng.choice((0, 0, 1, 2, 3, 70)))
+        name = "%s%d" % (rng.choice("vlap"), rng.choice((0, 0, 1, 2, 3, 70)))
         return rng.choice((rng.choice(WORDS).encode(), name.encode(), b"%d" % constant(rng), old.upper(), old[:-1], b""))
     return replaced(rng, sheet, TOKEN, new)
 
@@ -413,8 +529,12 @@ def word_exchanged(rng, sheet):
     return replaced(rng, sheet, TOKEN, new)
 
 
+def edition_changed(rng, sheet):
+    return replaced(rng, sheet, rb"(?<=edition=)[12]", lambda old: rng.choice((b"1", b"2", b"3")))
+
+
 DAMAGES = (changed, dropped, inserted, doubled, cut_short, goes_on, lines_moved, number_changed, number_changed, word_changed, word_changed,
-           word_exchanged, word_exchanged)
+           word_exchanged, word_exchanged, edition_changed)
 
 
 if __name__ == "__main__":
