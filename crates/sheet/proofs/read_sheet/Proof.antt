@@ -13,7 +13,8 @@ clear-requires c κs = search needs
 
 all-lines-requires : tie.Need-all-lines-requires
 all-lines-requires c κs =
-    let start = c .before .before .before .before .before .before .before in
+    let mid = c .before .before .before .before .before in
+    let start = mid .before .before in
     let z = cleared (start .args .w .now) _ (c .before .before .before .clear .ensures) in
     (z .1, omega (arith, z .0, start .pre))
 
@@ -34,9 +35,12 @@ same-length c = search needs
 
 returns : tie.Need-returns
 returns c =
-    let lines = c .before .before .before .before .before .before .before .before .before in
-    let cleared-first = c .before .before .before .before .before .before .before .before .before .before .before .before .before in
-    let start = c .before .before .before .before .before .before .before .before .before .before .before .before .before .before .before .before .before in
+    let mid = c .before .before .before .before .before in
+    let far = mid .before .before .before .before .before in
+    let farther = far .before .before .before .before .before in
+    let lines = mid .before .before .before .before in
+    let cleared-first = far .before .before .before in
+    let start = farther .before .before in
     let went =
     subst (λ n. Went 7 (start .args .s .now) n (lines .all-lines .result) (lines .all-lines .last .1 .0)) (cleared (start .args .w .now) _ (cleared-first .clear .ensures) .0)
     (lines .all-lines .ensures) in
@@ -47,9 +51,12 @@ same-length-2 c = search needs
 
 returns-2 : tie.Need-returns-2
 returns-2 c =
-    let lines = c .before .before .before .before .before .before .before .before .before in
-    let cleared-first = c .before .before .before .before .before .before .before .before .before .before .before .before .before in
-    let start = c .before .before .before .before .before .before .before .before .before .before .before .before .before .before .before .before .before in
+    let mid = c .before .before .before .before .before in
+    let far = mid .before .before .before .before .before in
+    let farther = far .before .before .before .before .before in
+    let lines = mid .before .before .before .before in
+    let cleared-first = far .before .before .before in
+    let start = farther .before .before in
     let went =
     subst (λ n. Went 7 (start .args .s .now) n (lines .all-lines .result) (lines .all-lines .last .1 .0)) (cleared (start .args .w .now) _ (cleared-first .clear .ensures) .0)
     (lines .all-lines .ensures) in

@@ -45,9 +45,10 @@ returns-3 c =
 returns-4 : tie.Need-returns-4
 unfolding faultOf
 returns-4 c =
+    let mid = c .before .before .before .before .before in
     λ d B m b.
     rw (
-      ne-eqb _ badConstantCode (c .before .before .before .before .before .before .if1 .left),
+      ne-eqb _ badConstantCode (mid .before .if1 .left),
       sym ((c .before .before .before .before .before .suits .ensures) d (m .sort)) ∙ not-false _ (c .before .before .before .before .if2 .left),
       sym (c .before .before .before .is-declared .ensures) ∙ not-false _ (c .before .before .if3 .left),
       ne-eqb _ localCode (c .if4 .taken),
@@ -55,16 +56,18 @@ returns-4 c =
 
 in-place-requires : tie.Need-in-place-requires
 in-place-requires c κs =
+    let mid = c .before .before .before .before .before in
     let told = c .before .before .before in
-    omega (arith, declared-local (c .before .before .before .before .before .before .before .before .args .d) (c .before .before .before .before .before .before .before .before .args .t) (c .if4 .left) (sym (told .is-declared .ensures) ∙ not-false _ (c .before .before .if3 .left)))
+    omega (arith, declared-local (mid .before .before .before .args .d) (mid .before .before .before .args .t) (c .if4 .left) (sym (told .is-declared .ensures) ∙ not-false _ (c .before .before .if3 .left)))
 
 returns-5 : tie.Need-returns-5
 unfolding faultOf
 returns-5 c =
+    let mid = c .before .before .before .before .before in
     λ d B m b.
     rw (
-      ne-eqb _ badConstantCode (c .before .before .before .before .before .before .before .before .if1 .left),
-      sym ((c .before .before .before .before .before .before .before .suits .ensures) d (m .sort)) ∙ not-false _ (c .before .before .before .before .before .before .if2 .left),
+      ne-eqb _ badConstantCode (mid .before .before .before .if1 .left),
+      sym ((mid .before .before .suits .ensures) d (m .sort)) ∙ not-false _ (mid .before .if2 .left),
       sym (c .before .before .before .before .before .is-declared .ensures) ∙ not-false _ (c .before .before .before .before .if3 .left),
       eq-eqb _ localCode (c .before .before .if4 .left),
       sym ((c .before .in-place .ensures) d B m b) ∙ (c .if5 .taken),
@@ -73,10 +76,11 @@ returns-5 c =
 returns-6 : tie.Need-returns-6
 unfolding faultOf
 returns-6 c =
+    let mid = c .before .before .before .before .before in
     λ d B m b.
     rw (
-      ne-eqb _ badConstantCode (c .before .before .before .before .before .before .before .before .if1 .left),
-      sym ((c .before .before .before .before .before .before .before .suits .ensures) d (m .sort)) ∙ not-false _ (c .before .before .before .before .before .before .if2 .left),
+      ne-eqb _ badConstantCode (mid .before .before .before .if1 .left),
+      sym ((mid .before .before .suits .ensures) d (m .sort)) ∙ not-false _ (mid .before .if2 .left),
       sym (c .before .before .before .before .before .is-declared .ensures) ∙ not-false _ (c .before .before .before .before .if3 .left),
       eq-eqb _ localCode (c .before .before .if4 .left),
       sym ((c .before .in-place .ensures) d B m b) ∙ (c .if5 .left),

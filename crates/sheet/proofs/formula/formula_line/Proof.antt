@@ -55,7 +55,8 @@ begins-requires c κs = search needs
 
 returns : tie.Need-returns
 returns c =
-    let a = c .before .before .before .before .before .before .args in
+    let mid = c .before .before .before .before .before in
+    let a = mid .before .args in
     λ B b D g. (rest-no-key (begin (a .s .now) (a .d) (a .x .at) (a .x .tokens) B) D (sym (c .before .begins .ensures) ∙ not-true _ (c .if1 .taken)), refl)
 
 add-to-feed : tie.Need-add-to-feed

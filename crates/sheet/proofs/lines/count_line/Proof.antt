@@ -30,26 +30,30 @@ class-at-requires : tie.Need-class-at-requires
 class-at-requires c κs = search needs
 
 returns-2 : tie.Need-returns-2
-returns-2 c = (
-  tt,
-  λ k q.
-      closed-with-no _ _ _ k (λ e. (c .if2 .taken) ((c .before .class-at .ensures) ∙ e ∙ sym q)) ∙
-      line-yes _ _ _ _ _ k (sym (c .before .before .before .before .before .before .before .begins .ensures) ∙ not-false _ (c .before .before .before .before .before .before .if1 .left)) _ _ (c .before .before .before .before .before .count-at .ensures) (c .before .before .before .n .given .1),
-)
+returns-2 c =
+    let mid = c .before .before .before .before .before in (
+      tt,
+      λ k q.
+          closed-with-no _ _ _ k (λ e. (c .if2 .taken) ((c .before .class-at .ensures) ∙ e ∙ sym q)) ∙
+          line-yes _ _ _ _ _ k (sym (mid .before .before .begins .ensures) ∙ not-false _ (mid .before .if1 .left)) _ _ (c .before .before .before .before .before .count-at .ensures) (c .before .before .before .n .given .1),
+    )
 
 add-t19 : tie.Need-add-t19
-add-t19 c = let start = c .before .before .before .before .before .before .before .before .before .before in omega (arith, class-below (start .args .s .now) (c .before .before .before .n .given .0 .1 .0) (omega (arith, (c .before .class-at .ensures), (c .if2 .left), start .pre .1)))
+add-t19 c =
+    let mid = c .before .before .before .before .before in
+    let start = mid .before .before .before .before .before in omega (arith, class-below (start .args .s .now) (c .before .before .before .n .given .0 .1 .0) (omega (arith, (c .before .class-at .ensures), (c .if2 .left), start .pre .1)))
 
 returns-3 : tie.Need-returns-3
 returns-3 c = (tt, λ k q. line-yes _ _ _ _ _ k (sym (c .before .before .before .before .before .begins .ensures) ∙ not-false _ (c .before .before .before .before .if1 .left)) _ _ (c .before .before .before .count-at .ensures) (c .before .k .given .1))
 
 returns-4 : tie.Need-returns-4
 returns-4 c =
-    let start = c .before .before .before .before .before .before .before .before .before .before in (
+    let mid = c .before .before .before .before .before in
+    let start = mid .before .before .before .before .before in (
       omega (arith, class-below (start .args .s .now) (c .before .before .before .n .given .0 .1 .0) (omega (arith, (c .before .class-at .ensures), (c .if2 .left), start .pre .1))),
       λ k q.
           closed-with-yes _ _ _ k (sym (c .before .class-at .ensures) ∙ (c .if2 .left) ∙ q) ∙
-          line-yes _ _ _ _ _ k (sym (c .before .before .before .before .before .before .before .begins .ensures) ∙ not-false _ (c .before .before .before .before .before .before .if1 .left)) _ _ (c .before .before .before .before .before .count-at .ensures) (c .before .before .before .n .given .1),
+          line-yes _ _ _ _ _ k (sym (mid .before .before .begins .ensures) ∙ not-false _ (mid .before .if1 .left)) _ _ (c .before .before .before .before .before .count-at .ensures) (c .before .before .before .n .given .1),
     )
 
 pub count-line-spec : {M : Type 1} → statement M

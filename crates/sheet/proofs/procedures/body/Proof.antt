@@ -22,17 +22,23 @@ enum-known-tokens : tie.Need-enum-known-tokens
 enum-known-tokens c = search needs
 
 set-proc-requires : tie.Need-set-proc-requires
-set-proc-requires c κs = let start = c .before .before .before .before .before .before .before .before .before .before in omega (arith, (c .before .before .before .before .before .before .to-feed .kept .1 .1 .1 .1 .1 .0), start .pre .more, few-procedures (start .args .d .edition), start .pre .filled .enough)
+set-proc-requires c κs =
+    let mid = c .before .before .before .before .before in
+    let start = mid .before .before .before .before .before in omega (arith, (mid .before .to-feed .kept .1 .1 .1 .1 .1 .0), start .pre .more, few-procedures (start .args .d .edition), start .pre .filled .enough)
 
 add-l : tie.Need-add-l
-add-l c = let start = c .before .before .before .before .before .before .before .before .before .before .before .before .before .before in omega (arith, start .pre .more, few-procedures (start .args .d .edition))
+add-l c =
+    let mid = c .before .before .before .before .before in
+    let far = mid .before .before .before .before .before in
+    let start = far .before .before .before .before in omega (arith, start .pre .more, few-procedures (start .args .d .edition))
 
 same-length : tie.Need-same-length
 same-length c = search needs
 
 returns : tie.Need-returns
 returns c =
-    let start = c .before .before .before .before .before .before .before .before .before in
+    let mid = c .before .before .before .before .before in
+    let start = mid .before .before .before .before in
     let a = start .args in
     let f = start .pre .filled in
     let told = c .before .before .before .before .before in
@@ -45,12 +51,14 @@ same-length-2 c = search needs
 
 returns-2 : tie.Need-returns-2
 returns-2 c =
-    let start = c .before .before .before .before .before .before .before .before .before .before .before .before .before .before in
+    let mid = c .before .before .before .before .before in
+    let far = mid .before .before .before .before .before in
+    let start = far .before .before .before .before in
     let a = start .args in
     let f = start .pre .filled in
-    let told = c .before .before .before .before .before .before .before .before .before .before in
+    let told = mid .before .before .before .before .before in
     body-found (start .args .s .now) _ _ _ _ _ (start .args .w .now) (start .pre) (told .to-feed .last .1 .1 .1 .1 .1 .0) _ _ _ _
-    (closes-read (begin (a .s .now) (inLine (a .d) (a .n)) (a .from) (a .x .tokens) (f .locals)) (a .w .now) (told .to-feed .last .1 .1 .1 .1 .1 .0) (told .to-feed .result) (withParameters (a .n) (f .declared)) _ _ _ (c .before .before .before .before .before .before .tokens .given .1)
+    (closes-read (begin (a .s .now) (inLine (a .d) (a .n)) (a .from) (a .x .tokens) (f .locals)) (a .w .now) (told .to-feed .last .1 .1 .1 .1 .1 .0) (told .to-feed .result) (withParameters (a .n) (f .declared)) _ _ _ (mid .before .tokens .given .1)
     (told .to-feed .ensures .1 (f .locals) (f .set) (withParameters (a .n) (f .declared)) (line-known (start .args .s .now) _ _ _ _ _ (start .args .w .now) (start .pre))))
     (c .before .before .before .set-proc .ensures)
 

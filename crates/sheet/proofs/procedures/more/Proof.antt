@@ -27,7 +27,9 @@ returns-2 : tie.Need-returns-2
 returns-2 c = follows-not _ _ _ _ (c .enum-told .given .1)
 
 returns-3 : tie.Need-returns-3
-returns-3 c = follows-some _ _ _ _ (c .before .before .before .before .before .before .p .given .1) (omega (arith, (c .before .before .before .before .most .ensures))) (c .begins .ensures)
+returns-3 c =
+    let mid = c .before .before .before .before .before in
+    follows-some _ _ _ _ (mid .before .p .given .1) (omega (arith, (c .before .before .before .before .most .ensures))) (c .begins .ensures)
 
 pub more-spec : {M : Type 1} → statement M
 more-spec =

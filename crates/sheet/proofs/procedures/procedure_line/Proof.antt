@@ -21,14 +21,16 @@ enum-known-n c = search needs
 body-requires : tie.Need-body-requires
 unfolding classNumber
 body-requires c κs =
-    let start = c .before .before .before .before .before .before .before .before in
+    let mid = c .before .before .before .before .before in
+    let start = mid .before .before .before in
     let told = c .before .before .before .before in
     head-found (start .args .s .now) _ _ _ (start .args .w .now) (start .pre) (told .count-line .result) (told .count-line .ensures .1 colon refl) _ _ (c .before .before .n .given .1) (told .count-line .ensures .0)
 
 returns : tie.Need-returns
 unfolding classNumber
 returns c =
-    let start = c .before .before .before .before .before .before .before in
+    let mid = c .before .before .before .before .before in
+    let start = mid .before .before in
     let told = c .before .before .before in
     head-refused (start .args .s .now) _ _ _ (start .args .w .now) (start .pre) (told .count-line .result) (told .count-line .ensures .1 colon refl) _ _ (c .before .k .given .1)
 

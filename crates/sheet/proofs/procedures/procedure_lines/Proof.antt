@@ -21,13 +21,17 @@ more-requires : tie.Need-more-requires Inv-loop μ-loop
 more-requires c κs = search needs
 
 next-requires : tie.Need-next-requires Inv-loop μ-loop
-next-requires c κs = (sym (c .before .before .more .ensures) ∙ (c .before .if1 .taken), as-long 5 (c .before .before .before .before .before .before .args .s .now) (c .before .before .before .loop .q) (c .before .before .before .loop .w) (sym (c .before .before .before .loop .inv .1)) (c .before .before .before .loop .inv .0))
+next-requires c κs =
+    let mid = c .before .before .before .before .before in
+    (sym (c .before .before .more .ensures) ∙ (c .before .if1 .taken), as-long 5 (mid .before .args .s .now) (c .before .before .before .loop .q) (c .before .before .before .loop .w) (sym (c .before .before .before .loop .inv .1)) (c .before .before .before .loop .inv .0))
 
 loop-less : tie.Need-loop-less Inv-loop μ-loop
 loop-less c = (c .before .before .next .ensures .0)
 
 loop-again : tie.Need-loop-again Inv-loop μ-loop
-loop-again c = (as-long 5 (c .before .before .before .before .before .before .before .before .before .args .s .now) (c .before .before .next .result) (c .before .before .next .last .1 .1 .0) (c .before .before .before .before .before .before .loop .inv .1) (c .before .before .next .ensures .1), (c .before .before .next .kept .1 .1 .0) ∙ (c .before .before .before .before .before .before .loop .inv .1))
+loop-again c =
+    let mid = c .before .before .before .before .before in
+    (as-long 5 (mid .before .before .before .before .args .s .now) (c .before .before .next .result) (c .before .before .next .last .1 .1 .0) (mid .before .loop .inv .1) (c .before .before .next .ensures .1), (c .before .before .next .kept .1 .1 .0) ∙ (mid .before .loop .inv .1))
 
 same-length : tie.Need-same-length Inv-loop μ-loop
 same-length c = (c .before .before .loop .inv .1)

@@ -18,7 +18,8 @@ returns c = (c .before .before .push-operands .ensures)
 
 push-arguments-requires : tie.Need-push-arguments-requires
 push-arguments-requires c κs =
-    let start = c .before .before .before .before .before .before in
+    let mid = c .before .before .before .before .before in
+    let start = mid .before in
     (start .pre .4 (omega (arith, (c .before .if2 .taken))), start .pre .1, (c .before .if2 .taken), start .pre .5 .number (c .before .if2 .taken))
 
 same-length-2 : tie.Need-same-length-2
@@ -41,8 +42,10 @@ same-length-3 c = search needs
 
 returns-3 : tie.Need-returns-3
 returns-3 c =
-    let start = c .before .before .before .before .before .before .before .before .before .before .before .before in
-    let bound = c .before .before .before .before .before .before in
+    let mid = c .before .before .before .before .before in
+    let far = mid .before .before .before .before .before in
+    let start = far .before .before in
+    let bound = mid .before in
     rw (c .before .before .before .before .put .ensures) (opened-ex (start .args .w .now) (start .args .n) (start .args .e) (start .args .t) (start .pre .0) (start .pre .1) (bound .with .result) (bound .with .ensures) (c .if3 .taken))
 
 add-put : tie.Need-add-put
@@ -65,9 +68,12 @@ same-length-4 c = search needs
 
 returns-4 : tie.Need-returns-4
 returns-4 c =
-    let start = c .before .before .before .before .before .before .before .before .before .before .before .before .before .before .before .before .before .before .before .before in
-    let bound = c .before .before .before .before .before .before .before .before .before .before .before .before .before .before in
-    rw ((c .before .before .put3 .ensures), (c .before .before .before .before .before .before .put2 .ensures), (c .before .before .before .before .before .before .before .before .before .before .before .before .put .ensures)) (opened-range (start .args .w .now) (start .args .n) (start .args .e) (start .args .t) (start .pre .0) (start .pre .1) (bound .with .result) (bound .with .ensures) (omega (arith, (c .before .before .before .before .before .before .before .before .before .before .before .before .before .before .before .before .before .if1 .left), (c .before .before .before .before .before .before .before .before .before .before .before .before .before .before .before .if2 .left))) (c .before .before .before .before .before .before .before .before .if3 .left))
+    let mid = c .before .before .before .before .before in
+    let far = mid .before .before .before .before .before in
+    let farther = far .before .before .before .before .before in
+    let start = farther .before .before .before .before .before in
+    let bound = far .before .before .before .before in
+    rw ((c .before .before .put3 .ensures), (mid .before .put2 .ensures), (far .before .before .put .ensures)) (opened-range (start .args .w .now) (start .args .n) (start .args .e) (start .args .t) (start .pre .0) (start .pre .1) (bound .with .result) (bound .with .ensures) (omega (arith, (farther .before .before .if1 .left), (far .before .before .before .before .before .if2 .left))) (mid .before .before .before .if3 .left))
 
 pub push-spec : {M : Type 1} → statement M
 push-spec =

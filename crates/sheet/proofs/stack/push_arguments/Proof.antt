@@ -24,7 +24,8 @@ same-length c = search needs
 
 returns : tie.Need-returns
 returns c =
-    let start = c .before .before .before .before .before .before in
+    let mid = c .before .before .before .before .before in
+    let start = mid .before in
     let e = start .args .e in
     let t = start .args .t in
     rw (c .before .before .repeat .ensures .0)

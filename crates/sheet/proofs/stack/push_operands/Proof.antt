@@ -26,7 +26,8 @@ same-length c = search needs
 
 returns : tie.Need-returns
 returns c =
-    let start = c .before .before .before .before .before .before .before in
+    let mid = c .before .before .before .before .before in
+    let start = mid .before .before in
     let e = start .args .e in
     let is = (c .before .before .before .before .before .word-operands .ensures) ∙ operands-word _ (start .pre .4) in
     rw (c .before .before .repeat .ensures .0)

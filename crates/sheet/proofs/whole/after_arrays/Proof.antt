@@ -22,7 +22,8 @@ same-length c = search needs
 
 returns : tie.Need-returns
 returns c =
-    let start = c .before .before .before .before .before .before .before .before .before in
+    let mid = c .before .before .before .before .before in
+    let start = mid .before .before .before .before in
     let told = c .before .before .before .before .before in
     arrays-refused (start .args .s .now) _ _ _ (start .args .w .now) (start .pre) _ (told .arrays-line .result) (told .arrays-line .ensures) _ _ (c .before .k .given .1)
 
@@ -31,8 +32,9 @@ same-length-2 c = search needs
 
 returns-2 : tie.Need-returns-2
 returns-2 c =
-    let start = c .before .before .before .before .before .before .before .before .before .before in
-    let told = c .before .before .before .before .before .before in
+    let mid = c .before .before .before .before .before in
+    let start = mid .before .before .before .before .before in
+    let told = mid .before in
     arrays-found (start .args .s .now) _ _ _ (start .args .w .now) (start .pre) _ (told .arrays-line .result) (told .arrays-line .ensures) _ _ _ _ (c .before .before .n .given .1) (c .reached .ensures)
 
 pub after-arrays-spec : {M : Type 1} → statement M

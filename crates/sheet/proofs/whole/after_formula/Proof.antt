@@ -24,7 +24,8 @@ same-length c = search needs
 
 returns : tie.Need-returns
 returns c =
-    let start = c .before .before .before .before .before .before .before .before .before in
+    let mid = c .before .before .before .before .before in
+    let start = mid .before .before .before .before in
     let told = c .before .before .before .before .before in
     let h = start .pre in
     let read = told .formula-line .ensures (h .locals) (h .set) (h .declared) (filled-known 0 (start .args .s .now) _ _ _ (start .args .w .now) h) in
@@ -35,7 +36,8 @@ same-length-2 c = search needs
 
 returns-2 : tie.Need-returns-2
 returns-2 c =
-    let start = c .before .before .before .before .before .before .before .before .before in
+    let mid = c .before .before .before .before .before in
+    let start = mid .before .before .before .before in
     let told = c .before .before .before .before .before in
     let h = start .pre in
     let read = told .formula-line .ensures (h .locals) (h .set) (h .declared) (filled-known 0 (start .args .s .now) _ _ _ (start .args .w .now) h) in

@@ -22,7 +22,8 @@ same-length c = search needs
 
 returns : tie.Need-returns
 returns c =
-    let start = c .before .before .before .before .before .before .before .before .before in
+    let mid = c .before .before .before .before .before in
+    let start = mid .before .before .before .before in
     let told = c .before .before .before .before .before in
     given-refused (start .args .s .now) _ _ _ (start .args .w .now) (start .pre) _ (told .given-line .result) (told .given-line .ensures _ (start .pre .declares)) _ _ (c .before .k .given .1)
 
@@ -31,8 +32,9 @@ same-length-2 c = search needs
 
 returns-2 : tie.Need-returns-2
 returns-2 c =
-    let start = c .before .before .before .before .before .before .before .before .before .before in
-    let told = c .before .before .before .before .before .before in
+    let mid = c .before .before .before .before .before in
+    let start = mid .before .before .before .before .before in
+    let told = mid .before in
     given-found (start .args .s .now) _ _ _ (start .args .w .now) (start .pre) _ (told .given-line .result) (told .given-line .ensures _ (start .pre .declares)) _ _ (c .before .before .e .given .1) (c .reached .ensures)
 
 pub after-given-spec : {M : Type 1} → statement M

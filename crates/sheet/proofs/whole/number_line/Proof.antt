@@ -19,7 +19,8 @@ reached-requires c κs = search needs
 
 returns : tie.Need-returns
 returns c =
-    let start = c .before .before .before .before .before .before .before in
+    let mid = c .before .before .before .before .before in
+    let start = mid .before .before in
     let told = c .before .before .before .before .before in
     edition-read (start .args .k) _ _ (start .args .d) (told .counted .result) (told .counted .ensures) _ _ _ (c .before .before .before .n2 .given .1) (c .reached .ensures) (eq-eqb _ 0 (c .before .if1 .taken))
 
@@ -28,8 +29,9 @@ reached-requires-2 c κs = search needs
 
 returns-2 : tie.Need-returns-2
 returns-2 c =
-    let start = c .before .before .before .before .before .before .before .before in
-    let told = c .before .before .before .before .before .before in
+    let mid = c .before .before .before .before .before in
+    let start = mid .before .before .before in
+    let told = mid .before in
     scalars-read (start .args .k) _ _ (start .args .d) (told .counted .result) (told .counted .ensures) _ _ _ (c .before .before .before .before .n2 .given .1) (c .reached2 .ensures) (ne-eqb _ 0 (c .before .before .if1 .left)) (eq-eqb _ 1 (c .before .if2 .taken))
 
 reached-requires-3 : tie.Need-reached-requires-3
@@ -43,8 +45,9 @@ returns-3 c =
 
 returns-4 : tie.Need-returns-4
 returns-4 c =
-    let start = c .before .before .before .before .before .before .before .before in
-    let told = c .before .before .before .before .before .before in
+    let mid = c .before .before .before .before .before in
+    let start = mid .before .before .before in
+    let told = mid .before in
     locals-read (start .args .k) _ _ (start .args .d) (told .counted .result) (told .counted .ensures) _ _ _ (c .before .before .before .before .n2 .given .1) (c .reached3 .ensures) (ne-eqb _ 0 (c .before .before .if1 .left)) (ne-eqb _ 1 (c .before .if2 .left))
 
 pub number-line-spec : {M : Type 1} → statement M

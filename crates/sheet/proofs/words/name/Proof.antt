@@ -33,7 +33,8 @@ index-requires-3 c κs = search needs
 
 returns-3 : tie.Need-returns-3
 returns-3 c =
-    let start = c .before .before .before .before .before .before in
+    let mid = c .before .before .before .before .before in
+    let start = mid .before in
     rw (
       name-token (start .args .edition) (start .args .t .now) (start .pre),
       ne-eqb 118 _ (λ e. (c .before .before .before .if1 .left) (sym e)),
@@ -47,7 +48,8 @@ parameter-requires c κs = search needs
 
 returns-4 : tie.Need-returns-4
 returns-4 c =
-    let start = c .before .before .before .before .before .before .before in
+    let mid = c .before .before .before .before .before in
+    let start = mid .before .before in
     rw (
       name-token (start .args .edition) (start .args .t .now) (start .pre),
       ne-eqb 118 _ (λ e. (c .before .before .before .before .if1 .left) (sym e)),
@@ -59,7 +61,8 @@ returns-4 c =
 
 returns-5 : tie.Need-returns-5
 returns-5 c =
-    let start = c .before .before .before .before .before .before in
+    let mid = c .before .before .before .before .before in
+    let start = mid .before in
     rw (
       name-token (start .args .edition) (start .args .t .now) (start .pre),
       ne-eqb 118 _ (λ e. (c .before .before .before .if1 .left) (sym e)),

@@ -35,16 +35,18 @@ index-word-requires c κs = search needs
 
 returns-3 : tie.Need-returns-3
 returns-3 c =
-    let t = c .before .before .before .before .before .before .before .before .args .t .now in
+    let mid = c .before .before .before .before .before in
+    let t = mid .before .before .before .args .t .now in
     ap numeralToken (sym (c .enum-told .given .1) ∙ (c .before .before .natural .ensures)) ∙ numeral-token (natural t) ∙
     ap tokenOf (sym (number-numeral t (omega arith) (sym (c .before .before .before .before .numeric .ensures) ∙ not-false _ (c .before .before .before .if2 .left))))
 
 returns-4 : tie.Need-returns-4
 returns-4 c =
-    let t = c .before .before .before .before .before .before .before .before .before .before .args .t .now in
+    let mid = c .before .before .before .before .before in
+    let t = mid .before .before .before .before .before .args .t .now in
     rw (c .index-word .ensures)
     (ap numeralToken (sym (c .before .before .n .given .1) ∙ (c .before .before .before .before .natural .ensures)) ∙ numeral-token (natural t) ∙
-    ap tokenOf (sym (number-numeral t (omega arith) (sym (c .before .before .before .before .before .before .numeric .ensures) ∙ not-false _ (c .before .before .before .before .before .if2 .left)))))
+    ap tokenOf (sym (number-numeral t (omega arith) (sym (mid .before .numeric .ensures) ∙ not-false _ (c .before .before .before .before .before .if2 .left)))))
 
 pub number-spec : {M : Type 1} → statement M
 number-spec =

@@ -50,7 +50,8 @@ env-of-requires c κs =
 
 add-n : tie.Need-add-n Inv-loop μ-loop
 add-n c =
-    let at-if1 = c .before .before .before .before .before .before in
+    let mid = c .before .before .before .before .before in
+    let at-if1 = mid .before in
     let at-is-open = at-if1 .before in
     let turn = at-is-open .before .before in
     let start = turn .before .before in

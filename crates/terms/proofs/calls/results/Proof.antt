@@ -60,21 +60,25 @@ set-result-requires c κs =
 
 tagged-requires : tie.Need-tagged-requires Inv-loop μ-loop
 tagged-requires c κs =
-    let test = c .before .before .before .before .before .before .before .before .before .before in
+    let mid = c .before .before .before .before .before in
+    let test = mid .before .before .before .before .before in
     let turn = test .before in
     let start = turn .before .before .before .before in
     filling-few (turn .loop .inv) (test .loop-test .taken) (start .pre)
 
 add-n : tie.Need-add-n Inv-loop μ-loop
 add-n c =
-    let test = c .before .before .before .before .before .before .before .before .before .before .before in
+    let mid = c .before .before .before .before .before in
+    let far = mid .before .before .before .before .before in
+    let test = far .before in
     let turn = test .before in
     let start = turn .before .before .before .before in
     omega (arith, filling-few (turn .loop .inv) (test .loop-test .taken) (start .pre))
 
 loop-less : tie.Need-loop-less Inv-loop μ-loop
 loop-less c =
-    let at-end2 = c .before .before .before .before .before .before .before .before .before in
+    let mid = c .before .before .before .before .before in
+    let at-end2 = mid .before .before .before .before in
     let test = at-end2 .before .before in
     let turn = test .before in
     let start = turn .before .before .before .before in

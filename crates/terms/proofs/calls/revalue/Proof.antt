@@ -43,17 +43,20 @@ end-requires c κs =
 
 env-of-requires : tie.Need-env-of-requires Inv-loop μ-loop
 env-of-requires c κs =
-    let start = c .before .before .before .before .before .before .before .before in
+    let mid = c .before .before .before .before .before in
+    let start = mid .before .before .before in
     omega (arith, revalued-node (start .pre) .1)
 
 tags-of-requires : tie.Need-tags-of-requires Inv-loop μ-loop
 tags-of-requires c κs =
-    let start = c .before .before .before .before .before .before .before .before .before .before in
+    let mid = c .before .before .before .before .before in
+    let start = mid .before .before .before .before .before in
     omega (arith, revalued-node (start .pre) .1)
 
 add-i : tie.Need-add-i Inv-loop μ-loop
 add-i c =
-    let at-head-of = c .before .before .before .before .before .before .before .before in
+    let mid = c .before .before .before .before .before in
+    let at-head-of = mid .before .before .before in
     let start = at-head-of .before .before .before in
     omega (arith, revalued-token (start .pre), at-head-of .head-of .ensures, revalued-node (start .pre) .1)
 
@@ -96,7 +99,8 @@ revalue-one-requires c κs =
 
 add-n : tie.Need-add-n Inv-loop μ-loop
 add-n c =
-    let test = c .before .before .before .before .before .before .before in
+    let mid = c .before .before .before .before .before in
+    let test = mid .before .before in
     let inv = test .before .loop .inv in
     omega (arith, read-few (inv .0) (inv .1) (test .loop-test .taken))
 

@@ -49,7 +49,8 @@ formula-requires c κs =
 add-due : tie.Need-add-due
 add-due c =
     let at-body = c .before .before .before .before in
-    let at-enter = at-body .before .before .before .before .before .before .before in
+    let mid = at-body .before .before .before .before in
+    let at-enter = mid .before .before .before in
     let start = at-enter .before .before .before in
     omega (arith, shallow (start .pre .at .ins))
 
@@ -59,7 +60,8 @@ due-requires c κs = search needs
 same-length : tie.Need-same-length
 same-length c =
     let at-body = c .before .before .before .before .before in
-    let at-enter = at-body .before .before .before .before .before .before .before in
+    let mid = at-body .before .before .before .before in
+    let at-enter = mid .before .before .before in
     (at-enter .enter .ensures .size)
 
 returns : tie.Need-returns

@@ -87,7 +87,8 @@ end-requires c κs =
 env-of-requires : tie.Need-env-of-requires
 env-of-requires c κs =
     let at-if2 = c .before .before in
-    let at-set-todo = at-if2 .before .before .before .before .before .before .before in
+    let mid = at-if2 .before .before .before .before in
+    let at-set-todo = mid .before .before .before in
     let t = known at-set-todo .0 in
     omega (arith, t .some, t .path .size, t .path .inside, simp length-set at (ap length (at-set-todo .set-todo .ensures)))
 

@@ -18,7 +18,8 @@ slot-there : (c : tie.After-slot-of) →
     c .slot-of .result + 1 < length (now (head .before .before .before .before .args .w)))
 slot-there c =
     let at-rest-of = c .before .before .before .before in
-    let at-head-of = at-rest-of .before .before .before .before .before .before in
+    let mid = at-rest-of .before .before .before .before in
+    let at-head-of = mid .before .before in
     let start = at-head-of .before .before .before .before in
     let x = (start .pre .0) in
     omega (arith, (c .slot-of .ensures), readable x .slot, x .path .size)
@@ -75,7 +76,8 @@ add-value : tie.Need-add-value
 add-value c =
     let at-env-of = c .before .before .before .before .before in
     let at-end = at-env-of .before .before .before .before .before in
-    let start = at-end .before .before .before .before .before .before in
+    let mid = at-end .before .before .before .before in
+    let start = mid .before .before in
     let x = (start .pre) in
     omega (arith, (c .current-of .ensures), x .2, readable (x .0) .last)
 
