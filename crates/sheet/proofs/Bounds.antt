@@ -16,7 +16,7 @@ use Rattle.tables.specs.Codes.{lastFormula, firstTerm, lastTerm, procedureCode}
 use Rattle.sheet.specs.Sorts.{operandsOf}
 use Rattle.sheet.specs.Dues.{Due, dueFormula, dueTerm, dueProcedure, dueEx, dueRange}
 use Rattle.sheet.specs.Turn.{room, suits, dueBy, dues, opens, faultOf, tokenAt, faultAt, weight, weights, Fits}
-use Rattle.sheet.proofs.Ranges.{within}
+use Rattle.text.proofs.Laws.Ranges.{within}
 use Rattle.sheet.proofs.CodeOperands.{operands-all, operands-term, operands-number}
 
 -- the whole formula

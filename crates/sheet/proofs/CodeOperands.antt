@@ -10,7 +10,7 @@ use Rattle.specification.specs.Bytes.{pick, between}
 use Rattle.tables.specs.Codes.{andCode, impCode, notCode, eqCode, geCode, exCode, someCode, allCode, callCode, firstTerm, lastTerm, addCode, modCode, arrayCode, procedureCode}
 use Rattle.sheet.specs.declared.sorts.Operands.{Operands}
 use Rattle.sheet.specs.Sorts.{formulaSort, termSort, procedureSort, exSort, rangeSort, operands, wordOperands, operandsOf}
-use Rattle.sheet.proofs.Ranges.{over}
+use Rattle.text.proofs.Laws.Ranges.{over}
 
 -- ---- every code
 

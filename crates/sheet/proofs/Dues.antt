@@ -22,7 +22,7 @@ use Rattle.sheet.specs.Dues.{Due, dueFormula, dueTerm, dueProcedure, due
 use Rattle.sheet.specs.Turn.{Limited, declared, undeclared, faultOf, dueBy, dues, opens, tokenBy, left}
 use Rattle.sheet.proofs.Left.{then-assoc, then-same}
 use Rattle.sheet.proofs.Operands.{admitted, spellFormula, spellTerm}
-use Rattle.sheet.proofs.Ranges.{inside, under, over}
+use Rattle.text.proofs.Laws.Ranges.{inside, under, over}
 use Rattle.sheet.proofs.CodeOperands.{number-operands}
 use Rattle.sheet.proofs.FormulaWord.{readEx, readRange, ex-brings, range-brings, readCall, call-brings, formula-word}
 use Rattle.sheet.proofs.TermWord.{declared-index, term-word, admitLocal, binder-word}

@@ -21,7 +21,7 @@ use Rattle.sheet.specs.Dues.{Due, dueFormula, dueTerm, dueProcedure, due
 use Rattle.sheet.specs.Turn.{room, suits, declared, undeclared, placed, faultOf, binds}
 use Rattle.sheet.specs.Stack.{sortOf, scopeOf, Means, Coded}
 use Rattle.sheet.specs.FormulaLine.{Counts, counted, refusalOf}
-use Rattle.sheet.proofs.Ranges.{within}
+use Rattle.text.proofs.Laws.Ranges.{within}
 
 -- ---- by the number of the sort
 

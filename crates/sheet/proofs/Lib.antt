@@ -1,7 +1,6 @@
 -- The laws of the reader's definitions, in the order in which they lean on each other.
 -- the list of what is due
 pub mod Left
-pub mod Ranges
 pub mod CodeOperands
 pub mod Operands
 pub mod FormulaWord

@@ -1,3 +1,2 @@
--- The laws for callers, and the rule of tables that `class` is proved by.
+-- The laws for callers.
 pub mod Laws
-mod Table

@@ -1,6 +1,4 @@
 // The leaves of the sheet's reader: classes of bytes, runs of bytes, and decimal numbers.
-mod classes;
-
 ghost use mathlib.Core.Path.{_≡_};
 ghost use Prim.Native.Nat.{_+_, _*_, _≤_};
 ghost use lib.ListN.{length, drop};
@@ -11,7 +9,9 @@ ghost use Rattle.text.specs.Decimal.{held, readOn, headed, capped, plain
 
 // ---- classes
 
-// The numbers of the classes; 0 is any other byte.
+// The numbers of the classes; the first is that of any byte which a sheet cannot have.
+pub const OTHER: u8 = 0;
+
 pub const LETTER: u8 = 1;
 
 pub const DIGIT: u8 = 2;
@@ -33,11 +33,35 @@ pub const POINT: u8 = 9;
 // What stands at the sheet's end and beyond.
 pub const END: u8 = 10;
 
-// The class of a byte.
+// The class of a byte, by ranges of byte values: at most three comparisons for the letters, digits and spaces that sheets are made of.
 pub fn class(b: u8) -> u8
     ensures { λ r. ⌜ r ≡ classNumber (classOf b) ⌝ }
 {
-    classes::CLASSES[b as usize]
+    if b'a' <= b {
+        if b <= b'z' { LETTER } else { OTHER }
+    } else if b'0' <= b {
+        if b <= b'9' {
+            DIGIT
+        } else if b == b':' {
+            COLON
+        } else if b == b'=' {
+            EQUALS
+        } else {
+            OTHER
+        }
+    } else if b == b' ' {
+        SPACE
+    } else if b < b',' {
+        if b == b'\n' { FEED } else { OTHER }
+    } else if b == b',' {
+        COMMA
+    } else if b == b'-' {
+        MINUS
+    } else if b == b'.' {
+        POINT
+    } else {
+        OTHER
+    }
 }
 
 // The class of the byte at a place of the sheet.

@@ -2,18 +2,18 @@
 -- from the class there; and which bytes are digits. Assumes nothing.
 use Prim.Native.Nat.{ℕ, _<_, _≤_}
 use mathlib.Core.Path.{_≡_, refl, sym, ap, _∙_}
-use mathlib.Core.Bool.{Bool, true, false, _&&_}
+use mathlib.Core.Bool.{Bool, true, false}
 use mathlib.Core.List.{[], _∷_}
 use native.Mathlib.Omega.{arith}
-use lib.Dec.{leb, eqb}
+use lib.Dec.{eqb}
 use lib.ListN.{length, getD, drop, drop-of-length-le, length-drop}
 use lib.Seq.{drop-cons}
-use borrow.Author.Tests.{eq-eqb, ne-eqb, eqb-true, eqb-false, leb-true}
+use borrow.Author.Tests.{eq-eqb, ne-eqb, eqb-true, eqb-false}
 use Rattle.specification.specs.Bytes.{Bytes, pick, between, classOf, classNumber, isIn}
 use Rattle.specification.specs.Bytes.{Class, letter, digit, space, feed, minus, equals, comma, colon, point, other}
 use Rattle.specification.specs.Parser.{next, ended}
-use Rattle.specification.proofs.Laws.Contradiction.{contradiction}
 use Rattle.text.specs.Class.{headClass, classAt}
+use Rattle.text.proofs.Laws.Ranges.{off, within}
 
 -- no class has the number of the end
 pub number-lt : (c : Class) → classNumber c < 10
@@ -47,10 +47,31 @@ module _ (c : Class) (b k : ℕ) (is : k ≡ classNumber (classOf b)) where
       go true e = sym (in-yes (eqb-true k (classNumber c) e))
       go false e = sym (in-no (eqb-false k (classNumber c) e))
 
+-- ---- of a byte, by ranges
+
+-- a byte outside the ranges and none of the marks
+abbrev pub Unclassed : ℕ → Type 0
+Unclassed b =
+    (97 ≤ b → 122 < b)
+    × (48 ≤ b → 57 < b)
+    × (b ≡ 32 → ⊥)
+    × (b ≡ 10 → ⊥)
+    × (b ≡ 45 → ⊥)
+    × (b ≡ 61 → ⊥)
+    × (b ≡ 44 → ⊥)
+    × (b ≡ 58 → ⊥)
+    × (b ≡ 46 → ⊥)
+
+pub other-class : (b : ℕ) → Unclassed b → 0 ≡ classNumber (classOf b)
+unfolding classOf classNumber
+other-class b (l, d, s, f, m, e, c, k, p) =
+    rw (off 97 122 b l, off 48 57 b d, ne-eqb b 32 s, ne-eqb b 10 f, ne-eqb b 45 m, ne-eqb b 61 e, ne-eqb b 44 c, ne-eqb b 58 k, ne-eqb b 46 p)
+
 -- a digit is a byte from 48 to 57
 pub digit-range : (b : ℕ) → isIn digit b ≡ true → (48 ≤ b) × (b ≤ 57)
 unfolding isIn classOf classNumber
-digit-range b e = range (leb 48 b) (leb b 57) refl refl
+digit-range b e =
+    within 48 57 b
     (second (between 97 122 b) (between 48 57 b) (eqb b 32) (eqb b 10) (eqb b 45) (eqb b 61) (eqb b 44) (eqb b 58) (eqb b 46) e)
   where
     second : (p q r s t u v w x : Bool)
@@ -67,11 +88,6 @@ digit-range b e = range (leb 48 b) (leb b 57) refl refl
     second false false false false false false false true x e = e
     second false false false false false false false false true e = e
     second false false false false false false false false false e = e
-
-    range : (p q : Bool) → leb 48 b ≡ p → leb b 57 ≡ q → (p && q) ≡ true → (48 ≤ b) × (b ≤ 57)
-    range true true l m e = (leb-true _ _ l, leb-true _ _ m)
-    range true false l m e = contradiction cc
-    range false q l m e = contradiction cc
 
 -- ---- of a place
 

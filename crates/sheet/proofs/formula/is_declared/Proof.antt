@@ -4,7 +4,7 @@ use lib.ListN.{length-replicate}
 use borrow.Author.Tests.{ne-eqb}
 use Rattle.tables.specs.Codes.{scalarCode, localCode, arrayCode, parameterCode, procedureCode, lastCode}
 use Rattle.sheet.specs.Turn.{declared}
-use Rattle.sheet.proofs.Ranges.{inside, under, over}
+use Rattle.text.proofs.Laws.Ranges.{inside, under, over}
 use Rattle.sheet.proofs.formula.is_declared.Statement.{statement}
 use Rattle.sheet.proofs.formula.is_declared.Tie as tie
 
