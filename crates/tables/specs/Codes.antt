@@ -1,5 +1,5 @@
--- The codes of tokens: a number for each word of the notation, in ranges that separate formulas from terms, with gaps for the words of later
--- editions. src/codes.rt has the same numbers for the code. Assumes nothing.
+-- The codes of tokens: a number for each word of the notation, in ranges that separate formulas from terms. src/codes.rt has the same numbers
+-- for the code. Assumes nothing.
 use Prim.Native.Nat.{ℕ}
 
 -- ---- formulas
@@ -8,7 +8,7 @@ abbrev pub firstFormula : ℕ
 firstFormula = 1
 
 abbrev pub lastFormula : ℕ
-lastFormula = 31
+lastFormula = 15
 
 abbrev pub trueCode : ℕ
 trueCode = 1
@@ -58,55 +58,55 @@ callCode = 15
 -- ---- terms
 
 abbrev pub firstTerm : ℕ
-firstTerm = 32
+firstTerm = 16
 
 abbrev pub lastTerm : ℕ
-lastTerm = 63
+lastTerm = 27
 
 abbrev pub addCode : ℕ
-addCode = 32
+addCode = 16
 
 abbrev pub subCode : ℕ
-subCode = 33
+subCode = 17
 
 abbrev pub mulCode : ℕ
-mulCode = 34
+mulCode = 18
 
 abbrev pub divCode : ℕ
-divCode = 35
+divCode = 19
 
 abbrev pub modCode : ℕ
-modCode = 36
+modCode = 20
 
 -- operations lie below the other terms
 abbrev pub constantCode : ℕ
-constantCode = 40
+constantCode = 23
 
 abbrev pub scalarCode : ℕ
-scalarCode = 41
+scalarCode = 24
 
 abbrev pub localCode : ℕ
-localCode = 42
+localCode = 25
 
 abbrev pub arrayCode : ℕ
-arrayCode = 43
+arrayCode = 26
 
 abbrev pub parameterCode : ℕ
-parameterCode = 44
+parameterCode = 27
 
 -- ---- no token: bytes that are no word of the set, and a constant in bad form or outside 32 bits
 
 abbrev pub unknownCode : ℕ
-unknownCode = 64
+unknownCode = 28
 
 abbrev pub badConstantCode : ℕ
-badConstantCode = 65
+badConstantCode = 29
 
 -- ---- neither a formula nor a term: the procedure's number in a call, whose code is this one and the procedure's number of parameters
 
 abbrev pub procedureCode : ℕ
-procedureCode = 66
+procedureCode = 30
 
 -- that of a procedure with eight parameters
 abbrev pub lastCode : ℕ
-lastCode = 74
+lastCode = 38

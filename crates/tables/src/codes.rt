@@ -1,5 +1,5 @@
-// The codes of tokens (specs/Codes.antt has the same numbers for contracts and proofs): ranges separate formulas from terms, with gaps for the
-// words of later editions.
+// The codes of tokens (specs/Codes.antt has the same numbers for contracts and proofs): ranges separate formulas from terms. They lie
+// close together, since a match on a code becomes a table of jumps in the box's read-only memory, as long as the codes lie apart.
 ghost use mathlib.Core.Path.{_≡_};
 ghost use mathlib.Core.Bool.{_&&_};
 ghost use lib.Dec.{leb};
@@ -9,7 +9,7 @@ ghost use Rattle.tables.specs.Codes.{firstFormula, lastFormula, firstTer
 
 pub const FIRST_FORMULA: u32 = 1;
 
-pub const LAST_FORMULA: u32 = 31;
+pub const LAST_FORMULA: u32 = CALL;
 
 pub const TRUE: u32 = FIRST_FORMULA;
 
@@ -45,30 +45,30 @@ pub const CALL: u32 = 15;
 
 // ---- terms
 
-pub const FIRST_TERM: u32 = 32;
+pub const FIRST_TERM: u32 = LAST_FORMULA + 1;
 
-pub const LAST_TERM: u32 = 63;
+pub const LAST_TERM: u32 = PARAMETER;
 
-// Operations lie below the other terms.
+// Operations lie below the other terms, with room for two of a later edition.
 pub const ADD: u32 = FIRST_TERM;
 
-pub const SUB: u32 = 33;
+pub const SUB: u32 = 17;
 
-pub const MUL: u32 = 34;
+pub const MUL: u32 = 18;
 
-pub const DIV: u32 = 35;
+pub const DIV: u32 = 19;
 
-pub const MOD: u32 = 36;
+pub const MOD: u32 = 20;
 
-pub const CONSTANT: u32 = 40;
+pub const CONSTANT: u32 = 23;
 
-pub const SCALAR: u32 = 41;
+pub const SCALAR: u32 = 24;
 
-pub const LOCAL: u32 = 42;
+pub const LOCAL: u32 = 25;
 
-pub const ARRAY: u32 = 43;
+pub const ARRAY: u32 = 26;
 
-pub const PARAMETER: u32 = 44;
+pub const PARAMETER: u32 = 27;
 
 // ---- no token: bytes that are no word of the set, and a constant in bad form or outside 32 bits
 

@@ -37,18 +37,14 @@ returns-7 c = sym (operands-range (operands rangeSort 1) 2 someCode (c .before .
 
 returns-8 : tie.Need-returns-8
 unfolding wordOperands alike
-returns-8 c = sym (operands-range (operands termSort 2) 5 addCode (c .before .before .before .before .before .before .before .args .code) tt (omega arith) (omega arith))
+returns-8 c = sym (operands-range (operands termSort 2) 5 addCode (c .before .before .before .before .before .before .args .code) tt (omega (arith, (c .before .before .before .before .before .match .rest .1))) (omega arith))
 
 returns-9 : tie.Need-returns-9
 unfolding wordOperands alike
 returns-9 c = sym (operands-range (operands formulaSort 0) 2 0 (c .before .before .args .code) tt (omega arith) (omega arith))
 
 returns-10 : tie.Need-returns-10
-unfolding wordOperands alike
-returns-10 c = sym (operands-range (operands formulaSort 0) 16 16 (c .before .before .before .before .before .before .args .code) tt (omega (arith, (c .before .before .before .before .before .match .rest .1))) (omega arith))
-
-returns-11 : tie.Need-returns-11
-returns-11 c = sym (operands-above (c .before .before .before .before .before .before .before .args .code) (c .before .before .before .before .before .before .match .rest .0 .1) (omega arith))
+returns-10 c = let p = c .before .before .before .before .before in sym (operands-above (p .before .args .code) (p .match .rest .0 .1) (omega arith))
 
 pub word-operands-spec : {M : Type 1} → statement M
 word-operands-spec =
@@ -63,5 +59,4 @@ word-operands-spec =
     returns-7
     returns-8
     returns-9
-    returns-10
-    returns-11)
+    returns-10)
