@@ -146,6 +146,43 @@ def instructions():
         yield weighed(f"chain, path limit {limit:,}", "chain", f"v0:20000,v1:{limit // 2 - 8}", options, 400000)
 
 
+def together(word, formulas):
+    """The formulas under one word of two operands, nested as little as can be."""
+    half = len(formulas) // 2
+    return " ".join((word, together(word, formulas[:half]), together(word, formulas[half:]))) if half else formulas[0]
+
+
+def full(edition, arrays, given, procedures, formula):
+    """A sheet of 4,096 bytes: each # becomes a constant, and they are made so long that it has that many."""
+    text = f"edition={edition}\nscalars=10\nlocals=0\narrays={arrays}\ngiven={given}\n{procedures}formula={formula}\n"
+    digits, longer = divmod(4096 - len(text), text.count("#"))
+    assert 0 <= digits < 9, (len(text), digits)
+    first, *rest = text.split("#")
+    return first + "".join("1" * (1 + digits + (i < longer)) + part for i, part in enumerate(rest))
+
+
+def full_sheets():
+    """Sheets as long as may be, each long in another of its lines."""
+    tests = ["eq v1 #", "lt v2 add v3 #", "true", "ge a0 8 #", "ne sub v1 v2 mul v3 -#"] * 38
+    body = together("or", ["lt p0 add p1 #"] * 10)
+    yield "given values", full(1, 500, ",".join(f"a0.{i}:#" for i in range(330)), "", "true")
+    yield "tests", full(1, 9, "v0:#", "", together("and", tests))
+    yield "short words", full(1, "", "", "", together("imp", ["true"] * 400 + ["eq # v3"] * 30))
+    yield "procedures", full(2, "", "", f"proc=2:{body}\n" * 16, "call 15 v0 v1")
+
+
+def reading():
+    """Instructions to read such a sheet, those of `true` taken off; one node is visited."""
+    for name, text in full_sheets():
+        costs = {}
+        for engine in ENGINES:
+            empty, _ = collected(engine, sheet("true", ""), ["--budget", 1])
+            whole, nodes = collected(engine, text, ["--budget", 1])
+            assert nodes == 1, (name, nodes)
+            costs[engine] = whole - empty
+        yield [name] + row(costs, "walker", "library")
+
+
 def main():
     build()
     print("Nanoseconds for a node\n")
@@ -156,6 +193,8 @@ def main():
     table(["path limit", "walker, chain", "library, chain", "ratio", "walker, bottom", "library, bottom", "ratio"], by_path())
     print("Instructions for a node\n")
     table(["search", "nodes", "walker", "library", "library / walker"], instructions())
+    print("Instructions to read a full sheet\n")
+    table(["sheet, long in its", "walker", "library", "library / walker"], reading())
 
 
 main()

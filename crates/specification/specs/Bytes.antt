@@ -43,7 +43,7 @@ classOf b =
     (pick (eqb b 58) colon
     (pick (eqb b 46) point other))))))))
 
--- a number for each class, the one that stands in the box's table
+-- a number for each class, the one that the box has for it
 unfoldable pub classNumber : Class → ℕ
 classNumber other = 0
 classNumber letter = 1

@@ -9,7 +9,7 @@ ghost use Rattle.text.specs.Decimal.{held, readOn, headed, capped, plain
 
 // ---- classes
 
-// The numbers of the classes; the first is that of any byte which a sheet cannot have.
+// The numbers of the classes; the first is that of any byte that no other names.
 pub const OTHER: u8 = 0;
 
 pub const LETTER: u8 = 1;
