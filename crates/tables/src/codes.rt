@@ -1,4 +1,4 @@
-// The codes of tokens (specs/Codes.antt has the same numbers for contracts and proofs): ranges separate formulas from terms. They lie
+// The codes of tokens (specs/Codes.antt has the same numbers for contracts and proofs): ranges separate formulas from terms. Codes lie
 // close together, since a match on a code becomes a table of jumps in the box's read-only memory, as long as the codes lie apart.
 ghost use mathlib.Core.Path.{_≡_};
 ghost use mathlib.Core.Bool.{_&&_};

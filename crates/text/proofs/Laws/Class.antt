@@ -1,5 +1,5 @@
 -- Laws of classes: of a byte, the test `isIn` from its class number; of a place, the specification's tests `next` and `ended`
--- from the class there; and which bytes are digits. Assumes nothing.
+-- from the class there; which bytes are of no class, and which are digits. Assumes nothing.
 use Prim.Native.Nat.{ℕ, _<_, _≤_}
 use mathlib.Core.Path.{_≡_, refl, sym, ap, _∙_}
 use mathlib.Core.Bool.{Bool, true, false}
