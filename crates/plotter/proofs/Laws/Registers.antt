@@ -1,0 +1,144 @@
+-- The registers after a history: sum, data, and that each holds a byte. Assumes nothing.
+use Prim.Native.Nat.{ℕ, _+_, _%_, _<_}
+use native.Mathlib.Omega.{arith}
+use mathlib.Core.Path.{_≡_, refl, sym, ap, _∙_}
+use mathlib.Core.Bool.{Bool, true, false}
+use mathlib.Core.List.{[], _∷_, _++_}
+use Rattle.specification.specs.Lists.{Each}
+use Rattle.specification.specs.Bytes.{Bytes, pick}
+use Rattle.plotter.specs.declared.Port.{Port}
+use Rattle.plotter.specs.Port.{isSet, put, ready, paperOut, pending, interrupts, After, attempt, step, takes, acknowledged, send, Event, readyAgain, outOfPaper, paperIn, interruptsOn, interruptsOff, occur}
+use Rattle.plotter.specs.History.{Moment, aStep, event, History, moment, then, play, total}
+use Rattle.plotter.proofs.Laws.Bits.{put-below}
+use Rattle.plotter.proofs.Laws.Histories.{every}
+
+-- ---- sum
+
+total-append : (a b : Bytes) → total (a ++ b) ≡ total a + total b
+unfolding total
+total-append [] b = omega arith
+total-append (x ∷ a) b = omega (arith, total-append a b)
+
+-- sum is a byte and has moved on by the bytes sent
+abbrev Summed : Port → After → Type 0
+Summed p a = p .sum < 256 → a .port .sum ≡ (p .sum + total (a .sent)) % 256
+
+attempt-sum : (t : Bool) (p : Port) (u : Bytes) → Summed p (attempt t p u)
+unfolding attempt send acknowledged total
+attempt-sum false p u h = omega arith
+attempt-sum true p [] h = omega arith
+attempt-sum true p (b ∷ bs) h = omega arith
+
+-- an event leaves sum and data
+occur-keeps : (e : Event) (p : Port) → (occur e p .sum ≡ p .sum) × (occur e p .«data» ≡ p .«data»)
+unfolding occur
+occur-keeps readyAgain p = (refl, refl)
+occur-keeps outOfPaper p = (refl, refl)
+occur-keeps paperIn p = (refl, refl)
+occur-keeps interruptsOn p = (refl, refl)
+occur-keeps interruptsOff p = (refl, refl)
+
+moment-sum : (m : Moment) (p : Port) (u : Bytes) → Summed p (moment m p u)
+unfolding moment step total
+moment-sum aStep p u h = attempt-sum (takes p) p u h
+moment-sum (event e) p u h = omega (arith, occur-keeps e p .0)
+
+-- the sum register is its first value and the bytes sent, added, modulo 256
+pub sum-register : (h : History) (p : Port) (u : Bytes) → p .sum < 256 → play h p u .port .sum ≡ (p .sum + total (play h p u .sent)) % 256
+unfolding then total
+sum-register =
+    every
+    (λ p u a. Summed p a)
+    (λ p u h. omega arith)
+    (λ p u a b x y h. omega (arith, x h, y (omega (arith, x h)), total-append (a .sent) (b .sent)))
+    moment-sum
+
+-- ---- data
+
+-- the last byte of a list, or another where there is none
+unfoldable pub lastOf : ℕ → Bytes → ℕ
+lastOf d [] = d
+lastOf d (b ∷ bs) = lastOf b bs
+
+last-append : (d : ℕ) (a b : Bytes) → lastOf d (a ++ b) ≡ lastOf (lastOf d a) b
+unfolding lastOf
+last-append d [] b = refl
+last-append d (x ∷ a) b = last-append x a b
+
+attempt-data : (t : Bool) (p : Port) (u : Bytes) → attempt t p u .port .«data» ≡ lastOf (p .«data») (attempt t p u .sent)
+unfolding attempt send acknowledged lastOf
+attempt-data false p u = refl
+attempt-data true p [] = refl
+attempt-data true p (b ∷ bs) = refl
+
+moment-data : (m : Moment) (p : Port) (u : Bytes) → moment m p u .port .«data» ≡ lastOf (p .«data») (moment m p u .sent)
+unfolding moment step lastOf
+moment-data aStep p u = attempt-data (takes p) p u
+moment-data (event e) p u = occur-keeps e p .1
+
+-- the data register holds the byte sent last, or its first value
+pub data-register : (h : History) (p : Port) (u : Bytes) → play h p u .port .«data» ≡ lastOf (p .«data») (play h p u .sent)
+unfolding then lastOf
+data-register =
+    every
+    (λ p u a. a .port .«data» ≡ lastOf (p .«data») (a .sent))
+    (λ p u. refl)
+    (λ p u a b x y. y ∙ ap (λ (d : ℕ). lastOf d (b .sent)) x ∙ sym (last-append (p .«data») (a .sent) (b .sent)))
+    moment-data
+
+-- ---- bytes
+
+abbrev pub IsByte : ℕ → Type 0
+IsByte b = b < 256
+
+-- each register holds one
+pub record Registers (p : Port) : Type 0 where
+  pub status : IsByte (p .status)
+  pub control : IsByte (p .control)
+  pub «data» : IsByte (p .«data»)
+  pub sum : IsByte (p .sum)
+
+acknowledged-bytes : (p : Port) → Registers p → Registers (acknowledged p)
+unfolding acknowledged
+acknowledged-bytes p r =
+    record { status = put-below 8 pending 0 (p .status) (omega arith) (omega arith) (r .status); control = r .control; «data» = r .«data»; sum = r .sum }
+
+attempt-bytes :
+    (t : Bool) (p : Port) (u : Bytes) → Registers p → Each IsByte u → Registers (attempt t p u .port) × Each IsByte (attempt t p u .unsent)
+unfolding attempt send Each
+attempt-bytes false p u r e = (acknowledged-bytes p r, e)
+attempt-bytes true p [] r e = (acknowledged-bytes p r, e)
+attempt-bytes true p (b ∷ bs) r e =
+    let q = acknowledged-bytes p r in
+    (record { status = put-below 8 ready 0 (acknowledged p .status) (omega arith) (omega arith) (q .status); control = q .control; «data» = e .0; sum = omega arith }, e .1)
+
+occur-bytes : (e : Event) (p : Port) → Registers p → Registers (occur e p)
+unfolding occur
+occur-bytes readyAgain p r = record { status = by (isSet interrupts (p .control)); control = r .control; «data» = r .«data»; sum = r .sum }
+  where
+    set : put ready 1 (p .status) < 256
+    set = put-below 8 ready 1 (p .status) (omega arith) (omega arith) (r .status)
+
+    by : (t : Bool) → pick t (put pending 1 (put ready 1 (p .status))) (put ready 1 (p .status)) < 256
+    by true = put-below 8 pending 1 (put ready 1 (p .status)) (omega arith) (omega arith) set
+    by false = set
+occur-bytes outOfPaper p r = record { status = put-below 8 paperOut 1 (p .status) (omega arith) (omega arith) (r .status); control = r .control; «data» = r .«data»; sum = r .sum }
+occur-bytes paperIn p r = record { status = put-below 8 paperOut 0 (p .status) (omega arith) (omega arith) (r .status); control = r .control; «data» = r .«data»; sum = r .sum }
+occur-bytes interruptsOn p r = record { status = r .status; control = put-below 8 interrupts 1 (p .control) (omega arith) (omega arith) (r .control); «data» = r .«data»; sum = r .sum }
+occur-bytes interruptsOff p r = record { status = r .status; control = put-below 8 interrupts 0 (p .control) (omega arith) (omega arith) (r .control); «data» = r .«data»; sum = r .sum }
+
+moment-bytes :
+    (m : Moment) (p : Port) (u : Bytes) → Registers p → Each IsByte u → Registers (moment m p u .port) × Each IsByte (moment m p u .unsent)
+unfolding moment step
+moment-bytes aStep p u r e = attempt-bytes (takes p) p u r e
+moment-bytes (event x) p u r e = (occur-bytes x p r, e)
+
+-- registers that hold bytes hold bytes after every history
+pub registers-stay : (h : History) (p : Port) (u : Bytes) → Registers p → Each IsByte u → Registers (play h p u .port)
+unfolding then
+registers-stay h p u r e =
+    every
+    (λ p u a. Registers p → Each IsByte u → Registers (a .port) × Each IsByte (a .unsent))
+    (λ p u r e. (r, e))
+    (λ p u a b x y r e. y (x r e .0) (x r e .1))
+    moment-bytes h p u r e .0
