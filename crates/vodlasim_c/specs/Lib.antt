@@ -1,2 +1,3 @@
 -- What the contract of the call for C and Rust hosts cites.
 pub mod Report
+pub mod Port

@@ -1,4 +1,6 @@
-// The public call for C and Rust hosts, over numbers and slices.
+// The public call and the plotter's port (port.rt) for C and Rust hosts, over numbers and slices.
+mod port;
+
 use specification::End;
 use specification::Outcome;
 use specification::Setting;
