@@ -54,6 +54,11 @@ attempt-counts false p u = omega arith
 attempt-counts true p [] = omega arith
 attempt-counts true p (b ∷ bs) = omega arith
 
+-- a step sends no more than there is, so that what is left can be lent to the next
+pub step-fits : (p : Port) (u : Bytes) → length (step p u .sent) ≤ length u
+unfolding step
+step-fits p u = omega (arith, attempt-counts (takes p) p u)
+
 -- a byte goes at each step that finds ready set and paper in, until none is left
 pub counts : (h : History) (p : Port) (u : Bytes) → length (play h p u .sent) ≡ min (chances h p u) (length u)
 unfolding play then moment step chances

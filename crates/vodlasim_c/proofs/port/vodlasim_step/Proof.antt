@@ -18,11 +18,11 @@ returns : tie.Need-returns
 returns c =
     let steps = c .before .step .ensures in
     let same = c .before .before .port .ensures in
-    record
-      { registers = c .bytes .ensures ∙ ap bytesOf (steps .port) ∙ rw same
-      ; sent = steps .sent ∙ rw same
-      ; left = steps .left ∙ rw same
-      }
+    record {
+      registers = c .bytes .ensures ∙ ap bytesOf (steps .port) ∙ rw same;
+      sent = steps .sent ∙ rw same;
+      left = steps .left ∙ rw same;
+    }
 
 pub vodlasim-step-spec : {M : Type 1} → statement M
 vodlasim-step-spec = tie.close (tie.spec port-requires step-requires bytes-requires returns)

@@ -1,0 +1,30 @@
+-- `port_cases::play_cases` is safe and ends: each turn moves on in the input.
+use Prim.Native.Nat.{_-_}
+use lib.ListN.{length}
+use borrow.Author.Needs.{needs}
+use Rattle.port_cases.proofs.play_cases.Statement.{statement}
+use Rattle.port_cases.proofs.play_cases.Tie as tie
+
+abbrev Inv-loop : tie.InvT-loop
+Inv-loop cases at₀ at = Unit {0}
+
+abbrev μ-loop : tie.MeasureT-loop
+μ-loop cases at₀ at = length cases - at
+
+loop-holds : tie.Need-loop-holds Inv-loop μ-loop
+loop-holds c = search needs
+
+play-case-requires : tie.Need-play-case-requires Inv-loop μ-loop
+play-case-requires c κs = search needs
+
+loop-less : tie.Need-loop-less Inv-loop μ-loop
+loop-less c = search needs
+
+loop-again : tie.Need-loop-again Inv-loop μ-loop
+loop-again c = search needs
+
+returns : tie.Need-returns Inv-loop μ-loop
+returns c = search needs
+
+pub play-cases-spec : {M : Type 1} → statement M
+play-cases-spec = tie.close (tie.spec Inv-loop μ-loop loop-holds play-case-requires loop-less loop-again returns)
