@@ -84,10 +84,15 @@ class Lent:
 
 
 def load(archive, folder):
-    """The library's call."""
+    """The library, as a shared object."""
     shared = str(pathlib.Path(folder) / "vodlasim.so")
     subprocess.run(["gcc", "-shared", "-o", shared, "-Wl,--whole-archive", archive, "-Wl,--no-whole-archive"], check=True)
-    run = ctypes.CDLL(shared).vodlasim_run
+    return ctypes.CDLL(shared)
+
+
+def call_of(library):
+    """The call that runs a sheet."""
+    run = library.vodlasim_run
     pointer, size = ctypes.c_void_p, ctypes.c_size_t
     run.argtypes = [pointer, size, WORD, WORD, WORD, pointer, size, pointer, size, pointer]
     run.restype = None
@@ -156,7 +161,7 @@ def compare_program(name, prints, cases, ended):
 def check(given, folder):
     """How many runs were alike, by their end or refusal, and by program."""
     rng, until, ended = random.Random(given.seed), time.monotonic() + given.seconds, Counter()
-    run = load(given.library, folder)
+    run = call_of(load(given.library, folder))
     while not ended or time.monotonic() < until:
         cases = batch(rng)
         compare_library(run, rng, cases, ended)

@@ -1,4 +1,4 @@
-/* The call of libvodlasim_c.a (crates/vodlasim_c). Each slice is a pointer and its length in elements; every length is allowed.
+/* The calls of libvodlasim_c.a (crates/vodlasim_c): a run of a sheet, and the plotter's port. Each slice is a pointer and its length in elements; every length is allowed.
  * The library keeps nothing between calls and reads no memory but what it is lent. */
 #ifndef VODLASIM_H
 #define VODLASIM_H
@@ -27,4 +27,36 @@ enum {
 
 void vodlasim_run(const uint8_t *sheet, size_t sheet_len, uint32_t path_limit, uint32_t budget, uint32_t skip,
                   uint32_t *work, size_t work_len, uint8_t *output, size_t output_len, uint64_t report[8]);
+
+/* The plotter's port. Its four registers are bytes that the host keeps; bits that have no name below are never changed. */
+enum {
+    VODLASIM_STATUS,
+    VODLASIM_CONTROL,
+    VODLASIM_DATA,      /* the byte sent last */
+    VODLASIM_SUM        /* every byte sent is added to it, wrapping past 255 */
+};
+
+/* the bits of status, and that of control */
+enum {
+    VODLASIM_READY = 1,
+    VODLASIM_PAPER_OUT = 2,
+    VODLASIM_PENDING = 4
+};
+
+enum {
+    VODLASIM_INTERRUPTS = 1     /* interrupts are let through */
+};
+
+/* One step over the registers and the bytes of a listing that are unsent: how many of them went out, 0 or 1. If ready is set, paper out
+ * clear and a byte left, the first goes to data, ready is cleared and sum moves on. Sending or not, a step clears pending. The next step takes
+ * what this one left: unsent + r, unsent_len - r. */
+size_t vodlasim_step(uint8_t registers[4], const uint8_t *unsent, size_t unsent_len);
+
+/* The events. The device is ready again: ready is set, and pending too if control lets interrupts through. The others set or clear paper out
+ * and control's bit. */
+void vodlasim_ready_again(uint8_t registers[4]);
+void vodlasim_out_of_paper(uint8_t registers[4]);
+void vodlasim_paper_in(uint8_t registers[4]);
+void vodlasim_interrupts_on(uint8_t registers[4]);
+void vodlasim_interrupts_off(uint8_t registers[4]);
 #endif
