@@ -1,6 +1,6 @@
 -- From moments to histories. A point of a history is what `play` leaves after its first moments; what holds of the next moment there is said
 -- of the history with that moment at its end. Assumes nothing.
-use mathlib.Core.Path.{_≡_, refl, sym, ap, _∙_}
+use mathlib.Core.Path.{_≡_, sym, ap, _∙_}
 use mathlib.Core.List.{[], _∷_, _++_, append-assoc, append-nil}
 use Rattle.specification.specs.Bytes.{Bytes}
 use Rattle.plotter.specs.declared.Port.{Port}

@@ -1,5 +1,4 @@
 -- Pending: every step clears it, and it is set by the device alone, where control lets interrupts through. Assumes nothing.
-use Prim.Native.Nat.{ℕ}
 use native.Mathlib.Omega.{arith}
 use mathlib.Core.Path.{_≡_, refl, sym, ap, _∙_}
 use mathlib.Core.Bool.{Bool, true, false, _||_}

@@ -5,12 +5,13 @@ use mathlib.Core.Path.{_≡_, refl, sym, ap, _∙_}
 use mathlib.Core.Bool.{Bool, true, false}
 use mathlib.Core.List.{[], _∷_, _++_}
 use Rattle.specification.specs.Lists.{Each}
-use Rattle.specification.specs.Bytes.{Bytes, pick}
+use Rattle.specification.specs.Bytes.{Bytes}
 use Rattle.plotter.specs.declared.Port.{Port}
-use Rattle.plotter.specs.Port.{isSet, put, ready, paperOut, pending, interrupts, After, attempt, step, takes, acknowledged, send, Event, readyAgain, outOfPaper, paperIn, interruptsOn, interruptsOff, occur}
+use Rattle.plotter.specs.Port.{After, attempt, step, takes, acknowledged, send, Event, readyAgain, outOfPaper, paperIn, interruptsOn, interruptsOff, occur}
 use Rattle.plotter.specs.History.{Moment, aStep, event, History, moment, then, play, total}
-use Rattle.plotter.proofs.Laws.Bits.{put-below}
 use Rattle.plotter.proofs.Laws.Histories.{every}
+use Rattle.plotter.proofs.Laws.Sent.{in-order}
+use Rattle.plotter.proofs.Laws.Unnamed.{status-byte, control-byte}
 
 -- ---- sum
 
@@ -98,47 +99,19 @@ pub record Registers (p : Port) : Type 0 where
   pub «data» : IsByte (p .«data»)
   pub sum : IsByte (p .sum)
 
-acknowledged-bytes : (p : Port) → Registers p → Registers (acknowledged p)
-unfolding acknowledged
-acknowledged-bytes p r =
-    record { status = put-below 8 pending 0 (p .status) (omega arith) (omega arith) (r .status); control = r .control; «data» = r .«data»; sum = r .sum }
-
-attempt-bytes :
-    (t : Bool) (p : Port) (u : Bytes) → Registers p → Each IsByte u → Registers (attempt t p u .port) × Each IsByte (attempt t p u .unsent)
-unfolding attempt send Each
-attempt-bytes false p u r e = (acknowledged-bytes p r, e)
-attempt-bytes true p [] r e = (acknowledged-bytes p r, e)
-attempt-bytes true p (b ∷ bs) r e =
-    let q = acknowledged-bytes p r in
-    (record { status = put-below 8 ready 0 (acknowledged p .status) (omega arith) (omega arith) (q .status); control = q .control; «data» = e .0; sum = omega arith }, e .1)
-
-occur-bytes : (e : Event) (p : Port) → Registers p → Registers (occur e p)
-unfolding occur
-occur-bytes readyAgain p r = record { status = by (isSet interrupts (p .control)); control = r .control; «data» = r .«data»; sum = r .sum }
-  where
-    set : put ready 1 (p .status) < 256
-    set = put-below 8 ready 1 (p .status) (omega arith) (omega arith) (r .status)
-
-    by : (t : Bool) → pick t (put pending 1 (put ready 1 (p .status))) (put ready 1 (p .status)) < 256
-    by true = put-below 8 pending 1 (put ready 1 (p .status)) (omega arith) (omega arith) set
-    by false = set
-occur-bytes outOfPaper p r = record { status = put-below 8 paperOut 1 (p .status) (omega arith) (omega arith) (r .status); control = r .control; «data» = r .«data»; sum = r .sum }
-occur-bytes paperIn p r = record { status = put-below 8 paperOut 0 (p .status) (omega arith) (omega arith) (r .status); control = r .control; «data» = r .«data»; sum = r .sum }
-occur-bytes interruptsOn p r = record { status = r .status; control = put-below 8 interrupts 1 (p .control) (omega arith) (omega arith) (r .control); «data» = r .«data»; sum = r .sum }
-occur-bytes interruptsOff p r = record { status = r .status; control = put-below 8 interrupts 0 (p .control) (omega arith) (omega arith) (r .control); «data» = r .«data»; sum = r .sum }
-
-moment-bytes :
-    (m : Moment) (p : Port) (u : Bytes) → Registers p → Each IsByte u → Registers (moment m p u .port) × Each IsByte (moment m p u .unsent)
-unfolding moment step
-moment-bytes aStep p u r e = attempt-bytes (takes p) p u r e
-moment-bytes (event x) p u r e = (occur-bytes x p r, e)
+last-byte : (d : ℕ) (a b : Bytes) → IsByte d → Each IsByte (a ++ b) → IsByte (lastOf d a)
+unfolding lastOf Each
+last-byte d [] b h e = h
+last-byte d (x ∷ a) b h e = last-byte x a b (e .0) (e .1)
 
 -- registers that hold bytes hold bytes after every history
 pub registers-stay : (h : History) (p : Port) (u : Bytes) → Registers p → Each IsByte u → Registers (play h p u .port)
-unfolding then
 registers-stay h p u r e =
-    every
-    (λ p u a. Registers p → Each IsByte u → Registers (a .port) × Each IsByte (a .unsent))
-    (λ p u r e. (r, e))
-    (λ p u a b x y r e. y (x r e .0) (x r e .1))
-    moment-bytes h p u r e .0
+    let a = play h p u in
+    let bytes : Each IsByte (a .sent ++ a .unsent) = rw (in-order h p u) e in
+    record {
+      status = status-byte h p u (r .status);
+      control = control-byte h p u (r .control);
+      «data» = rw (data-register h p u) (last-byte (p .«data») (a .sent) (a .unsent) (r .«data») bytes);
+      sum = omega (arith, sum-register h p u (r .sum));
+    }

@@ -1,7 +1,8 @@
--- Bits of status and control that have no name stay what they were through every history. Assumes nothing.
-use Prim.Native.Nat.{ℕ, _<_}
+-- Status and control are changed in the bits that have a name and in no other: the other bits stay what they were through every history, and a
+-- byte stays a byte. Assumes nothing.
+use Prim.Native.Nat.{ℕ, _≤_, _<_}
 use native.Mathlib.Omega.{arith}
-use mathlib.Core.Path.{_≡_, refl, ap, _∙_}
+use mathlib.Core.Path.{_≡_, refl, _∙_}
 use mathlib.Core.Bool.{Bool, true, false}
 use mathlib.Core.List.{[], _∷_}
 use borrow.Author.Tests.{ne-eqb}
@@ -9,70 +10,96 @@ use Rattle.specification.specs.Bytes.{Bytes, pick}
 use Rattle.plotter.specs.declared.Port.{Port}
 use Rattle.plotter.specs.Port.{bit, isSet, put, ready, paperOut, pending, interrupts, attempt, step, takes, acknowledged, send, Event, readyAgain, outOfPaper, paperIn, interruptsOn, interruptsOff, occur}
 use Rattle.plotter.specs.History.{Moment, aStep, event, History, moment, then, play}
-use Rattle.plotter.proofs.Laws.Bits.{bit-put}
+use Rattle.plotter.proofs.Laws.Bits.{bit-put, put-below}
 use Rattle.plotter.proofs.Laws.Histories.{every}
 
--- a bit beyond those that have a name stays when one of these is put
-other-bit : (j k d r : ℕ) → k < j → d < 2 → bit j (put k d r) ≡ bit j r
-other-bit j k d r h e = bit-put j k d r e ∙ rw (ne-eqb j k (λ q. omega arith))
+-- ---- a register that is changed up to a bit
+
+-- r' is r with some of its bits up to bit n put
+data Changed (n r : ℕ) : ℕ → Type 0 where
+  same : Changed n r r
+  puts : {r' : ℕ} (k d : ℕ) → k ≤ n → d < 2 → Changed n r r' → Changed n r (put k d r')
+
+changed-twice : {n r r' r'' : ℕ} → Changed n r r' → Changed n r' r'' → Changed n r r''
+changed-twice c same = c
+changed-twice c (puts k d h e c') = puts k d h e (changed-twice c c')
+
+bits-above : {n r r' : ℕ} (j : ℕ) → n < j → Changed n r r' → bit j r' ≡ bit j r
+bits-above j h same = refl
+bits-above j h (puts {r'} k d g e c) = bit-put j k d r' e ∙ rw (ne-eqb j k (λ q. omega arith)) (bits-above j h c)
+
+still-byte : {n r r' : ℕ} → n < 8 → r < 256 → Changed n r r' → r' < 256
+still-byte h b same = b
+still-byte h b (puts {r'} k d g e c) = put-below 8 k d r' (omega arith) e (still-byte h b c)
 
 -- ---- status
 
-module _ (k : ℕ) (beyond : pending < k) where
-  acknowledged-stays : (p : Port) → bit k (acknowledged p .status) ≡ bit k (p .status)
-  unfolding acknowledged
-  acknowledged-stays p = other-bit k pending 0 (p .status) (omega arith) (omega arith)
+acknowledged-changes : (p : Port) → Changed pending (p .status) (acknowledged p .status)
+unfolding acknowledged
+acknowledged-changes p = puts pending 0 (omega arith) (omega arith) same
 
-  attempt-stays : (t : Bool) (p : Port) (u : Bytes) → bit k (attempt t p u .port .status) ≡ bit k (p .status)
-  unfolding attempt send
-  attempt-stays false p u = acknowledged-stays p
-  attempt-stays true p [] = acknowledged-stays p
-  attempt-stays true p (b ∷ bs) = other-bit k ready 0 (acknowledged p .status) (omega arith) (omega arith) ∙ acknowledged-stays p
+attempt-changes : (t : Bool) (p : Port) (u : Bytes) → Changed pending (p .status) (attempt t p u .port .status)
+unfolding attempt send
+attempt-changes false p u = acknowledged-changes p
+attempt-changes true p [] = acknowledged-changes p
+attempt-changes true p (b ∷ bs) = puts ready 0 (omega arith) (omega arith) (acknowledged-changes p)
 
-  occur-stays : (e : Event) (p : Port) → bit k (occur e p .status) ≡ bit k (p .status)
-  unfolding occur
-  occur-stays readyAgain p = by (isSet interrupts (p .control)) ∙ first
-    where
-      first : bit k (put ready 1 (p .status)) ≡ bit k (p .status)
-      first = other-bit k ready 1 (p .status) (omega arith) (omega arith)
+occur-changes : (e : Event) (p : Port) → Changed pending (p .status) (occur e p .status)
+unfolding occur
+occur-changes readyAgain p = by (isSet interrupts (p .control)) (puts ready 1 (omega arith) (omega arith) same)
+  where
+    by : {s s' : ℕ} (t : Bool) → Changed pending s s' → Changed pending s (pick t (put pending 1 s') s')
+    by true c = puts pending 1 (omega arith) (omega arith) c
+    by false c = c
+occur-changes outOfPaper p = puts paperOut 1 (omega arith) (omega arith) same
+occur-changes paperIn p = puts paperOut 0 (omega arith) (omega arith) same
+occur-changes interruptsOn p = same
+occur-changes interruptsOff p = same
 
-      by : (t : Bool) → bit k (pick t (put pending 1 (put ready 1 (p .status))) (put ready 1 (p .status))) ≡ bit k (put ready 1 (p .status))
-      by true = other-bit k pending 1 (put ready 1 (p .status)) (omega arith) (omega arith)
-      by false = refl
-  occur-stays outOfPaper p = other-bit k paperOut 1 (p .status) (omega arith) (omega arith)
-  occur-stays paperIn p = other-bit k paperOut 0 (p .status) (omega arith) (omega arith)
-  occur-stays interruptsOn p = refl
-  occur-stays interruptsOff p = refl
+moment-changes : (m : Moment) (p : Port) (u : Bytes) → Changed pending (p .status) (moment m p u .port .status)
+unfolding moment step
+moment-changes aStep p u = attempt-changes (takes p) p u
+moment-changes (event e) p u = occur-changes e p
 
-  moment-stays : (m : Moment) (p : Port) (u : Bytes) → bit k (moment m p u .port .status) ≡ bit k (p .status)
-  unfolding moment step
-  moment-stays aStep p u = attempt-stays (takes p) p u
-  moment-stays (event e) p u = occur-stays e p
+status-changes : (h : History) (p : Port) (u : Bytes) → Changed pending (p .status) (play h p u .port .status)
+unfolding then
+status-changes =
+    every (λ p u a. Changed pending (p .status) (a .port .status)) (λ p u. same) (λ p u a b x y. changed-twice x y) moment-changes
 
 -- status's bits from 3 on stay what they were
 pub status-stays : (k : ℕ) → pending < k → (h : History) (p : Port) (u : Bytes) → bit k (play h p u .port .status) ≡ bit k (p .status)
-unfolding then
-status-stays k beyond = every (λ p u a. bit k (a .port .status) ≡ bit k (p .status)) (λ p u. refl) (λ p u a b x y. y ∙ x) (moment-stays k beyond)
+status-stays k above h p u = bits-above k above (status-changes h p u)
 
 -- ---- control
 
-attempt-control : (t : Bool) (p : Port) (u : Bytes) → attempt t p u .port .control ≡ p .control
+attempt-control : (t : Bool) (p : Port) (u : Bytes) → Changed interrupts (p .control) (attempt t p u .port .control)
 unfolding attempt send acknowledged
-attempt-control false p u = refl
-attempt-control true p [] = refl
-attempt-control true p (b ∷ bs) = refl
+attempt-control false p u = same
+attempt-control true p [] = same
+attempt-control true p (b ∷ bs) = same
 
-moment-control : (k : ℕ) → interrupts < k → (m : Moment) (p : Port) (u : Bytes) → bit k (moment m p u .port .control) ≡ bit k (p .control)
+moment-control : (m : Moment) (p : Port) (u : Bytes) → Changed interrupts (p .control) (moment m p u .port .control)
 unfolding moment step occur
-moment-control k beyond aStep p u = ap (bit k) (attempt-control (takes p) p u)
-moment-control k beyond (event readyAgain) p u = refl
-moment-control k beyond (event outOfPaper) p u = refl
-moment-control k beyond (event paperIn) p u = refl
-moment-control k beyond (event interruptsOn) p u = other-bit k interrupts 1 (p .control) beyond (omega arith)
-moment-control k beyond (event interruptsOff) p u = other-bit k interrupts 0 (p .control) beyond (omega arith)
+moment-control aStep p u = attempt-control (takes p) p u
+moment-control (event readyAgain) p u = same
+moment-control (event outOfPaper) p u = same
+moment-control (event paperIn) p u = same
+moment-control (event interruptsOn) p u = puts interrupts 1 (omega arith) (omega arith) same
+moment-control (event interruptsOff) p u = puts interrupts 0 (omega arith) (omega arith) same
+
+control-changes : (h : History) (p : Port) (u : Bytes) → Changed interrupts (p .control) (play h p u .port .control)
+unfolding then
+control-changes =
+    every (λ p u a. Changed interrupts (p .control) (a .port .control)) (λ p u. same) (λ p u a b x y. changed-twice x y) moment-control
 
 -- control's bits from 1 on stay what they were
 pub control-stays : (k : ℕ) → interrupts < k → (h : History) (p : Port) (u : Bytes) → bit k (play h p u .port .control) ≡ bit k (p .control)
-unfolding then
-control-stays k beyond =
-    every (λ p u a. bit k (a .port .control) ≡ bit k (p .control)) (λ p u. refl) (λ p u a b x y. y ∙ x) (moment-control k beyond)
+control-stays k above h p u = bits-above k above (control-changes h p u)
+
+-- ---- bytes
+
+pub status-byte : (h : History) (p : Port) (u : Bytes) → p .status < 256 → play h p u .port .status < 256
+status-byte h p u b = still-byte (omega arith) b (status-changes h p u)
+
+pub control-byte : (h : History) (p : Port) (u : Bytes) → p .control < 256 → play h p u .port .control < 256
+control-byte h p u b = still-byte (omega arith) b (control-changes h p u)
