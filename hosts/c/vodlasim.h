@@ -47,9 +47,9 @@ enum {
     VODLASIM_INTERRUPTS = 1     /* interrupts are let through */
 };
 
-/* One step over the registers and the bytes of a listing that are unsent: how many of them went out, 0 or 1. If ready is set, paper out
- * clear and a byte left, the first goes to data, ready is cleared and sum moves on. Sending or not, a step clears pending. The next step takes
- * what this one left: unsent + r, unsent_len - r. */
+/* One step over the registers and the bytes of a listing that are unsent: how many of them went out, 0 or 1, so that the next step is lent
+ * what stands behind them. If ready is set, paper out clear and a byte left, the first goes to data, ready is cleared and sum moves on. Sending
+ * or not, a step clears pending. */
 size_t vodlasim_step(uint8_t registers[4], const uint8_t *unsent, size_t unsent_len);
 
 /* The events. The device is ready again: ready is set, and pending too if control lets interrupts through. The others set or clear paper out

@@ -86,13 +86,20 @@ fn play_script(cases: &[u8], listing: usize, end: usize, port: Port) -> usize
         letter = cases[at];
         at += 1;
         if letter == b'\n' {
-            print_left(end - unsent);
-            return at;
+            return after_script(cases, at, end - unsent);
         }
         now = moment(letter, now.port, &cases[unsent..end]);
         unsent += now.sent;
     }
     cases.len()
+}
+
+// Prints what is left of a listing: the place after its script, or the end of the input where a byte is lost.
+fn after_script(cases: &[u8], at: usize, left: usize) -> usize
+    requires { ⌜ at ≤ length (now cases) ⌝ }
+    ensures { λ r. ⌜ at ≤ r ⌝ }
+{
+    if print_left(left) { at } else { cases.len() }
 }
 
 // What a letter's moment leaves.

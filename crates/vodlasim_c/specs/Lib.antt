@@ -1,3 +1,3 @@
--- What the contract of the call for C and Rust hosts cites.
+-- What the contracts of the calls for C and Rust hosts cite.
 pub mod Report
 pub mod Port

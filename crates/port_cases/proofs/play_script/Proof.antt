@@ -29,11 +29,11 @@ shared-slice-read-letter c = search needs
 add-at-2 : tie.Need-add-at-2 Inv-loop μ-loop
 add-at-2 c = search needs
 
-sub-print-left : tie.Need-sub-print-left Inv-loop μ-loop
-sub-print-left c = search needs
+sub-after-script : tie.Need-sub-after-script Inv-loop μ-loop
+sub-after-script c = search needs
 
-print-left-requires : tie.Need-print-left-requires Inv-loop μ-loop
-print-left-requires c κs = search needs
+after-script-requires : tie.Need-after-script-requires Inv-loop μ-loop
+after-script-requires c κs = search needs
 
 returns-2 : tie.Need-returns-2 Inv-loop μ-loop
 returns-2 c = search needs
@@ -74,8 +74,8 @@ play-script-spec =
     returns
     shared-slice-read-letter
     add-at-2
-    sub-print-left
-    print-left-requires
+    sub-after-script
+    after-script-requires
     returns-2
     sub-moment
     part-moment-start
