@@ -1,4 +1,4 @@
-"""The reference reading of the plotter's port (document 02, Four): registers of bits, and the moments of a history by their letters.
+"""The reference reading of the plotter's port (document 02, Four): registers of bits, and the actions of a history by their letters.
 
 It shares nothing with crates/plotter but the request's words: a status is a list of eight bits, and nothing is masked.
 """
@@ -53,16 +53,16 @@ class Port:
     def interrupts_off(self):
         self.control[THROUGH] = 0
 
-    def moment(self, letter):
+    def action(self, letter):
         """What a letter stands for: the bytes that it sends."""
-        return MOMENTS[letter](self) or b""
+        return ACTIONS[letter](self) or b""
 
 
-MOMENTS = {"s": Port.step, "r": Port.ready_again, "o": Port.out_of_paper, "i": Port.paper_in, "+": Port.interrupts_on, "-": Port.interrupts_off}
+ACTIONS = {"s": Port.step, "r": Port.ready_again, "o": Port.out_of_paper, "i": Port.paper_in, "+": Port.interrupts_on, "-": Port.interrupts_off}
 
 
 def drawn(rng, count):
-    """A random script of so many moments, in stretches of a like mood: plotting, waiting, paper trouble, anything."""
+    """A random script of so many actions, in stretches of a like mood: plotting, waiting, paper trouble, anything."""
     moods = ("rs", "rs", "rsrsrs+-", "s", "ors", "irs", "sroi+-")
     script = ""
     while len(script) < count:

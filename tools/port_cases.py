@@ -38,7 +38,7 @@ def printed(registers, listing, script):
     plotter = port.Port(registers, listing)
     lines = [line("=", plotter, b"")]
     for letter in script:
-        sent = plotter.moment(letter)
+        sent = plotter.action(letter)
         lines.append(line(letter, plotter, sent))
     return "".join(lines) + "left %04x\n" % len(plotter.unsent)
 

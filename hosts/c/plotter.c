@@ -47,7 +47,7 @@ static size_t listed(const char *name, uint8_t listing[OUTPUT])
 }
 
 /* plays what a letter stands for: how many bytes it sent, or -1 for a letter that stands for nothing */
-static int moment(int letter, uint8_t port[4], const uint8_t *unsent, size_t left)
+static int action(int letter, uint8_t port[4], const uint8_t *unsent, size_t left)
 {
     switch (letter) {
     case 's': return (int)vodlasim_step(port, unsent, left);
@@ -77,7 +77,7 @@ static int play(FILE *script, uint8_t port[4], const uint8_t *listing, size_t le
     while ((letter = getc(script)) != EOF) {
         if (isspace(letter))
             continue;
-        int n = moment(letter, port, listing + sent, len - sent);
+        int n = action(letter, port, listing + sent, len - sent);
         if (n < 0) {
             fflush(stdout);
             fprintf(stderr, "plotter: no letter of a script: byte %d\n", letter);

@@ -5,7 +5,7 @@ use mathlib.Core.List.{[], _∷_}
 use Rattle.specification.specs.Bytes.{Bytes, bytes}
 use Rattle.plotter.specs.declared.Port.{Port}
 use Rattle.plotter.specs.Port.{bit, isSet, put, After, takes, acknowledged, send, attempt, step, readyAgain, interruptsOn, interruptsOff, occur}
-use Rattle.plotter.specs.History.{aStep, event, moment, then, play, chances}
+use Rattle.plotter.specs.History.{aStep, event, action, then, play, chances}
 
 -- status, control, data, sum
 abbrev port : ℕ → ℕ → ℕ → ℕ → Port
@@ -39,11 +39,11 @@ counts-with-nothing-left = refl
 
 -- control is looked at when ready is set, and at no other time
 pub on-after-ready : play (event readyAgain ∷ event interruptsOn ∷ []) (port 0 0 0 0) [] ≡ after (port 1 1 0 0) [] []
-unfolding play then moment occur put bit isSet
+unfolding play then action occur put bit isSet
 on-after-ready = refl
 
 pub off-after-ready : play (event readyAgain ∷ event interruptsOff ∷ []) (port 0 1 0 0) [] ≡ after (port 5 0 0 0) [] []
-unfolding play then moment occur put bit isSet
+unfolding play then action occur put bit isSet
 off-after-ready = refl
 
 -- a step that sends clears what it finds pending: the byte's own interrupt comes with the next ready

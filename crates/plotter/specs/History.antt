@@ -6,17 +6,17 @@ use Rattle.specification.specs.Bytes.{Bytes, pick}
 use Rattle.plotter.specs.declared.Port.{Port}
 use Rattle.plotter.specs.Port.{After, Event, step, occur, takes}
 
-pub data Moment : Type 0 where
-  aStep : Moment
-  event : Event → Moment
+pub data Action : Type 0 where
+  aStep : Action
+  event : Event → Action
 
 abbrev pub History : Type 0
-History = List Moment
+History = List Action
 
--- what one moment leaves; an event sends nothing
-unfoldable pub moment : Moment → Port → Bytes → After
-moment aStep p u = step p u
-moment (event e) p u = record { port = occur e p; sent = []; unsent = u }
+-- what one action leaves; an event sends nothing
+unfoldable pub action : Action → Port → Bytes → After
+action aStep p u = step p u
+action (event e) p u = record { port = occur e p; sent = []; unsent = u }
 
 -- one after the other: what the last leaves, with the bytes that both sent
 unfoldable pub then : After → After → After
@@ -26,7 +26,7 @@ then a b = record { port = b .port; sent = a .sent ++ b .sent; unsent = b .unsen
 unfoldable pub play : History → Port → Bytes → After
 play [] p u = record { port = p; sent = []; unsent = u }
 play (m ∷ h) p u =
-    let first = moment m p u in
+    let first = action m p u in
     then first (play h (first .port) (first .unsent))
 
 -- how many of its steps find ready set and paper in, whether or not a byte is left to send

@@ -1,11 +1,11 @@
-// The port's test program: it plays the cases of its standard input and prints the registers after each moment, until a byte is lost. The
+// The port's test program: it plays the cases of its standard input and prints the registers after each action, until a byte is lost. The
 // file `stdin` beside src/ holds the cases and `stdout` what is due; tools/port_cases.py lists the cases and makes both files.
 //
 // A case is a line `SS CC DD MM LLLL`, the registers status, control, data and sum and the length of the listing, in hexadecimal digits;
-// then so many bytes of listing and a line feed; then a line of letters, one for each moment: `s` a step, `r` ready again, `o` out of paper,
+// then so many bytes of listing and a line feed; then a line of letters, one for each action: `s` a step, `r` ready again, `o` out of paper,
 // `i` paper in, `+` interrupts on, `-` interrupts off. Any other letter changes nothing.
 //
-// Printed are the registers before the first moment, after a `=`, then those after each moment, after its letter, and at the end of each
+// Printed are the registers before the first action, after a `=`, then those after each action, after its letter, and at the end of each
 // line how many bytes went out; last `left` and how many bytes are unsent.
 mod hex;
 
@@ -88,7 +88,7 @@ fn play_script(cases: &[u8], listing: usize, end: usize, port: Port) -> usize
         if letter == b'\n' {
             return after_script(cases, at, end - unsent);
         }
-        now = moment(letter, now.port, &cases[unsent..end]);
+        now = action(letter, now.port, &cases[unsent..end]);
         unsent += now.sent;
     }
     cases.len()
@@ -102,8 +102,8 @@ fn after_script(cases: &[u8], at: usize, left: usize) -> usize
     if print_left(left) { at } else { cases.len() }
 }
 
-// What a letter's moment leaves.
-fn moment(letter: u8, port: Port, unsent: &[u8]) -> Stepped
+// What a letter's action leaves.
+fn action(letter: u8, port: Port, unsent: &[u8]) -> Stepped
     ensures { λ r. ⌜ r .sent ≤ length (now (unsent .entry)) ⌝ }
 {
     if letter == b's' {

@@ -7,7 +7,7 @@ use lib.ListN.{length, take, length-append}
 use Rattle.specification.specs.Bytes.{Bytes}
 use Rattle.plotter.specs.declared.Port.{Port}
 use Rattle.plotter.specs.Port.{step, occur}
-use Rattle.plotter.specs.History.{History, moment, then, play, chances, total}
+use Rattle.plotter.specs.History.{History, action, then, play, chances, total}
 use Rattle.plotter.proofs.Laws.Sent.{a-beginning, finishes}
 use Rattle.plotter.proofs.Laws.Registers.{sum-register}
 use Rattle.vodlasim_c.specs.Port.{portOf, Calls, none, stepped, occurred}
@@ -16,7 +16,7 @@ use Rattle.vodlasim_c.specs.Port.{portOf, Calls, none, stepped, occurred
 pub calls-play :
     {h : History} {r r' u : Bytes} {n : ℕ} → Calls h r r' u n →
     (portOf r' ≡ play h (portOf r) u .port) × (n ≡ length (play h (portOf r) u .sent))
-unfolding play then moment
+unfolding play then action
 calls-play none = (refl, refl)
 calls-play (stepped {h} {r} {r'} {r''} {u} {n} {m} s c) =
     let same : portOf r' ≡ step (portOf r) u .port = ap portOf (s .registers) in

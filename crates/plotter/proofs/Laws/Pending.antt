@@ -8,7 +8,7 @@ use Rattle.specification.specs.Bytes.{Bytes, pick}
 use Rattle.specification.proofs.Laws.Contradiction.{contradiction}
 use Rattle.plotter.specs.declared.Port.{Port}
 use Rattle.plotter.specs.Port.{bit, isSet, put, ready, paperOut, pending, interrupts, After, attempt, step, takes, acknowledged, send, readyAgain, outOfPaper, paperIn, interruptsOn, interruptsOff, occur}
-use Rattle.plotter.specs.History.{Moment, aStep, event, History, moment, then, play}
+use Rattle.plotter.specs.History.{Action, aStep, event, History, action, then, play}
 use Rattle.plotter.proofs.Laws.Bits.{bit-put}
 use Rattle.plotter.proofs.Laws.Histories.{one-more}
 
@@ -28,7 +28,7 @@ step-clears p u = rw (attempt-clears (takes p) p u)
 
 -- pending is clear after every step
 pub pending-clear : (h : History) (p : Port) (u : Bytes) → isSet pending (play (h ++ (aStep ∷ [])) p u .port .status) ≡ false
-unfolding then moment
+unfolding then action
 pending-clear h p u = rw (one-more h aStep p u) (step-clears (play h p u .port) (play h p u .unsent))
 
 ready-pending : (p : Port) → isSet pending (occur readyAgain p .status) ≡ (isSet interrupts (p .control) || isSet pending (p .status))
@@ -45,30 +45,30 @@ ready-pending p = by (isSet interrupts (p .control))
 pub ready-interrupts :
     (h : History) (p : Port) (u : Bytes) → isSet interrupts (play h p u .port .control) ≡ true →
     isSet pending (play (h ++ (event readyAgain ∷ [])) p u .port .status) ≡ true
-unfolding then moment
+unfolding then action
 ready-interrupts h p u e = rw (one-more h (event readyAgain) p u, ready-pending (play h p u .port), e)
 
 let-through : (t s : Bool) → s ≡ false → (t || s) ≡ true → t ≡ true
 let-through true s clear set = refl
 let-through false s clear set = sym clear ∙ set
 
-moment-sets :
-    (m : Moment) (p : Port) (u : Bytes) → isSet pending (p .status) ≡ false → isSet pending (moment m p u .port .status) ≡ true →
+action-sets :
+    (m : Action) (p : Port) (u : Bytes) → isSet pending (p .status) ≡ false → isSet pending (action m p u .port .status) ≡ true →
     (m ≡ event readyAgain) × (isSet interrupts (p .control) ≡ true)
-unfolding moment occur isSet
-moment-sets aStep p u clear set = contradiction (cc (step-clears p u))
-moment-sets (event readyAgain) p u clear set = (refl, let-through (isSet interrupts (p .control)) (isSet pending (p .status)) clear (sym (ready-pending p) ∙ set))
-moment-sets (event outOfPaper) p u clear set = contradiction (cc (bit-put pending paperOut 1 (p .status) (omega arith)))
-moment-sets (event paperIn) p u clear set = contradiction (cc (bit-put pending paperOut 0 (p .status) (omega arith)))
-moment-sets (event interruptsOn) p u clear set = contradiction (cc)
-moment-sets (event interruptsOff) p u clear set = contradiction (cc)
+unfolding action occur isSet
+action-sets aStep p u clear set = contradiction (cc (step-clears p u))
+action-sets (event readyAgain) p u clear set = (refl, let-through (isSet interrupts (p .control)) (isSet pending (p .status)) clear (sym (ready-pending p) ∙ set))
+action-sets (event outOfPaper) p u clear set = contradiction (cc (bit-put pending paperOut 1 (p .status) (omega arith)))
+action-sets (event paperIn) p u clear set = contradiction (cc (bit-put pending paperOut 0 (p .status) (omega arith)))
+action-sets (event interruptsOn) p u clear set = contradiction (cc)
+action-sets (event interruptsOff) p u clear set = contradiction (cc)
 
--- a moment that sets it is the device's, and control lets it through
+-- a action that sets it is the device's, and control lets it through
 pub pending-set :
-    (h : History) (m : Moment) (p : Port) (u : Bytes) →
+    (h : History) (m : Action) (p : Port) (u : Bytes) →
     isSet pending (play h p u .port .status) ≡ false → isSet pending (play (h ++ (m ∷ [])) p u .port .status) ≡ true →
     (m ≡ event readyAgain) × (isSet interrupts (play h p u .port .control) ≡ true)
 unfolding then
 pending-set h m p u clear set =
     let a = play h p u in
-    moment-sets m (a .port) (a .unsent) clear (ap (λ (x : After). isSet pending (x .port .status)) (sym (one-more h m p u)) ∙ set)
+    action-sets m (a .port) (a .unsent) clear (ap (λ (x : After). isSet pending (x .port .status)) (sym (one-more h m p u)) ∙ set)

@@ -8,7 +8,7 @@ use Rattle.specification.specs.Lists.{Each}
 use Rattle.specification.specs.Bytes.{Bytes}
 use Rattle.plotter.specs.declared.Port.{Port}
 use Rattle.plotter.specs.Port.{After, attempt, step, takes, acknowledged, send, Event, readyAgain, outOfPaper, paperIn, interruptsOn, interruptsOff, occur}
-use Rattle.plotter.specs.History.{Moment, aStep, event, History, moment, then, play, total}
+use Rattle.plotter.specs.History.{Action, aStep, event, History, action, then, play, total}
 use Rattle.plotter.proofs.Laws.Histories.{every}
 use Rattle.plotter.proofs.Laws.Sent.{in-order}
 use Rattle.plotter.proofs.Laws.Unnamed.{status-byte, control-byte}
@@ -39,10 +39,10 @@ occur-keeps paperIn p = (refl, refl)
 occur-keeps interruptsOn p = (refl, refl)
 occur-keeps interruptsOff p = (refl, refl)
 
-moment-sum : (m : Moment) (p : Port) (u : Bytes) → Summed p (moment m p u)
-unfolding moment step total
-moment-sum aStep p u h = attempt-sum (takes p) p u h
-moment-sum (event e) p u h = omega (arith, occur-keeps e p .0)
+action-sum : (m : Action) (p : Port) (u : Bytes) → Summed p (action m p u)
+unfolding action step total
+action-sum aStep p u h = attempt-sum (takes p) p u h
+action-sum (event e) p u h = omega (arith, occur-keeps e p .0)
 
 -- the sum register is its first value and the bytes sent, added, modulo 256
 pub sum-register : (h : History) (p : Port) (u : Bytes) → p .sum < 256 → play h p u .port .sum ≡ (p .sum + total (play h p u .sent)) % 256
@@ -52,7 +52,7 @@ sum-register =
     (λ p u a. Summed p a)
     (λ p u h. omega arith)
     (λ p u a b x y h. omega (arith, x h, y (omega (arith, x h)), total-append (a .sent) (b .sent)))
-    moment-sum
+    action-sum
 
 -- ---- data
 
@@ -72,10 +72,10 @@ attempt-data false p u = refl
 attempt-data true p [] = refl
 attempt-data true p (b ∷ bs) = refl
 
-moment-data : (m : Moment) (p : Port) (u : Bytes) → moment m p u .port .«data» ≡ lastOf (p .«data») (moment m p u .sent)
-unfolding moment step lastOf
-moment-data aStep p u = attempt-data (takes p) p u
-moment-data (event e) p u = occur-keeps e p .1
+action-data : (m : Action) (p : Port) (u : Bytes) → action m p u .port .«data» ≡ lastOf (p .«data») (action m p u .sent)
+unfolding action step lastOf
+action-data aStep p u = attempt-data (takes p) p u
+action-data (event e) p u = occur-keeps e p .1
 
 -- the data register holds the byte sent last, or its first value
 pub data-register : (h : History) (p : Port) (u : Bytes) → play h p u .port .«data» ≡ lastOf (p .«data») (play h p u .sent)
@@ -85,7 +85,7 @@ data-register =
     (λ p u a. a .port .«data» ≡ lastOf (p .«data») (a .sent))
     (λ p u. refl)
     (λ p u a b x y. y ∙ ap (λ (d : ℕ). lastOf d (b .sent)) x ∙ sym (last-append (p .«data») (a .sent) (b .sent)))
-    moment-data
+    action-data
 
 -- ---- bytes
 

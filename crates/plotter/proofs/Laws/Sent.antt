@@ -12,7 +12,7 @@ use Rattle.specification.specs.Bytes.{Bytes, pick}
 use Rattle.specification.proofs.Laws.Parser.{and-true}
 use Rattle.plotter.specs.declared.Port.{Port}
 use Rattle.plotter.specs.Port.{bit, isSet, put, ready, paperOut, pending, attempt, step, takes, acknowledged, send, Event, readyAgain, outOfPaper, paperIn, interruptsOn, interruptsOff, occur}
-use Rattle.plotter.specs.History.{Moment, aStep, event, History, moment, then, play, chances}
+use Rattle.plotter.specs.History.{Action, aStep, event, History, action, then, play, chances}
 use Rattle.plotter.proofs.Laws.Bits.{bit-put, bit-below}
 use Rattle.plotter.proofs.Laws.Step.{step-idle}
 use Rattle.plotter.proofs.Laws.Histories.{every, one-more}
@@ -25,10 +25,10 @@ attempt-in-order false p u = refl
 attempt-in-order true p [] = refl
 attempt-in-order true p (b ∷ bs) = refl
 
-moment-in-order : (m : Moment) (p : Port) (u : Bytes) → moment m p u .sent ++ moment m p u .unsent ≡ u
-unfolding moment step
-moment-in-order aStep p u = attempt-in-order (takes p) p u
-moment-in-order (event e) p u = refl
+action-in-order : (m : Action) (p : Port) (u : Bytes) → action m p u .sent ++ action m p u .unsent ≡ u
+unfolding action step
+action-in-order aStep p u = attempt-in-order (takes p) p u
+action-in-order (event e) p u = refl
 
 -- the bytes sent, with what is left unsent behind them, are the listing: each byte is sent once and in order
 pub in-order : (h : History) (p : Port) (u : Bytes) → play h p u .sent ++ play h p u .unsent ≡ u
@@ -38,7 +38,7 @@ in-order =
     (λ p u a. a .sent ++ a .unsent ≡ u)
     (λ p u. refl)
     (λ p u a b x y. append-assoc (a .sent) (b .sent) (b .unsent) ∙ ap (λ (s : Bytes). a .sent ++ s) y ∙ x)
-    moment-in-order
+    action-in-order
 
 -- so the bytes sent are a beginning of it
 pub a-beginning : (h : History) (p : Port) (u : Bytes) → play h p u .sent ≡ take (length (play h p u .sent)) u
@@ -61,7 +61,7 @@ step-fits p u = omega (arith, attempt-counts (takes p) p u)
 
 -- a byte goes at each step that finds ready set and paper in, until none is left
 pub counts : (h : History) (p : Port) (u : Bytes) → length (play h p u .sent) ≡ min (chances h p u) (length u)
-unfolding play then moment step chances
+unfolding play then action step chances
 counts [] p u = omega arith
 counts (aStep ∷ h) p u =
     let first = step p u in
@@ -99,7 +99,7 @@ no-fewer h p u e =
 
 -- an event sends nothing
 pub event-sends-nothing : (h : History) (e : Event) (p : Port) (u : Bytes) → play (h ++ (event e ∷ [])) p u .sent ≡ play h p u .sent
-unfolding then moment
+unfolding then action
 event-sends-nothing h e p u = rw (one-more h (event e) p u) (append-nil (play h p u .sent))
 
 not-taken : (p : Port) → (isSet ready (p .status) ≡ false) ⊎ (isSet paperOut (p .status) ≡ true) → takes p ≡ false
@@ -111,7 +111,7 @@ not-taken p (inr e) = rw e (and-false (isSet ready (p .status)))
 pub step-sends-nothing :
     (h : History) (p : Port) (u : Bytes) → (isSet ready (play h p u .port .status) ≡ false) ⊎ (isSet paperOut (play h p u .port .status) ≡ true) →
     play (h ++ (aStep ∷ [])) p u .sent ≡ play h p u .sent
-unfolding then moment
+unfolding then action
 step-sends-nothing h p u why =
     let a = play h p u in
     rw (one-more h aStep p u, step-idle (a .port) (a .unsent) (not-taken (a .port) why)) (append-nil (a .sent))
@@ -155,7 +155,7 @@ occur-ready interruptsOff p = omega arith
 pub one-for-each-ready :
     (h : History) (p : Port) (u : Bytes) →
     length (play h p u .sent) + bit ready (play h p u .port .status) ≤ bit ready (p .status) + readies h
-unfolding play then moment step readies
+unfolding play then action step readies
 one-for-each-ready [] p u = omega arith
 one-for-each-ready (aStep ∷ h) p u =
     let first = step p u in

@@ -9,7 +9,7 @@ use borrow.Author.Tests.{ne-eqb}
 use Rattle.specification.specs.Bytes.{Bytes, pick}
 use Rattle.plotter.specs.declared.Port.{Port}
 use Rattle.plotter.specs.Port.{bit, isSet, put, ready, paperOut, pending, interrupts, attempt, step, takes, acknowledged, send, Event, readyAgain, outOfPaper, paperIn, interruptsOn, interruptsOff, occur}
-use Rattle.plotter.specs.History.{Moment, aStep, event, History, moment, then, play}
+use Rattle.plotter.specs.History.{Action, aStep, event, History, action, then, play}
 use Rattle.plotter.proofs.Laws.Bits.{bit-put, put-below}
 use Rattle.plotter.proofs.Laws.Histories.{every}
 
@@ -56,15 +56,15 @@ occur-changes paperIn p = puts paperOut 0 (omega arith) (omega arith) same
 occur-changes interruptsOn p = same
 occur-changes interruptsOff p = same
 
-moment-changes : (m : Moment) (p : Port) (u : Bytes) → Changed pending (p .status) (moment m p u .port .status)
-unfolding moment step
-moment-changes aStep p u = attempt-changes (takes p) p u
-moment-changes (event e) p u = occur-changes e p
+action-changes : (m : Action) (p : Port) (u : Bytes) → Changed pending (p .status) (action m p u .port .status)
+unfolding action step
+action-changes aStep p u = attempt-changes (takes p) p u
+action-changes (event e) p u = occur-changes e p
 
 status-changes : (h : History) (p : Port) (u : Bytes) → Changed pending (p .status) (play h p u .port .status)
 unfolding then
 status-changes =
-    every (λ p u a. Changed pending (p .status) (a .port .status)) (λ p u. same) (λ p u a b x y. changed-twice x y) moment-changes
+    every (λ p u a. Changed pending (p .status) (a .port .status)) (λ p u. same) (λ p u a b x y. changed-twice x y) action-changes
 
 -- status's bits from 3 on stay what they were
 pub status-stays : (k : ℕ) → pending < k → (h : History) (p : Port) (u : Bytes) → bit k (play h p u .port .status) ≡ bit k (p .status)
@@ -78,19 +78,19 @@ attempt-control false p u = same
 attempt-control true p [] = same
 attempt-control true p (b ∷ bs) = same
 
-moment-control : (m : Moment) (p : Port) (u : Bytes) → Changed interrupts (p .control) (moment m p u .port .control)
-unfolding moment step occur
-moment-control aStep p u = attempt-control (takes p) p u
-moment-control (event readyAgain) p u = same
-moment-control (event outOfPaper) p u = same
-moment-control (event paperIn) p u = same
-moment-control (event interruptsOn) p u = puts interrupts 1 (omega arith) (omega arith) same
-moment-control (event interruptsOff) p u = puts interrupts 0 (omega arith) (omega arith) same
+action-control : (m : Action) (p : Port) (u : Bytes) → Changed interrupts (p .control) (action m p u .port .control)
+unfolding action step occur
+action-control aStep p u = attempt-control (takes p) p u
+action-control (event readyAgain) p u = same
+action-control (event outOfPaper) p u = same
+action-control (event paperIn) p u = same
+action-control (event interruptsOn) p u = puts interrupts 1 (omega arith) (omega arith) same
+action-control (event interruptsOff) p u = puts interrupts 0 (omega arith) (omega arith) same
 
 control-changes : (h : History) (p : Port) (u : Bytes) → Changed interrupts (p .control) (play h p u .port .control)
 unfolding then
 control-changes =
-    every (λ p u a. Changed interrupts (p .control) (a .port .control)) (λ p u. same) (λ p u a b x y. changed-twice x y) moment-control
+    every (λ p u a. Changed interrupts (p .control) (a .port .control)) (λ p u. same) (λ p u a b x y. changed-twice x y) action-control
 
 -- control's bits from 1 on stay what they were
 pub control-stays : (k : ℕ) → interrupts < k → (h : History) (p : Port) (u : Bytes) → bit k (play h p u .port .control) ≡ bit k (p .control)

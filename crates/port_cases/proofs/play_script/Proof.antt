@@ -38,17 +38,17 @@ after-script-requires c κs = search needs
 returns-2 : tie.Need-returns-2 Inv-loop μ-loop
 returns-2 c = search needs
 
-sub-moment : tie.Need-sub-moment Inv-loop μ-loop
-sub-moment c = search needs
+sub-action : tie.Need-sub-action Inv-loop μ-loop
+sub-action c = search needs
 
-part-moment-start : tie.Need-part-moment-start Inv-loop μ-loop
-part-moment-start c = search needs
+part-action-start : tie.Need-part-action-start Inv-loop μ-loop
+part-action-start c = search needs
 
-part-moment-end : tie.Need-part-moment-end Inv-loop μ-loop
-part-moment-end c = search needs
+part-action-end : tie.Need-part-action-end Inv-loop μ-loop
+part-action-end c = search needs
 
-moment-requires : tie.Need-moment-requires Inv-loop μ-loop
-moment-requires c κs = search needs
+action-requires : tie.Need-action-requires Inv-loop μ-loop
+action-requires c κs = search needs
 
 add-unsent : tie.Need-add-unsent Inv-loop μ-loop
 add-unsent c = search needs
@@ -77,10 +77,10 @@ play-script-spec =
     sub-after-script
     after-script-requires
     returns-2
-    sub-moment
-    part-moment-start
-    part-moment-end
-    moment-requires
+    sub-action
+    part-action-start
+    part-action-end
+    action-requires
     add-unsent
     loop-less
     loop-again

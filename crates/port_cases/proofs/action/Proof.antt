@@ -1,10 +1,10 @@
--- `port_cases::moment` meets its contract: a step sends no more than there is, and an event nothing.
+-- `port_cases::action` meets its contract: a step sends no more than there is, and an event nothing.
 use native.Mathlib.Omega.{arith}
 use denote.Ref.{now}
 use borrow.Author.Needs.{needs}
 use Rattle.plotter.proofs.Laws.Sent.{step-fits}
-use Rattle.port_cases.proofs.moment.Statement.{statement}
-use Rattle.port_cases.proofs.moment.Tie as tie
+use Rattle.port_cases.proofs.action.Statement.{statement}
+use Rattle.port_cases.proofs.action.Tie as tie
 
 step-requires : tie.Need-step-requires
 step-requires c κs = search needs
@@ -20,5 +20,5 @@ event-requires c κs = search needs
 returns-2 : tie.Need-returns-2
 returns-2 c = search needs
 
-pub moment-spec : {M : Type 1} → statement M
-moment-spec = tie.close (tie.spec step-requires returns event-requires returns-2)
+pub action-spec : {M : Type 1} → statement M
+action-spec = tie.close (tie.spec step-requires returns event-requires returns-2)
