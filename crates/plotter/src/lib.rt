@@ -4,7 +4,8 @@ ghost use mathlib.Core.Path.{_≡_};
 ghost use Prim.Native.Nat.{_+_, _%_};
 ghost use Rattle.plotter.specs.Port.{takes, acknowledged, send, Steps, occur, readyAgain, outOfPaper, paperIn, interruptsOn, interruptsOff};
 
-// The four registers.
+// The four registers: of status bit 0 is ready, bit 1 paper out and bit 2 interrupt pending; of control bit 0 lets interrupts through; data has
+// the byte sent last, and to sum every byte sent is added.
 pub struct Port {
     pub status: u8,
     pub control: u8,
