@@ -25,8 +25,8 @@ then a b = record { port = b .port; sent = a .sent ++ b .sent; unsent = b .unsen
 -- what a history leaves, with all the bytes that it sent
 unfoldable pub play : History → Port → Bytes → After
 play [] p u = record { port = p; sent = []; unsent = u }
-play (m ∷ h) p u =
-    let first = action m p u in
+play (x ∷ h) p u =
+    let first = action x p u in
     then first (play h (first .port) (first .unsent))
 
 -- how many of its steps find ready set and paper in, whether or not a byte is left to send

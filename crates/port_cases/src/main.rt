@@ -145,15 +145,11 @@ fn print_registers(letter: u8, now: Stepped) -> bool {
         hex::high(port.sum),
         hex::low(port.sum),
         b' ',
-        count(now.sent),
+        hex::low((now.sent % 16) as u8),
         b'\n',
     ];
     let sent = console::write(&line);
     sent.whole
-}
-
-fn count(sent: usize) -> u8 {
-    if sent == 0 { b'0' } else { b'1' }
 }
 
 fn print_left(n: usize) -> bool {

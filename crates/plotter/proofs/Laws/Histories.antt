@@ -15,13 +15,13 @@ start p u = record { port = p; sent = []; unsent = u }
 module _
     (R : Port → Bytes → After → Type 0) (none : (p : Port) (u : Bytes) → R p u (start p u))
     (both : (p : Port) (u : Bytes) (a b : After) → R p u a → R (a .port) (a .unsent) b → R p u (then a b))
-    (each : (m : Action) (p : Port) (u : Bytes) → R p u (action m p u)) where
+    (each : (x : Action) (p : Port) (u : Bytes) → R p u (action x p u)) where
   pub every : (h : History) (p : Port) (u : Bytes) → R p u (play h p u)
   unfolding play
   every [] p u = none p u
-  every (m ∷ h) p u =
-      let first = action m p u in
-      both p u first (play h (first .port) (first .unsent)) (each m p u) (every h (first .port) (first .unsent))
+  every (x ∷ h) p u =
+      let first = action x p u in
+      both p u first (play h (first .port) (first .unsent)) (each x p u) (every h (first .port) (first .unsent))
 
 then-start : (a : After) → then a (start (a .port) (a .unsent)) ≡ a
 unfolding then
@@ -33,11 +33,11 @@ then-then a b c = ap (λ (s : Bytes). record { port = c .port; sent = s; unsent 
 
 -- a history with one action more
 pub one-more :
-    (h : History) (m : Action) (p : Port) (u : Bytes) →
-    play (h ++ (m ∷ [])) p u ≡ then (play h p u) (action m (play h p u .port) (play h p u .unsent))
+    (h : History) (x : Action) (p : Port) (u : Bytes) →
+    play (h ++ (x ∷ [])) p u ≡ then (play h p u) (action x (play h p u .port) (play h p u .unsent))
 unfolding play then
-one-more [] m p u = then-start (action m p u)
-one-more (x ∷ h) m p u =
-    let first = action x p u in
+one-more [] x p u = then-start (action x p u)
+one-more (y ∷ h) x p u =
+    let first = action y p u in
     let rest = play h (first .port) (first .unsent) in
-    ap (then first) (one-more h m (first .port) (first .unsent)) ∙ then-then first rest (action m (rest .port) (rest .unsent))
+    ap (then first) (one-more h x (first .port) (first .unsent)) ∙ then-then first rest (action x (rest .port) (rest .unsent))

@@ -53,8 +53,8 @@ let-through true s clear set = refl
 let-through false s clear set = sym clear ∙ set
 
 action-sets :
-    (m : Action) (p : Port) (u : Bytes) → isSet pending (p .status) ≡ false → isSet pending (action m p u .port .status) ≡ true →
-    (m ≡ event readyAgain) × (isSet interrupts (p .control) ≡ true)
+    (x : Action) (p : Port) (u : Bytes) → isSet pending (p .status) ≡ false → isSet pending (action x p u .port .status) ≡ true →
+    (x ≡ event readyAgain) × (isSet interrupts (p .control) ≡ true)
 unfolding action occur isSet
 action-sets aStep p u clear set = contradiction (cc (step-clears p u))
 action-sets (event readyAgain) p u clear set = (refl, let-through (isSet interrupts (p .control)) (isSet pending (p .status)) clear (sym (ready-pending p) ∙ set))
@@ -65,10 +65,10 @@ action-sets (event interruptsOff) p u clear set = contradiction (cc)
 
 -- a action that sets it is the device's, and control lets it through
 pub pending-set :
-    (h : History) (m : Action) (p : Port) (u : Bytes) →
-    isSet pending (play h p u .port .status) ≡ false → isSet pending (play (h ++ (m ∷ [])) p u .port .status) ≡ true →
-    (m ≡ event readyAgain) × (isSet interrupts (play h p u .port .control) ≡ true)
+    (h : History) (x : Action) (p : Port) (u : Bytes) →
+    isSet pending (play h p u .port .status) ≡ false → isSet pending (play (h ++ (x ∷ [])) p u .port .status) ≡ true →
+    (x ≡ event readyAgain) × (isSet interrupts (play h p u .port .control) ≡ true)
 unfolding then
-pending-set h m p u clear set =
+pending-set h x p u clear set =
     let a = play h p u in
-    action-sets m (a .port) (a .unsent) clear (ap (λ (x : After). isSet pending (x .port .status)) (sym (one-more h m p u)) ∙ set)
+    action-sets x (a .port) (a .unsent) clear (ap (λ (b : After). isSet pending (b .port .status)) (sym (one-more h x p u)) ∙ set)

@@ -39,7 +39,7 @@ occur-keeps paperIn p = (refl, refl)
 occur-keeps interruptsOn p = (refl, refl)
 occur-keeps interruptsOff p = (refl, refl)
 
-action-sum : (m : Action) (p : Port) (u : Bytes) → Summed p (action m p u)
+action-sum : (x : Action) (p : Port) (u : Bytes) → Summed p (action x p u)
 unfolding action step total
 action-sum aStep p u h = attempt-sum (takes p) p u h
 action-sum (event e) p u h = omega (arith, occur-keeps e p .0)
@@ -72,7 +72,7 @@ attempt-data false p u = refl
 attempt-data true p [] = refl
 attempt-data true p (b ∷ bs) = refl
 
-action-data : (m : Action) (p : Port) (u : Bytes) → action m p u .port .«data» ≡ lastOf (p .«data») (action m p u .sent)
+action-data : (x : Action) (p : Port) (u : Bytes) → action x p u .port .«data» ≡ lastOf (p .«data») (action x p u .sent)
 unfolding action step lastOf
 action-data aStep p u = attempt-data (takes p) p u
 action-data (event e) p u = occur-keeps e p .1

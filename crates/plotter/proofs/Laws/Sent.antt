@@ -25,7 +25,7 @@ attempt-in-order false p u = refl
 attempt-in-order true p [] = refl
 attempt-in-order true p (b ∷ bs) = refl
 
-action-in-order : (m : Action) (p : Port) (u : Bytes) → action m p u .sent ++ action m p u .unsent ≡ u
+action-in-order : (x : Action) (p : Port) (u : Bytes) → action x p u .sent ++ action x p u .unsent ≡ u
 unfolding action step
 action-in-order aStep p u = attempt-in-order (takes p) p u
 action-in-order (event e) p u = refl

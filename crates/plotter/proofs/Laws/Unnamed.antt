@@ -56,7 +56,7 @@ occur-changes paperIn p = puts paperOut 0 (omega arith) (omega arith) same
 occur-changes interruptsOn p = same
 occur-changes interruptsOff p = same
 
-action-changes : (m : Action) (p : Port) (u : Bytes) → Changed pending (p .status) (action m p u .port .status)
+action-changes : (x : Action) (p : Port) (u : Bytes) → Changed pending (p .status) (action x p u .port .status)
 unfolding action step
 action-changes aStep p u = attempt-changes (takes p) p u
 action-changes (event e) p u = occur-changes e p
@@ -78,7 +78,7 @@ attempt-control false p u = same
 attempt-control true p [] = same
 attempt-control true p (b ∷ bs) = same
 
-action-control : (m : Action) (p : Port) (u : Bytes) → Changed interrupts (p .control) (action m p u .port .control)
+action-control : (x : Action) (p : Port) (u : Bytes) → Changed interrupts (p .control) (action x p u .port .control)
 unfolding action step occur
 action-control aStep p u = attempt-control (takes p) p u
 action-control (event readyAgain) p u = same
