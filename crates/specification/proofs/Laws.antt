@@ -47,8 +47,8 @@ pub mod Calls
 -- of the run
 pub mod Stops
 pub mod Run
-pub mod Budget
 pub mod Leaves
+pub mod Past
 pub mod Written
 pub mod Cut
 pub mod CallRan
@@ -56,6 +56,9 @@ pub mod CutShort
 pub mod Whole
 pub mod Demand2
 pub mod Determined
+pub mod Places
+pub mod Budget
+pub mod Parts
 -- of what is printed and reported
 pub mod Printed
 pub mod Report

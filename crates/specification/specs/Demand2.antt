@@ -27,6 +27,10 @@ unfoldable pub leafCount : List Visit → ℕ
 leafCount [] = 0
 leafCount (v ∷ vs) = isLeaf (v .event) + leafCount vs
 
+-- the blocks past the skipped ones
+abbrev pub past : ℕ → List Block → List Block
+past skip bs = drop skip bs
+
 module _ (s : Sheet) where
   -- the leaves before the place: so many of the tree's, from the left
   unfoldable pub leavesBefore : ℕ → List Leaf
@@ -34,7 +38,7 @@ module _ (s : Sheet) where
 
   -- the blocks of the answers and errors among them, past the skipped ones
   unfoldable pub listedBefore : ℕ → ℕ → List Block
-  listedBefore skip n = drop skip (blocks (s .declared) 0 0 (leavesBefore n))
+  listedBefore skip n = past skip (blocks (s .declared) 0 0 (leavesBefore n))
 
   -- this visit comes next
   abbrev pub Next : ℕ → Visit → Type 0

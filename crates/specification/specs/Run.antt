@@ -29,6 +29,10 @@ addError t = tallies (t .nodes) (t .answers) (suc (t .errors)) (t .fails)
 abbrev pub addFail : Tallies → Tallies
 addFail t = tallies (t .nodes) (t .answers) (t .errors) (suc (t .fails))
 
+-- the blocks that they count: a skip counts answers and errors alike
+abbrev pub blockCount : Tallies → ℕ
+blockCount t = t .answers + t .errors
+
 -- ---- a run
 
 pub data Stop : Type 0 where
@@ -45,6 +49,10 @@ pub record Conditions : Type 0 where
   pub setting : Setting
   pub size : ℕ
 
+-- path limit, budget and skip
+abbrev pub setting : ℕ → ℕ → ℕ → Setting
+setting limit budget skip = record { path = limit; budget = budget; skip = skip }
+
 abbrev pub conditions : Declared → Setting → ℕ → Conditions
 conditions D S size = record { declared = D; setting = S; size = size }
 
@@ -52,7 +60,7 @@ module _ (C : Conditions) where
   -- a leaf with a block, with the tallies before and after it: skipped, written, or stopped for want of room
   unfoldable pub block : Tallies → Tallies → Bytes → Bytes → Run
   block t t′ w b =
-      pick (ltb (t .answers + t .errors) (C .setting .skip)) (going t′ w)
+      pick (ltb (blockCount t) (C .setting .skip)) (going t′ w)
       (pick (leb (length w + length b) (C .size)) (going t′ (w ++ b)) (stopped output t w))
 
   -- what a visited node or leaf adds; N counts its kind from 1, skipped blocks included

@@ -14,7 +14,7 @@ use Rattle.specification.specs.Lines.{Declared}
 use Rattle.specification.specs.Listing.{answerHead, errorHead, Block, blockOf, blockText, listingText}
 use Rattle.specification.specs.Leaves.{Leaf, answer, error, fail, blocks}
 use Rattle.specification.specs.Visits.{Event, node, leaf, Visit}
-use Rattle.specification.specs.Run.{Conditions, conditions, tallies, Stop, spent, path, output, Run, going, stopped, scan}
+use Rattle.specification.specs.Run.{tallies, blockCount, Conditions, conditions, Stop, spent, path, output, Run, going, stopped, scan}
 use Rattle.specification.specs.Lists.{Each}
 use Rattle.specification.proofs.Laws.Stops.{unless, dueText, added, addedUnder, counted, counted-nodes, atStop, Meets, Passes}
 use Rattle.specification.proofs.Laws.Run.{writtenBy, Prefix, then-is-++, scan-append, scan-stops, scan-passes, scan-going, scan-induction, scan-nodes, scan-grows}
@@ -55,9 +55,9 @@ unfolding blocks
 added-size D skip t node ls = omega arith
 added-size D skip t (leaf fail) ls = omega arith
 added-size D skip t (leaf (answer β)) ls =
-    due-size (ltb (t .answers + t .errors) skip) (blockOf D (answerHead (suc (t .answers))) β) (blocks D (suc (t .answers)) (t .errors) ls)
+    due-size (ltb (blockCount t) skip) (blockOf D (answerHead (suc (t .answers))) β) (blocks D (suc (t .answers)) (t .errors) ls)
 added-size D skip t (leaf (error κ i β)) ls =
-    due-size (ltb (t .answers + t .errors) skip) (blockOf D (errorHead (suc (t .errors)) κ i) β) (blocks D (t .answers) (suc (t .errors)) ls)
+    due-size (ltb (blockCount t) skip) (blockOf D (errorHead (suc (t .errors)) κ i) β) (blocks D (t .answers) (suc (t .errors)) ls)
 
 -- the bytes of all blocks of these visits
 abbrev pub roomOf : Declared → Tallies → List Visit → ℕ

@@ -18,7 +18,7 @@ use Rattle.specification.specs.Leaves.{Leaf, leaves, blocks}
 use Rattle.specification.specs.Visits.{Visit}
 use Rattle.specification.specs.Run.{Conditions, conditions, tallies, Stop, spent, path, output, Run, going, stopped, scan}
 use Rattle.specification.specs.Outcome.{Result, refusal, ran, endOf, resultOf, rootOf, visitsOf, runOf}
-use Rattle.specification.specs.Demand2.{leafCount, leavesBefore, listedBefore, Next, Ends, visited, ReadLeftToRight}
+use Rattle.specification.specs.Demand2.{leafCount, past, leavesBefore, listedBefore, Next, Ends, visited, ReadLeftToRight}
 use Rattle.specification.proofs.Laws.Contradiction.{contradiction}
 use Rattle.specification.proofs.Laws.Stops.{dueText, due, added, counted, atStop, Meets, Passes}
 use Rattle.specification.proofs.Laws.Run.{then-is-++, scan-append, scan-stopped, scan-going, scan-nodes, writtenBy}
@@ -73,16 +73,16 @@ module _ (s : Sheet) (S : Setting) (size : ℕ) where
 
   module _ (xs ys : List Visit) (parts : visitsOf s ≡ xs ++ ys) (t : Tallies) (w : Bytes) (goes : GoesTo xs t w) where
     -- whatever leaves come next
-    written-then : (ls : List Leaf) → listingText (drop (S .skip) (blocks D 0 0 (leavesIn xs ++ ls))) ≡ w ++ textAfter D (S .skip) t ls
+    written-then : (ls : List Leaf) → listingText (past (S .skip) (blocks D 0 0 (leavesIn xs ++ ls))) ≡ w ++ textAfter D (S .skip) t ls
     written-then ls =
         let k : S .skip ≡ S .skip - (0 + 0) = omega arith in
-        ap (λ n. listingText (drop n (blocks D 0 0 (leavesIn xs ++ ls)))) k ∙ scan-text C xs none t [] w ls goes
+        ap (λ n. listingText (past n (blocks D 0 0 (leavesIn xs ++ ls)))) k ∙ scan-text C xs none t [] w ls goes
 
     pub written-before : w ≡ listingText (listedBefore s (S .skip) (length xs))
     unfolding listedBefore
     written-before =
         sym (append-nil w) ∙ ap (w ++_) (sym (text-none D (S .skip) t)) ∙ sym (written-then []) ∙
-        ap (λ ls. listingText (drop (S .skip) (blocks D 0 0 ls))) (append-nil (leavesIn xs) ∙ sym (leavesBefore-is s xs ys parts))
+        ap (λ ls. listingText (past (S .skip) (blocks D 0 0 ls))) (append-nil (leavesIn xs) ∙ sym (leavesBefore-is s xs ys parts))
 
     nodes-before : t .nodes ≡ length xs
     nodes-before = let k = scan-nodes C xs none t [] w goes in omega arith
@@ -106,7 +106,7 @@ module _ (s : Sheet) (S : Setting) (size : ℕ) where
         ap (added D (S .skip) t (v .event) ++_) (sym (text-none D (S .skip) (counted (v .event) t))) ∙
         added-text D (S .skip) t (v .event) []) ∙
         sym (written-then xs (v ∷ ys) parts t w goes (leafOf (v .event) ++ [])) ∙
-        ap (λ ls. listingText (drop (S .skip) (blocks D 0 0 ls))) those
+        ap (λ ls. listingText (past (S .skip) (blocks D 0 0 ls))) those
 
     -- a visit that meets the condition of a stop
     meets-ends : (e : Stop) → Meets C e v t w → Ends s S size (endOf e) (length xs)

@@ -3,7 +3,7 @@
 use Prim.Native.Nat.{ℕ}
 use mathlib.Core.Path.{_≡_, refl, sym, _∙_, ap, subst}
 use mathlib.Core.List.{[], append-nil}
-use lib.ListN.{length, take, drop}
+use lib.ListN.{length, take}
 use Rattle.specification.specs.declared.Setting.{Setting}
 use Rattle.specification.specs.declared.Tallies.{Tallies}
 use Rattle.specification.specs.declared.End.{End}
@@ -16,10 +16,10 @@ use Rattle.specification.specs.Listing.{Block}
 use Rattle.specification.specs.Leaves.{leaves, blocks}
 use Rattle.specification.specs.Outcome.{ran, rootOf, visitsOf, call}
 use Rattle.specification.specs.Listed.{Listed}
-use Rattle.specification.specs.Demand2.{leafCount, leavesBefore, listedBefore, Ends, ReadLeftToRight}
+use Rattle.specification.specs.Demand2.{leafCount, past, leavesBefore, listedBefore, Ends, ReadLeftToRight}
 use Rattle.specification.specs.Plain.{Filling, env, True}
 use Rattle.specification.specs.Demand3.{NoPattern, Right, Agreement, Demand3}
-use Rattle.specification.proofs.Laws.Lists.{each-drop}
+use Rattle.specification.proofs.Laws.Past.{each-past}
 use Rattle.specification.proofs.Laws.Blocks.{listing-injective}
 use Rattle.specification.proofs.Laws.ReadSheet.{read-well-formed}
 use Rattle.specification.proofs.Laws.Decide.{decide}
@@ -35,8 +35,8 @@ use Rattle.specification.proofs.Laws.NoPattern.{no-pattern}
 right-before : (s : Sheet) → WellFormed s → (skip n : ℕ) → Right s (listedBefore s skip n)
 unfolding listedBefore leavesBefore
 right-before s wf skip n =
-    let among : (P : Block → Type 0) → Each P (allBlocks s wf) → Each P (drop skip (blocks (s .declared) 0 0 (take (leafCount (take n (visitsOf s))) (leaves (rootOf s))))) =
-    λ P h. each-drop P skip _ (each-first-blocks (s .declared) P (leafCount (take n (visitsOf s))) (leaves (rootOf s)) 0 0 h) in
+    let among : (P : Block → Type 0) → Each P (allBlocks s wf) → Each P (past skip (blocks (s .declared) 0 0 (take (leafCount (take n (visitsOf s))) (leaves (rootOf s))))) =
+    λ P h. each-past P skip _ (each-first-blocks (s .declared) P (leafCount (take n (visitsOf s))) (leaves (rootOf s)) 0 0 h) in
     record {
       names-given = among _ (right s wf .names-given);
       sound = λ φ such. among _ (right s wf .sound φ such);
@@ -46,7 +46,7 @@ right-before s wf skip n =
 all-before : (s : Sheet) (wf : WellFormed s) (skip n : ℕ) → skip ≡ 0 → n ≡ length (visitsOf s) → listedBefore s skip n ≡ allBlocks s wf
 unfolding listedBefore visitsOf
 all-before s wf skip n z e =
-    ap (λ k. drop k (blocks (s .declared) 0 0 (leavesBefore s n))) z ∙
+    ap (λ k. past k (blocks (s .declared) 0 0 (leavesBefore s n))) z ∙
     ap (λ m. blocks (s .declared) 0 0 (leavesBefore s m)) e ∙
     ap (blocks (s .declared) 0 0) (leavesBefore-is s (visitsOf s) [] (sym (append-nil (visitsOf s))) ∙ leavesIn-visits (rootOf s) 1)
 

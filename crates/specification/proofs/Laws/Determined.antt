@@ -9,21 +9,23 @@ use Rattle.specification.specs.declared.Setting.{Setting}
 use Rattle.specification.specs.declared.Tallies.{Tallies}
 use Rattle.specification.specs.declared.End.{End}
 use Rattle.specification.specs.declared.End.the-variants.{Done, Spent, Path, Output}
+use Rattle.specification.specs.Bytes.{Bytes}
 use Rattle.specification.specs.Sheet.{Sheet}
-use Rattle.specification.specs.Listing.{Block}
+use Rattle.specification.specs.Listing.{Block, listingText}
 use Rattle.specification.specs.Leaves.{isAnswer, isError, isFail, howMany}
 use Rattle.specification.specs.Visits.{Visit}
-use Rattle.specification.specs.Run.{tallies}
-use Rattle.specification.specs.Outcome.{visitsOf}
+use Rattle.specification.specs.Run.{tallies, Run, going, stopped}
+use Rattle.specification.specs.Outcome.{ran, endOf, resultOf, visitsOf, runOf}
 use Rattle.specification.specs.Demand2.{leavesBefore, listedBefore, Next, Ends, visited, ReadLeftToRight}
+use Rattle.specification.proofs.Laws.Demand2.{Holds, read-left-to-right}
 
 module _ (s : Sheet) (S : Setting) (size : ℕ) where
   -- ---- at one place the condition of one end holds
 
-  next-early : (n : ℕ) (v : Visit) → Next s n v → n < length (visitsOf s)
+  pub next-early : (n : ℕ) (v : Visit) → Next s n v → n < length (visitsOf s)
   next-early n v (later, e) = omega (arith, length-drop n (visitsOf s), ap length e)
 
-  next-same : (n : ℕ) (u v : Visit) → Next s n u → Next s n v → u .depth ≡ v .depth
+  pub next-same : (n : ℕ) (u v : Visit) → Next s n u → Next s n v → u .depth ≡ v .depth
   next-same n u v (us, p) (vs, q) = let r : u ∷ us ≡ v ∷ vs = sym p ∙ q in let e : u ≡ v = cc in ap (λ (x : Visit). x .depth) e
 
   one-end : (n : ℕ) (e f : End) → Ends s S size e n → Ends s S size f n → e ≡ f
@@ -67,3 +69,16 @@ module _ (s : Sheet) (S : Setting) (size : ℕ) where
 
     pub determined : (e ≡ f) × (t ≡ u) × (bs ≡ cs)
     determined = (same-end, same-tallies, p .blocks ∙ ap (listedBefore s (S .skip)) one-place ∙ sym (q .blocks))
+
+  -- so it is the run's own
+  pub run-is : {e : End} {t : Tallies} {bs : List Block} → ReadLeftToRight s S size e t bs → resultOf (runOf s S size) ≡ ran e t (listingText bs)
+  run-is {e} {t} {bs} p = go (runOf s S size) (read-left-to-right s S size)
+    where
+      same : (f : End) (u : Tallies) (w : Bytes) → Holds s S size (ran f u w) → ran f u w ≡ ran e t (listingText bs)
+      same f u w (cs, stands, q) =
+          let (a, b, c) = determined p q in
+          ap (λ x. ran x u w) (sym a) ∙ ap (λ x. ran e x w) (sym b) ∙ ap (ran e t) (stands ∙ ap listingText (sym c))
+
+      go : (r : Run) → Holds s S size (resultOf r) → resultOf r ≡ ran e t (listingText bs)
+      go (going u w) h = same Done u w h
+      go (stopped f u w) h = same (endOf f) u w h

@@ -1,8 +1,7 @@
 -- Laws of Each and Some: over predicates, over lists joined and mapped, and of a member that has both. Assumes nothing.
-use Prim.Native.Nat.{ℕ, zero, suc}
+use mathlib.Core.Path.{_≡_}
 use mathlib.Core.Logic.{_⊎_, inl, inr}
 use mathlib.Core.List.{List, [], _∷_, _++_, map}
-use lib.ListN.{drop}
 use Rattle.specification.specs.Lists.{Each, Some}
 
 -- ---- from one predicate to another
@@ -48,6 +47,10 @@ some-and-each P Q (x ∷ xs) (inr h) k = inr (some-and-each P Q xs h (k .1))
 
 -- ---- lists joined
 
+-- the second list is the first and more
+abbrev pub Begins : {A : Type 0} → List A → List A → Type 0
+Begins {A} xs ys = (more : List A) × (ys ≡ xs ++ more)
+
 module _ {A : Type 0} (P : A → Type 0) where
   pub each-++ : (xs ys : List A) → Each P xs → Each P ys → Each P (xs ++ ys)
   unfolding Each
@@ -75,11 +78,3 @@ module _ {A B : Type 0} (P : B → Type 0) (f : A → B) where
   some-of-map [] h = absurd h
   some-of-map (x ∷ xs) (inl h) = inl h
   some-of-map (x ∷ xs) (inr h) = inr (some-of-map xs h)
-
--- ---- the end of a list
-
-pub each-drop : {A : Type 0} (P : A → Type 0) (n : ℕ) (xs : List A) → Each P xs → Each P (drop n xs)
-unfolding Each
-each-drop P zero xs h = h
-each-drop P (suc n) [] h = tt
-each-drop P (suc n) (x ∷ xs) h = each-drop P n xs (h .1)

@@ -13,7 +13,7 @@ use Rattle.specification.specs.Lines.{Declared}
 use Rattle.specification.specs.Listing.{answerHead, errorHead, Block, blockOf, blockText}
 use Rattle.specification.specs.Leaves.{answer, error, fail}
 use Rattle.specification.specs.Visits.{Event, node, leaf, Visit}
-use Rattle.specification.specs.Run.{Conditions, addNode, addAnswer, addError, addFail, Stop, spent, path, output, Run, going, stopped, block, arrive, visit}
+use Rattle.specification.specs.Run.{blockCount, Conditions, addNode, addAnswer, addError, addFail, Stop, spent, path, output, Run, going, stopped, block, arrive, visit}
 use Rattle.specification.proofs.Laws.Contradiction.{contradiction}
 
 -- ---- the block of an event, and the tallies after it
@@ -27,8 +27,8 @@ unless false b = some b
 abbrev pub due : Declared → ℕ → Tallies → Event → Option Block
 due D skip t node = none
 due D skip t (leaf fail) = none
-due D skip t (leaf (answer β)) = unless (ltb (t .answers + t .errors) skip) (blockOf D (answerHead (suc (t .answers))) β)
-due D skip t (leaf (error κ k β)) = unless (ltb (t .answers + t .errors) skip) (blockOf D (errorHead (suc (t .errors)) κ k) β)
+due D skip t (leaf (answer β)) = unless (ltb (blockCount t) skip) (blockOf D (answerHead (suc (t .answers))) β)
+due D skip t (leaf (error κ k β)) = unless (ltb (blockCount t) skip) (blockOf D (errorHead (suc (t .errors)) κ k) β)
 
 abbrev pub dueText : Option Block → Bytes
 dueText none = []
@@ -98,9 +98,9 @@ module _ (C : Conditions) where
   arrive-is node t w = refl
   arrive-is (leaf fail) t w = refl
   arrive-is (leaf (answer β)) t w =
-      settles (ltb (t .answers + t .errors) (C .setting .skip)) (addNode t) (addAnswer (addNode t)) w (blockOf (C .declared) (answerHead (suc (t .answers))) β)
+      settles (ltb (blockCount t) (C .setting .skip)) (addNode t) (addAnswer (addNode t)) w (blockOf (C .declared) (answerHead (suc (t .answers))) β)
   arrive-is (leaf (error κ k β)) t w =
-      settles (ltb (t .answers + t .errors) (C .setting .skip)) (addNode t) (addError (addNode t)) w (blockOf (C .declared) (errorHead (suc (t .errors)) κ k) β)
+      settles (ltb (blockCount t) (C .setting .skip)) (addNode t) (addError (addNode t)) w (blockOf (C .declared) (errorHead (suc (t .errors)) κ k) β)
 
   visit-is : (v : Visit) (t : Tallies) (w : Bytes) →
       visit C v t w ≡

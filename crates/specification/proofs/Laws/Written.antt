@@ -3,19 +3,18 @@
 use Prim.Native.Nat.{ℕ, suc, _+_, _-_}
 use native.Mathlib.Omega.{arith}
 use mathlib.Core.Path.{_≡_, refl, sym, _∙_, ap}
-use mathlib.Core.Bool.{Bool, true, false}
 use mathlib.Core.List.{List, [], _∷_, _++_, append-assoc}
-use lib.ListN.{drop, drop-of-length-le}
 use lib.Dec.{ltb}
-use borrow.Author.Tests.{ltb-true, ltb-false}
 use Rattle.specification.specs.declared.Tallies.{Tallies}
 use Rattle.specification.specs.Bytes.{Bytes}
 use Rattle.specification.specs.Lines.{Declared}
-use Rattle.specification.specs.Listing.{answerHead, errorHead, Block, blockOf, listingText}
+use Rattle.specification.specs.Listing.{answerHead, errorHead, blockOf, listingText}
 use Rattle.specification.specs.Leaves.{Leaf, answer, error, fail, isAnswer, isError, isFail, howMany, blocks}
 use Rattle.specification.specs.Visits.{Event, node, leaf, Visit}
-use Rattle.specification.specs.Run.{Conditions, going, scan}
-use Rattle.specification.proofs.Laws.Stops.{unless, dueText, added, addedUnder, counted}
+use Rattle.specification.specs.Run.{addAnswer, addError, blockCount, Conditions, going, scan}
+use Rattle.specification.specs.Demand2.{past}
+use Rattle.specification.proofs.Laws.Stops.{added, addedUnder, counted}
+use Rattle.specification.proofs.Laws.Past.{past-none, skip-one}
 use Rattle.specification.proofs.Laws.Run.{scan-going}
 use Rattle.specification.proofs.Laws.Leaves.{leafOf, leavesIn}
 
@@ -23,25 +22,11 @@ use Rattle.specification.proofs.Laws.Leaves.{leafOf, leavesIn}
 
 -- the bytes of these leaves' blocks, after these tallies, past the first skip blocks of the whole run
 abbrev pub textAfter : Declared → ℕ → Tallies → List Leaf → Bytes
-textAfter D skip t ls = listingText (drop (skip - (t .answers + t .errors)) (blocks D (t .answers) (t .errors) ls))
+textAfter D skip t ls = listingText (past (skip - blockCount t) (blocks D (t .answers) (t .errors) ls))
 
 pub text-none : (D : Declared) (skip : ℕ) (t : Tallies) → textAfter D skip t [] ≡ []
 unfolding blocks listingText
-text-none D skip t = ap listingText (drop-of-length-le [] {i = skip - (t .answers + t .errors)} (omega arith))
-
--- one block more, where n blocks come before it and m with it
-skip-one : (skip n m : ℕ) → m ≡ suc n → (b : Block) (bs : List Block) (c : Bool) → ltb n skip ≡ c →
-    dueText (unless c b) ++ listingText (drop (skip - m) bs) ≡ listingText (drop (skip - n) (b ∷ bs))
-unfolding listingText
-skip-one skip n m e b bs true h =
-    let l = ltb-true n skip h in
-    let k : skip - n ≡ suc (skip - m) = omega arith in
-    rw k
-skip-one skip n m e b bs false h =
-    let l = ltb-false n skip h in
-    let k : skip - n ≡ 0 = omega arith in
-    let j : skip - m ≡ 0 = omega arith in
-    rw (k, j)
+text-none D skip t = ap listingText (past-none (skip - blockCount t))
 
 -- what a visit adds comes before the bytes of the leaves after it
 pub added-text : (D : Declared) (skip : ℕ) (t : Tallies) (ev : Event) (ls : List Leaf) →
@@ -50,11 +35,11 @@ unfolding blocks
 added-text D skip t node ls = refl
 added-text D skip t (leaf fail) ls = refl
 added-text D skip t (leaf (answer β)) ls =
-    skip-one skip (t .answers + t .errors) (suc (t .answers) + t .errors) (omega arith) (blockOf D (answerHead (suc (t .answers))) β) (blocks D (suc (t .answers)) (t .errors) ls)
-    (ltb (t .answers + t .errors) skip) refl
+    skip-one skip (blockCount t) (blockCount (addAnswer t)) (omega arith) (blockOf D (answerHead (suc (t .answers))) β) (blocks D (suc (t .answers)) (t .errors) ls)
+    (ltb (blockCount t) skip) refl
 added-text D skip t (leaf (error κ i β)) ls =
-    skip-one skip (t .answers + t .errors) (t .answers + suc (t .errors)) (omega arith) (blockOf D (errorHead (suc (t .errors)) κ i) β) (blocks D (t .answers) (suc (t .errors)) ls)
-    (ltb (t .answers + t .errors) skip) refl
+    skip-one skip (blockCount t) (blockCount (addError t)) (omega arith) (blockOf D (errorHead (suc (t .errors)) κ i) β) (blocks D (t .answers) (suc (t .errors)) ls)
+    (ltb (blockCount t) skip) refl
 
 module _ (C : Conditions) where
   -- whatever leaves come after the visits that were passed
