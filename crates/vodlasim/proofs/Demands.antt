@@ -42,7 +42,7 @@ module _ (sheet : Bytes) (S : Setting) (work output : Lent) (r : Outcome) (a : A
   result = call sheet S (length (work .before)) (length (output .before))
 
   -- what stands in the output where the call ran
-  stands : (e : End) (t : Tallies) (n : ℕ) → r ≡ Ran e t n →
+  pub stands : (e : End) (t : Tallies) (n : ℕ) → r ≡ Ran e t n →
       (w : Bytes) × (result ≡ ran e t w) × (length w ≡ n) × (output .after ≡ w ++ drop n (output .before))
   unfolding outputAfter
   stands e t n h =

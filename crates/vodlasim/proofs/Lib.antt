@@ -1,3 +1,8 @@
 -- The demands follow from the contract of the call.
 pub mod Demands
 pub mod Runs
+-- and so does what holds of several calls
+pub mod Plots
+pub mod Parts
+pub mod Budgets
+pub mod WrongParts

@@ -2,3 +2,5 @@
 pub mod Lent
 pub mod Answered
 pub mod Demands
+pub mod Parts
+pub mod Budgets

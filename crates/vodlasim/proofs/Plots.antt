@@ -1,0 +1,57 @@
+-- A plot (specs/Parts.antt) as the second demand has it, and what the public call shows of one. Assumes nothing.
+use Prim.Native.Nat.{ℕ}
+use mathlib.Core.Path.{_≡_, refl, sym, _∙_, ap, subst}
+use mathlib.Core.List.{List}
+use lib.ListN.{length, take, drop}
+use lib.Seq.{take-at}
+use Rattle.specification.specs.declared.Setting.{Setting}
+use Rattle.specification.specs.declared.Tallies.{Tallies}
+use Rattle.specification.specs.declared.End.{End}
+use Rattle.specification.specs.declared.Outcome.the-variants.{Ran}
+use Rattle.specification.specs.Bytes.{Bytes}
+use Rattle.specification.specs.Parser.{Reader, found}
+use Rattle.specification.specs.Sheet.{Sheet, read}
+use Rattle.specification.specs.Listing.{Block, listingText}
+use Rattle.specification.specs.Run.{setting}
+use Rattle.specification.specs.Outcome.{ran, call}
+use Rattle.specification.specs.Demand2.{ReadLeftToRight}
+use Rattle.specification.proofs.Laws.CallRan.{call-ran}
+use Rattle.specification.proofs.Laws.Demand3.{told}
+use Rattle.specification.proofs.Laws.Whole.{whole-blocks}
+use Rattle.vodlasim.specs.Lent.{Lent}
+use Rattle.vodlasim.specs.Answered.{Answered}
+use Rattle.vodlasim.specs.Parts.{Plot, bytesOf, Plotted}
+use Rattle.vodlasim.proofs.Demands.{stands}
+
+module _ (sheet : Bytes) (limit budget : ℕ) where
+  abbrev pub Reads : Sheet → Plot → Type 0
+  Reads s p = ReadLeftToRight s (setting limit budget (p .skip)) (p .size) (p .end) (p .tallies) (p .blocks)
+
+  pub plot-reads : (s : Sheet) (r : Reader) → read sheet ≡ found s r → (p : Plot) → Plotted call sheet limit budget p → Reads s p
+  plot-reads s r reads p h =
+      let x = told sheet (setting limit budget (p .skip)) (p .words) (p .size) (p .end) (p .tallies) (bytesOf p) h in
+      let l = x .listed in
+      let same : l .what ≡ s = let q : found (l .what) (l .reader) ≡ found s r = sym (l .reads) ∙ reads in cc in
+      subst (λ y. Reads y p) same
+      (subst (ReadLeftToRight (l .what) (setting limit budget (p .skip)) (p .size) (p .end) (p .tallies)) (sym (l .only (p .blocks) refl)) (x .tree))
+
+  -- a plot has read a sheet
+  pub plot-ran : (p : Plot) → Plotted call sheet limit budget p → (s : Sheet) × (r : Reader) × (read sheet ≡ found s r) × Reads s p
+  plot-ran p h =
+      let (s, r, reads, result) = call-ran sheet (setting limit budget (p .skip)) (p .words) (p .size) (p .end) (p .tallies) (bytesOf p) h in
+      (s, r, reads, plot-reads s r reads p h)
+
+-- ---- of the public call
+
+-- what a run shows, with these blocks written
+abbrev pub plotOf : Setting → Lent → Lent → End → Tallies → List Block → Plot
+plotOf S work output e t bs =
+    record { skip = S .skip; words = length (work .before); size = length (output .before); end = e; tallies = t; blocks = bs }
+
+-- each run of the public call is a plot, whose bytes stand in the output
+pub plots : (sheet : Bytes) (S : Setting) (work output : Lent) (e : End) (t : Tallies) (n : ℕ) → Answered sheet S work output (Ran e t n) →
+    (bs : List Block) × Plotted call sheet (S .path) (S .budget) (plotOf S work output e t bs) × (take n (output .after) ≡ listingText bs)
+plots sheet S work output e t n a =
+    let (w, is, count, bytes) = stands sheet S work output (Ran e t n) a e t n refl in
+    let (bs, whole, fits) = whole-blocks sheet S (length (work .before)) (length (output .before)) e t w is in
+    (bs, is ∙ ap (ran e t) whole, ap (take n) bytes ∙ take-at w (drop n (output .before)) n count ∙ whole)
