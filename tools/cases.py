@@ -1526,6 +1526,38 @@ def taught():
         case("sheets/" + file.name, file.read_bytes())
 
 
+# ---------------------------------------------------------------- listings in parts
+
+def in_parts(name, sheet, sizes, **setting):
+    """The parts of a listing, each with an output of its own, and the whole of it with just enough, one byte less and more; the parts joined
+    are the whole."""
+    joined, skip = b"", 0
+    for size in sizes:
+        case("%s, past %d" % (name, skip), sheet, skip=skip, output=size, **setting)
+        part = walker.outcome(walker.pages([cases[-1][1]])[0])
+        joined, skip = joined + part.listing, part.answers + part.errors
+    for size in (len(joined) - 1, len(joined), 65536):
+        case("%s, the whole in %d bytes" % (name, size), sheet, output=size, **setting)
+    whole = walker.outcome(walker.pages([cases[-1][1]])[0])
+    assert part.end != "output" and whole == part._replace(listing=joined), name
+
+
+def parts():
+    queens = (FILES.parent.parent / "sheets/queens8.sheet").read_bytes()
+    in_parts("eight queens", queens, (4096, 4096))
+    in_parts("eight queens, outputs that differ", queens, (700, 66, 4096, 131, 4096))
+    in_parts("eight queens, spent", queens, (1000, 4096), budget=100000)
+    case("eight queens, no room for the next", queens, skip=9, output=65)
+    case("eight queens, room for the next", queens, skip=9, output=66)
+    mixed = lines(formula="or eq v0 div 1 0 or eq v0 3 or lt v0 1 or eq v0 4 eq v0 mod 1 0")
+    in_parts("errors among answers", mixed, (23, 14, 23, 14, 23))
+    in_parts("errors among answers, two at a time", mixed, (40, 40, 40))
+    in_parts("errors among answers, path", mixed, (23, 37), path=6)
+    long = lines(scalars="3", formula="or and eq v0 1 and eq v1 2 eq v2 3 or true or true eq v0 4")
+    in_parts("a long block first", long, (24, 9, 9, 14))
+    case("a long block that is skipped", long, skip=1, output=9)
+
+
 # ---------------------------------------------------------------- random cases
 
 def drawn(edition):
@@ -1553,7 +1585,7 @@ def main():
     given = parser.parse_args()
     for group in (marked, readings, slips, declared_limits, text_limits, lent_limits, kinds, words, inner_trees, negations, negations_cut,
                   damaged, taught, editions, calls, arguments, bound_anew, inner_calls, call_numbers, parameter_names, local_binders,
-                  procedure_lines, procedure_limits, many_uses, procedures_cut):
+                  procedure_lines, procedure_limits, many_uses, procedures_cut, parts):
         group()
     for number, drawn_case in enumerate([*drawn(1), *drawn(2)] if given.random else stored()):
         cases.append(("random %d" % (number + 1), drawn_case))

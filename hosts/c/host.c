@@ -1,13 +1,21 @@
 /* Runs a sheet by the library and prints what the box prints.
  *
  *   host SHEET PATH BUDGET SKIP OUTPUT [WORDS]
+ *   host --parts SHEET PATH BUDGET [OUTPUT]
  *
- * SHEET is a file. WORDS defaults to what the path limit asks, 6,144 + 12 * PATH. The exit status is 1 where a byte was lost in printing,
- * and nothing is printed after it; 2 where nothing was run. */
+ * SHEET is a file. WORDS defaults to what the path limit asks, 6,144 + 12 * PATH.
+ *
+ * With --parts a listing that is longer than the output, which is the box's 4,096 bytes unless OUTPUT says otherwise, is printed part by part: the
+ * sheet is run again, past the blocks that are printed, until a run ends otherwise than `output`, or has no room for one block. The lines after
+ * the listing are those of the last run. On standard error there is a line for each part that another follows.
+ *
+ * The exit status is 1 where a byte was lost in printing, and nothing is printed after it; 2 where nothing was run. */
 #include <stdio.h>
 #include <stdlib.h>
 #include <string.h>
 #include "vodlasim.h"
+
+enum { BOX_OUTPUT = 4096 };     /* the box's output, in bytes */
 
 static const char *const ends[] = {
     [VODLASIM_DONE] = "done", [VODLASIM_SPENT] = "spent", [VODLASIM_PATH] = "path", [VODLASIM_OUTPUT] = "output"
@@ -44,14 +52,19 @@ static int went_out(void)
     return fflush(stdout) == 0 && !ferror(stdout);
 }
 
+static int print_listing(const uint64_t report[8], const uint8_t *output)
+{
+    fwrite(output, 1, report[VODLASIM_WRITTEN], stdout);
+    return went_out();
+}
+
 static int print_report(const uint64_t report[8], const uint8_t *output)
 {
     if (report[VODLASIM_REFUSED]) {
         printf("refused=%llu\nat=%llu\n", (unsigned long long)report[VODLASIM_REFUSED], (unsigned long long)report[VODLASIM_PLACE]);
         return went_out();
     }
-    fwrite(output, 1, report[VODLASIM_WRITTEN], stdout);
-    if (!went_out())
+    if (!print_listing(report, output))
         return 0;
     printf("end=%s\nnodes=%llu\nanswers=%llu\nerrors=%llu\nfails=%llu\n", ends[report[VODLASIM_END]],
            (unsigned long long)report[VODLASIM_NODES], (unsigned long long)report[VODLASIM_ANSWERS],
@@ -59,28 +72,70 @@ static int print_report(const uint64_t report[8], const uint8_t *output)
     return went_out();
 }
 
+/* a sheet, and all that its runs have in common */
+struct job {
+    const uint8_t *sheet;
+    size_t sheet_len;
+    uint32_t path, budget;
+    uint32_t *work;
+    size_t words;
+    uint8_t *output;
+    size_t output_len;
+};
+
+static void run(const struct job *job, uint32_t skip, uint64_t report[8])
+{
+    vodlasim_run(job->sheet, job->sheet_len, job->path, job->budget, skip, job->work, job->words, job->output, job->output_len, report);
+}
+
+/* whether a part follows the run: the output was full, after one block at least */
+static int goes_on(const uint64_t report[8])
+{
+    return !report[VODLASIM_REFUSED] && report[VODLASIM_END] == VODLASIM_OUTPUT && report[VODLASIM_WRITTEN] > 0;
+}
+
+/* prints each part that another follows, and runs the last */
+static int print_parts(const struct job *job, uint64_t report[8])
+{
+    uint32_t skip = 0;
+    for (run(job, skip, report); goes_on(report); run(job, skip, report)) {
+        if (!print_listing(report, job->output))
+            return 0;
+        uint32_t plotted = report[VODLASIM_ANSWERS] + report[VODLASIM_ERRORS];      /* the skipped blocks are counted, too */
+        fprintf(stderr, "part: %u blocks past %u, %llu bytes\n", plotted - skip, skip, (unsigned long long)report[VODLASIM_WRITTEN]);
+        skip = plotted;
+    }
+    return 1;
+}
+
 int main(int argc, char **argv)
 {
-    if (argc != 6 && argc != 7) {
-        fprintf(stderr, "usage: %s SHEET PATH BUDGET SKIP OUTPUT [WORDS]\n", argv[0]);
+    int in_parts = argc > 1 && strcmp(argv[1], "--parts") == 0;
+    if (in_parts ? argc != 5 && argc != 6 : argc != 6 && argc != 7) {
+        fprintf(stderr, "usage: %s SHEET PATH BUDGET SKIP OUTPUT [WORDS]\n       %s --parts SHEET PATH BUDGET [OUTPUT]\n", argv[0], argv[0]);
         return 2;
     }
-    size_t sheet_len;
-    uint8_t *sheet = read_sheet(argv[1], &sheet_len);
-    uint32_t path = strtoul(argv[2], NULL, 10);
-    uint32_t budget = strtoul(argv[3], NULL, 10);
-    uint32_t skip = strtoul(argv[4], NULL, 10);
-    size_t output_len = strtoul(argv[5], NULL, 10);
-    size_t words = argc == 7 ? strtoul(argv[6], NULL, 10) : 6144 + 12 * (size_t)(path < 32768 ? path : 32768);
-    uint32_t *work = room(4 * words);
-    uint8_t *output = room(output_len);
+    char **args = argv + 1 + in_parts;
+    struct job job;
+    uint8_t *sheet = read_sheet(args[0], &job.sheet_len);
+    job.sheet = sheet;
+    job.path = strtoul(args[1], NULL, 10);
+    job.budget = strtoul(args[2], NULL, 10);
+    job.output_len = !in_parts ? strtoul(args[4], NULL, 10) : argc == 6 ? strtoul(args[3], NULL, 10) : BOX_OUTPUT;
+    job.words = argc == 7 ? strtoul(args[5], NULL, 10) : 6144 + 12 * (size_t)(job.path < 32768 ? job.path : 32768);
+    job.work = room(4 * job.words);
+    job.output = room(job.output_len);
     uint64_t report[8];
-    vodlasim_run(sheet, sheet_len, path, budget, skip, work, words, output, output_len, report);
-    int status = print_report(report, output) ? 0 : 1;
+    int went = 1;
+    if (in_parts)
+        went = print_parts(&job, report);
+    else
+        run(&job, strtoul(args[3], NULL, 10), report);
+    int status = went && print_report(report, job.output) ? 0 : 1;
     if (status)
         perror("host");
-    free(output);
-    free(work);
+    free(job.output);
+    free(job.work);
     free(sheet);
     return status;
 }
