@@ -4,5 +4,6 @@ pub mod Runs
 -- and so does what holds of several calls
 pub mod Plots
 pub mod Parts
+pub mod Progress
 pub mod Budgets
 pub mod WrongParts

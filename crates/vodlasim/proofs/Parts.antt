@@ -1,34 +1,30 @@
--- The law of parts, progress and the next skip (specs/Parts.antt) hold of the call, for every sheet, path limit and budget. Assumes nothing.
-use Prim.Native.Nat.{ℕ, zero, suc, _+_, _≤_, _<_}
+-- The law of parts (specs/Parts.antt) holds of the call, for every sheet, path limit and budget. Assumes nothing.
+use Prim.Native.Nat.{ℕ, _+_, _≤_, _<_}
 use native.Mathlib.Omega.{arith}
 use mathlib.Core.Path.{_≡_, refl, sym, _∙_, ap, subst}
 use mathlib.Core.Logic.{_⊎_, inl, inr}
 use mathlib.Core.List.{List, [], _∷_, _++_}
-use lib.ListN.{length, drop, length-drop}
-use Rattle.specification.specs.declared.Tallies.{Tallies}
-use Rattle.specification.specs.declared.End.{End}
-use Rattle.specification.specs.declared.End.the-variants.{Done, Spent, Path, Output}
+use lib.ListN.{length, drop}
+use Rattle.specification.specs.declared.End.the-variants.{Output}
 use Rattle.specification.specs.declared.Outcome.{Outcome}
 use Rattle.specification.specs.declared.Outcome.the-variants.{Ran}
-use Rattle.specification.specs.Lists.{Each}
 use Rattle.specification.specs.Bytes.{Bytes}
 use Rattle.specification.specs.Parser.{Reader, found}
 use Rattle.specification.specs.Sheet.{Sheet, read}
-use Rattle.specification.specs.Listing.{Block, blockText, listingText}
-use Rattle.specification.specs.Leaves.{leaves, blocks}
-use Rattle.specification.specs.Run.{setting, Run, going, stopped}
-use Rattle.specification.specs.Outcome.{ran, endOf, resultOf, rootOf, runOf, wordsFor, call, written, outcome, outputAfter}
-use Rattle.specification.specs.Demand2.{listedBefore, ReadLeftToRight}
-use Rattle.specification.proofs.Laws.Contradiction.{contradiction}
+use Rattle.specification.specs.Listing.{Block, listingText}
+use Rattle.specification.specs.Run.{setting}
+use Rattle.specification.specs.Outcome.{ran, wordsFor, call, written, outcome, outputAfter}
+use Rattle.specification.specs.Demand2.{listedBefore}
 use Rattle.specification.proofs.Laws.Blocks.{listingText-++}
-use Rattle.specification.proofs.Laws.CallRan.{call-ran, ran-enough, every-runs, every-refused}
+use Rattle.specification.proofs.Laws.CallRan.{every-refused}
 use Rattle.specification.proofs.Laws.Whole.{whole-blocks}
-use Rattle.specification.proofs.Laws.Determined.{run-is}
-use Rattle.specification.proofs.Laws.Parts.{ends-there, skip-counted, skip-within, joins, ends-later, due-written}
+use Rattle.specification.proofs.Laws.Determined.{determined, run-is}
+use Rattle.specification.proofs.Laws.Places.{listed-grows}
+use Rattle.specification.proofs.Laws.Parts.{ends-there, joins, ends-later}
 use Rattle.vodlasim.specs.Lent.{Lent}
 use Rattle.vodlasim.specs.Answered.{Answered}
-use Rattle.vodlasim.specs.Parts.{Plot, bytesOf, joined, Due, Plotted, InParts, LawOfParts, Progress, Finishes, NextSkip, RefusedAlike}
-use Rattle.vodlasim.proofs.Plots.{Reads, plot-reads, plot-ran}
+use Rattle.vodlasim.specs.Parts.{Plot, bytesOf, joined, Plotted, InParts, LawOfParts, LessIsCut, RefusedAlike}
+use Rattle.vodlasim.proofs.Plots.{output-or-not, Reads, plot-reads, plot-ran, full-reads, runs-as, gives}
 
 -- the blocks of several plots
 blocksOf : List Plot → Plot → List Block
@@ -40,24 +36,7 @@ unfolding joined blocksOf
 joined-is [] last = refl
 joined-is (p ∷ ps) last = ap (bytesOf p ++_) (joined-is ps last) ∙ sym (listingText-++ (p .blocks) (blocksOf ps last))
 
-output-or-not : (e : End) → (e ≡ Output) ⊎ (¬ (e ≡ Output))
-output-or-not Done = inr (λ h. contradiction cc)
-output-or-not Spent = inr (λ h. contradiction cc)
-output-or-not Path = inr (λ h. contradiction cc)
-output-or-not Output = inl refl
-
-result-of : (x : Run) → (e : End) × (t : Tallies) × (w : Bytes) × (resultOf x ≡ ran e t w)
-result-of (going t w) = (Done, t, w, refl)
-result-of (stopped e t w) = (endOf e, t, w, refl)
-
 module _ (sheet : Bytes) (limit budget : ℕ) where
-  -- a plot that ended `output`, as demand 2 has it
-  full-reads : (s : Sheet) (r : Reader) → read sheet ≡ found s r → (p : Plot) → Plotted call sheet limit budget p → p .end ≡ Output →
-      ReadLeftToRight s (setting limit budget (p .skip)) (p .size) Output (p .tallies) (p .blocks)
-  full-reads s r reads p h full =
-      subst (λ e. ReadLeftToRight s (setting limit budget (p .skip)) (p .size) e (p .tallies) (p .blocks)) full
-      (plot-reads sheet limit budget s r reads p h)
-
   -- ---- the law
 
   last-plotted : (skip : ℕ) (ps : List Plot) (last : Plot) → InParts call sheet limit budget skip ps last →
@@ -72,21 +51,62 @@ module _ (sheet : Bytes) (limit budget : ℕ) where
     unfolding InParts blocksOf
     listed-is skip [] (at, h, n) = ap (λ k. listedBefore s k (q .place)) (sym at) ∙ sym (q .blocks)
     listed-is skip (p ∷ ps) (at, h, full, some, rest) =
-        let x = full-reads s r reads p h full in
+        let x = full-reads sheet limit budget s r reads p h full in
         ap (λ k. listedBefore s k (q .place)) (sym at) ∙
         joins s limit budget x some (q .place) (ends-later s limit budget x q other) ∙
         ap (p .blocks ++_) (ap (λ k. listedBefore s (k + length (p .blocks)) (q .place)) at ∙ listed-is (skip + length (p .blocks)) ps rest)
+
+    all-bytes : (ps : List Plot) → InParts call sheet limit budget 0 ps last → listingText (listedBefore s 0 (q .place)) ≡ joined ps last
+    all-bytes ps h = ap listingText (listed-is 0 ps h) ∙ sym (joined-is ps last)
+
+    -- a run with less output than their bytes ends earlier, for want of room
+    cut : (ps : List Plot) → InParts call sheet limit budget 0 ps last → (p : Plot) → Plotted call sheet limit budget p → p .skip ≡ 0 →
+        p .size < length (joined ps last) → (p .end ≡ Output) × ((more : Bytes) × (joined ps last ≡ bytesOf p ++ more))
+    cut ps h p plotted at less = byEnd (output-or-not (p .end))
+      where
+        x : Reads sheet limit budget s p
+        x = plot-reads sheet limit budget s r reads p plotted
+
+        written-is : bytesOf p ≡ listingText (listedBefore s 0 (x .place))
+        written-is = ap listingText (x .blocks ∙ ap (λ k. listedBefore s k (x .place)) at)
+
+        fits : length (bytesOf p) ≤ p .size
+        fits = whole-blocks sheet (setting limit budget (p .skip)) (p .words) (p .size) (p .end) (p .tallies) (bytesOf p) plotted .2
+
+        byEnd : (p .end ≡ Output) ⊎ (¬ (p .end ≡ Output)) → (p .end ≡ Output) × ((more : Bytes) × (joined ps last ≡ bytesOf p ++ more))
+        byEnd (inr done) =
+            let size = length (joined ps last) in
+            let mine = ends-there s limit budget x done 0 size (subst (λ w. length w ≤ size) written-is (omega (arith, fits))) in
+            let whole = ends-there s limit budget q other 0 size (omega (arith, ap length (all-bytes ps h))) in
+            let same = determined s (setting limit budget 0) size mine whole .2 in
+            absurd (omega (arith, fits, ap length (written-is ∙ ap listingText same ∙ all-bytes ps h)))
+        byEnd (inl full) =
+            let y = full-reads sheet limit budget s r reads p plotted full in
+            let (more, grown) = listed-grows s (y .place) (q .place) (ends-later s limit budget y q other) 0 in
+            let mine : p .blocks ≡ listedBefore s 0 (y .place) = y .blocks ∙ ap (λ k. listedBefore s k (y .place)) at in (
+              full,
+              (
+                listingText more,
+                sym (all-bytes ps h) ∙ ap listingText (grown ∙ ap (_++ more) (sym mine)) ∙ listingText-++ (p .blocks) more,
+              ),
+            )
 
   pub law-of-parts : LawOfParts call sheet limit budget
   law-of-parts ps last h words size enough room =
       let (plotted, other) = last-plotted 0 ps last h in
       let (s, r, reads, q) = plot-ran sheet limit budget last plotted in
-      let all : listingText (listedBefore s 0 (q .place)) ≡ joined ps last =
-      ap listingText (listed-is s r reads last q other 0 ps h) ∙ sym (joined-is ps last) in
+      let all = all-bytes s r reads last q other ps h in
       let whole = ends-there s limit budget q other 0 size (subst (λ w. length w ≤ size) (sym all) room) in
-      every-runs sheet (setting limit budget (last .skip)) (setting limit budget 0) refl (last .words) words (last .size) size enough
-      (last .end) (last .tallies) (bytesOf last) plotted s r reads ∙
-      run-is s (setting limit budget 0) size whole ∙ ap (ran (last .end) (last .tallies)) all
+      runs-as sheet limit budget s r reads last plotted 0 words size enough ∙ run-is s (setting limit budget 0) size whole ∙ ap (ran (last .end) (last .tallies)) all
+
+  pub less-is-cut : LessIsCut call sheet limit budget
+  less-is-cut ps last h words size enough less =
+      let (plotted, other) = last-plotted 0 ps last h in
+      let (s, r, reads, q) = plot-ran sheet limit budget last plotted in
+      let (e, t, bs, is) = gives sheet limit budget s 0 words size (runs-as sheet limit budget s r reads last plotted 0 words size enough) in
+      let p : Plot = record { skip = 0; words = words; size = size; end = e; tallies = t; blocks = bs } in
+      let (full, (more, joins)) = cut s r reads last q other ps h p is refl less in
+      (t, listingText bs, more, is ∙ ap (λ f. ran f t (listingText bs)) full, joins)
 
   -- so by the public call: its result, and every byte of its output afterwards
   pub whole-answered : (ps : List Plot) (last : Plot) → InParts call sheet limit budget 0 ps last →
@@ -102,63 +122,3 @@ module _ (sheet : Bytes) (limit budget : ℕ) where
   pub refused-alike : RefusedAlike call sheet limit budget
   refused-alike skip skip′ words words′ size size′ n p enough enough′ h =
       every-refused sheet (setting limit budget skip) (setting limit budget skip′) refl words words′ size size′ enough′ enough n p h
-
-  -- ---- the skip of the next part, and progress
-
-  pub next-skip : NextSkip call sheet limit budget
-  next-skip p plotted some =
-      let (s, r, reads, x) = plot-ran sheet limit budget p plotted in
-      (skip-counted s limit budget x some, skip-within s limit budget x some)
-
-  pub progress : Progress call sheet limit budget
-  progress s r reads p plotted full = due-written s limit budget (full-reads s r reads p plotted full)
-
-  -- ---- whoever goes on finishes
-
-  module _ (words : ℕ) (size : ℕ → ℕ) (s : Sheet) (r : Reader) (reads : read sheet ≡ found s r)
-      (room : (skip : ℕ) (b : Block) → Due s skip b → length (blockText b) ≤ size skip)
-      (runs : (skip : ℕ) → call sheet (setting limit budget skip) words (size skip) ≡ resultOf (runOf s (setting limit budget skip) (size skip))) where
-    abbrev Lends : Plot → Type 0
-    Lends p = (p .words ≡ words) × (p .size ≡ size (p .skip))
-
-    plot-at : (skip : ℕ) → (p : Plot) × (p .skip ≡ skip) × Plotted call sheet limit budget p × Lends p
-    plot-at skip =
-        let (e, t, w, is) = result-of (runOf s (setting limit budget skip) (size skip)) in
-        let (bs, whole, fits) = whole-blocks sheet (setting limit budget skip) words (size skip) e t w (runs skip ∙ is) in (
-          record { skip = skip; words = words; size = size skip; end = e; tallies = t; blocks = bs },
-          refl,
-          runs skip ∙ is ∙ ap (ran e t) whole,
-          (refl, refl),
-        )
-
-    abbrev all : List Block
-    all = blocks (s .declared) 0 0 (leaves (rootOf s))
-
-    abbrev PartsFrom : ℕ → Type 0
-    PartsFrom skip = (ps : List Plot) × (last : Plot) × InParts call sheet limit budget skip ps last × Each Lends (ps ++ last ∷ [])
-
-    -- a last part, or one more and those from a later block on
-    one-more : (skip : ℕ) → ((next : ℕ) → skip < next → skip < length all → PartsFrom next) → PartsFrom skip
-    unfolding InParts Each
-    one-more skip others = let (p, at, plotted, lends) = plot-at skip in byEnd p at plotted lends (output-or-not (p .end))
-      where
-        byEnd : (p : Plot) → p .skip ≡ skip → Plotted call sheet limit budget p → Lends p → (p .end ≡ Output) ⊎ (¬ (p .end ≡ Output)) → PartsFrom skip
-        byEnd p at plotted lends (inr other) = ([], p, (at, plotted, other), (lends, tt))
-        byEnd p at plotted lends (inl full) =
-            let (b, due, writes) = progress s r reads p plotted full in
-            let (more, first) = writes (subst (length (blockText b) ≤_) (sym (lends .1)) (room (p .skip) b due)) in
-            let some : 0 < length (p .blocks) = omega (arith, ap length first) in
-            let left : skip < length all = omega (arith, at, ap length (due .1), length-drop (p .skip) all) in
-            let (ps, last, rest, each) = others (skip + length (p .blocks)) (omega (arith, some)) left in
-            (p ∷ ps, last, (at, plotted, full, some, rest), (lends, each))
-
-    go-on : (fuel skip : ℕ) → length all ≤ skip + fuel → PartsFrom skip
-    go-on zero skip few = one-more skip (λ next later left. absurd (omega arith))
-    go-on (suc fuel) skip few = one-more skip (λ next later left. go-on fuel next (omega arith))
-
-  pub finishes : Finishes call sheet limit budget
-  finishes words size room e t w h =
-      let (s, r, reads, result) = call-ran sheet (setting limit budget 0) words (size 0) e t w h in
-      let runs : (skip : ℕ) → call sheet (setting limit budget skip) words (size skip) ≡ resultOf (runOf s (setting limit budget skip) (size skip)) =
-      λ skip. every-runs sheet (setting limit budget 0) (setting limit budget skip) refl words words (size 0) (size skip) (ran-enough sheet (setting limit budget 0) words (size 0) e t w h) e t w h s r reads in
-      go-on words size s r reads (room s r reads) runs (length (blocks (s .declared) 0 0 (leaves (rootOf s)))) 0 (omega arith)

@@ -66,6 +66,13 @@ module _ (box : Box) (sheet : Bytes) (limit budget : ℕ) where
       (words size : ℕ) → wordsFor limit ≤ words → length (joined ps last) ≤ size →
       box sheet (setting limit budget 0) words size ≡ ran (last .end) (last .tallies) (joined ps last)
 
+  -- with less output it ends `output`, after a beginning of them
+  abbrev pub LessIsCut : Type 0
+  LessIsCut =
+      (ps : List Plot) (last : Plot) → InParts 0 ps last →
+      (words size : ℕ) → wordsFor limit ≤ words → size < length (joined ps last) →
+      (t : Tallies) × (w more : Bytes) × (box sheet (setting limit budget 0) words size ≡ ran Output t w) × (joined ps last ≡ w ++ more)
+
   -- progress: a plot that ended `output` had a block due, and wrote it if it had room for it
   abbrev pub Progress : Type 0
   Progress =
