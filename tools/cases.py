@@ -1547,6 +1547,7 @@ def parts():
     in_parts("eight queens", queens, (4096, 4096))
     in_parts("eight queens, outputs that differ", queens, (700, 66, 4096, 131, 4096))
     in_parts("eight queens, spent", queens, (1000, 4096), budget=100000)
+    case("eight queens, a larger budget", queens, output=1000)
     case("eight queens, no room for the next", queens, skip=9, output=65)
     case("eight queens, room for the next", queens, skip=9, output=66)
     mixed = lines(formula="or eq v0 div 1 0 or eq v0 3 or lt v0 1 or eq v0 4 eq v0 mod 1 0")

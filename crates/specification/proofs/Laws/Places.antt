@@ -26,7 +26,7 @@ unfolding leafCount
 leafCount-++ [] ys = omega arith
 leafCount-++ (x ∷ xs) ys = omega (arith, leafCount-++ xs ys)
 
-pub howMany-++ : (f : Leaf → Bool) (ls ms : List Leaf) → howMany f (ls ++ ms) ≡ howMany f ls + howMany f ms
+howMany-++ : (f : Leaf → Bool) (ls ms : List Leaf) → howMany f (ls ++ ms) ≡ howMany f ls + howMany f ms
 unfolding howMany
 howMany-++ f [] ms = omega arith
 howMany-++ f (l ∷ ls) ms = go (f l) (howMany-++ f ls ms)
@@ -72,7 +72,7 @@ howMany-few (fail ∷ ls) = omega (arith, howMany-few ls)
 -- ---- before a later place
 
 module _ (s : Sheet) where
-  -- the blocks before a place, and all the tree's, none skipped
+  -- the blocks before a place, none skipped
   abbrev pub blocksBefore : ℕ → List Block
   blocksBefore n = blocks (s .declared) 0 0 (leavesBefore s n)
 
