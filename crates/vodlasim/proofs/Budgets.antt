@@ -1,6 +1,7 @@
 -- The law of budgets (specs/Budgets.antt) holds of the call, for every sheet and path limit. Assumes nothing.
-use Prim.Native.Nat.{ℕ}
+use Prim.Native.Nat.{ℕ, _≤_}
 use mathlib.Core.Path.{_≡_, sym, _∙_, ap, subst}
+use Rattle.specification.specs.declared.End.the-variants.{Output}
 use Rattle.specification.specs.Bytes.{Bytes}
 use Rattle.specification.specs.Sheet.{Sheet}
 use Rattle.specification.specs.Listing.{listingText}
@@ -10,9 +11,9 @@ use Rattle.specification.specs.Demand2.{ReadLeftToRight}
 use Rattle.specification.proofs.Laws.Blocks.{listingText-++}
 use Rattle.specification.proofs.Laws.Determined.{determined}
 use Rattle.specification.proofs.Laws.Budget.{longer, same-run}
-use Rattle.vodlasim.specs.Parts.{Plot, Plotted}
-use Rattle.vodlasim.specs.Budgets.{LawOfBudgets, SameUnlessSpent}
-use Rattle.vodlasim.proofs.Plots.{Reads, plot-reads, plot-ran}
+use Rattle.vodlasim.specs.Parts.{Plot, Plotted, Shown}
+use Rattle.vodlasim.specs.Budgets.{Lengthened, LawOfBudgets, SameUnlessSpent}
+use Rattle.vodlasim.proofs.Plots.{Reads, plot-reads, plot-ran, shown-plotted}
 
 module _ (sheet : Bytes) (limit : ℕ) where
   -- both plots, as demand 2 has them, of one sheet and with one skip
@@ -37,6 +38,12 @@ module _ (sheet : Bytes) (limit : ℕ) where
         errors = l .errors;
         fails = l .fails;
       }
+
+  -- so by the public call
+  pub budgets-answered : (budget budget′ : ℕ) → budget ≤ budget′ → (p q : Plot) → Shown sheet limit budget p → Shown sheet limit budget′ q →
+      p .skip ≡ q .skip → (q .end ≡ Output → p .size ≤ q .size) → Lengthened p q
+  budgets-answered budget budget′ more p q h k =
+      law-of-budgets budget budget′ more p q (shown-plotted sheet limit budget p h) (shown-plotted sheet limit budget′ q k)
 
   pub same-unless-spent : SameUnlessSpent call sheet limit
   same-unless-spent budget budget′ more p q h k skip size other =

@@ -23,8 +23,8 @@ use Rattle.specification.proofs.Laws.Places.{listed-grows}
 use Rattle.specification.proofs.Laws.Parts.{ends-there, joins, ends-later}
 use Rattle.vodlasim.specs.Lent.{Lent}
 use Rattle.vodlasim.specs.Answered.{Answered}
-use Rattle.vodlasim.specs.Parts.{Plot, bytesOf, joined, Plotted, InParts, LawOfParts, LessIsCut, RefusedAlike}
-use Rattle.vodlasim.proofs.Plots.{output-or-not, Reads, plot-reads, plot-ran, full-reads, runs-as, gives}
+use Rattle.vodlasim.specs.Parts.{Plot, bytesOf, joined, InParts, Plotted, LawOfParts, LessIsCut, RefusedAlike, Shown}
+use Rattle.vodlasim.proofs.Plots.{output-or-not, Reads, plot-reads, plot-ran, full-reads, runs-as, gives, shown-plotted}
 
 -- the blocks of several plots
 blocksOf : List Plot → Plot → List Block
@@ -39,7 +39,7 @@ joined-is (p ∷ ps) last = ap (bytesOf p ++_) (joined-is ps last) ∙ sym (list
 module _ (sheet : Bytes) (limit budget : ℕ) where
   -- ---- the law
 
-  last-plotted : (skip : ℕ) (ps : List Plot) (last : Plot) → InParts call sheet limit budget skip ps last →
+  last-plotted : (skip : ℕ) (ps : List Plot) (last : Plot) → InParts (Plotted call sheet limit budget) skip ps last →
       Plotted call sheet limit budget last × (¬ (last .end ≡ Output))
   unfolding InParts
   last-plotted skip [] last h = (h .1, h .2)
@@ -47,7 +47,7 @@ module _ (sheet : Bytes) (limit budget : ℕ) where
 
   -- what is listed before the place where it ended, past so many, are the blocks of the parts that begin there
   module _ (s : Sheet) (r : Reader) (reads : read sheet ≡ found s r) (last : Plot) (q : Reads sheet limit budget s last) (other : ¬ (last .end ≡ Output)) where
-    listed-is : (skip : ℕ) (ps : List Plot) → InParts call sheet limit budget skip ps last → listedBefore s skip (q .place) ≡ blocksOf ps last
+    listed-is : (skip : ℕ) (ps : List Plot) → InParts (Plotted call sheet limit budget) skip ps last → listedBefore s skip (q .place) ≡ blocksOf ps last
     unfolding InParts blocksOf
     listed-is skip [] (at, h, n) = ap (λ k. listedBefore s k (q .place)) (sym at) ∙ sym (q .blocks)
     listed-is skip (p ∷ ps) (at, h, full, some, rest) =
@@ -56,11 +56,11 @@ module _ (sheet : Bytes) (limit budget : ℕ) where
         joins s limit budget x some (q .place) (ends-later s limit budget x q other) ∙
         ap (p .blocks ++_) (ap (λ k. listedBefore s (k + length (p .blocks)) (q .place)) at ∙ listed-is (skip + length (p .blocks)) ps rest)
 
-    all-bytes : (ps : List Plot) → InParts call sheet limit budget 0 ps last → listingText (listedBefore s 0 (q .place)) ≡ joined ps last
+    all-bytes : (ps : List Plot) → InParts (Plotted call sheet limit budget) 0 ps last → listingText (listedBefore s 0 (q .place)) ≡ joined ps last
     all-bytes ps h = ap listingText (listed-is 0 ps h) ∙ sym (joined-is ps last)
 
     -- a run with less output than their bytes ends earlier, for want of room
-    cut : (ps : List Plot) → InParts call sheet limit budget 0 ps last → (p : Plot) → Plotted call sheet limit budget p → p .skip ≡ 0 →
+    cut : (ps : List Plot) → InParts (Plotted call sheet limit budget) 0 ps last → (p : Plot) → Plotted call sheet limit budget p → p .skip ≡ 0 →
         p .size < length (joined ps last) → (p .end ≡ Output) × ((more : Bytes) × (joined ps last ≡ bytesOf p ++ more))
     cut ps h p plotted at less = byEnd (output-or-not (p .end))
       where
@@ -108,16 +108,27 @@ module _ (sheet : Bytes) (limit budget : ℕ) where
       let (full, (more, joins)) = cut s r reads last q other ps h p is refl less in
       (t, listingText bs, more, is ∙ ap (λ f. ran f t (listingText bs)) full, joins)
 
-  -- so by the public call: its result, and every byte of its output afterwards
-  pub whole-answered : (ps : List Plot) (last : Plot) → InParts call sheet limit budget 0 ps last →
+  -- ---- by the public call
+
+  shown-parts : (skip : ℕ) (ps : List Plot) (last : Plot) → InParts (Shown sheet limit budget) skip ps last →
+      InParts (Plotted call sheet limit budget) skip ps last
+  unfolding InParts
+  shown-parts skip [] last (at, h, other) = (at, shown-plotted sheet limit budget last h, other)
+  shown-parts skip (p ∷ ps) last (at, h, full, some, rest) =
+      (at, shown-plotted sheet limit budget p h, full, some, shown-parts (skip + length (p .blocks)) ps last rest)
+
+  -- its result, and every byte of its output afterwards
+  pub parts-answered : (ps : List Plot) (last : Plot) → InParts (Shown sheet limit budget) 0 ps last →
       (work output : Lent) (r : Outcome) → Answered sheet (setting limit budget 0) work output r →
       wordsFor limit ≤ length (work .before) → length (joined ps last) ≤ length (output .before) →
       (r ≡ Ran (last .end) (last .tallies) (length (joined ps last))) ×
       (output .after ≡ joined ps last ++ drop (length (joined ps last)) (output .before))
   unfolding outputAfter
-  whole-answered ps last h work output r a enough room =
-      let is = law-of-parts ps last h (length (work .before)) (length (output .before)) enough room in
+  parts-answered ps last h work output r a enough room =
+      let is = law-of-parts ps last (shown-parts 0 ps last h) (length (work .before)) (length (output .before)) enough room in
       (a .result ∙ ap outcome is, a .output ∙ ap (λ x. written x ++ drop (length (written x)) (output .before)) is)
+
+  -- ---- a sheet that is refused
 
   pub refused-alike : RefusedAlike call sheet limit budget
   refused-alike skip skip′ words words′ size size′ n p enough enough′ h =

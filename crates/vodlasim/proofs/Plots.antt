@@ -23,7 +23,7 @@ use Rattle.specification.proofs.Laws.Demand3.{told}
 use Rattle.specification.proofs.Laws.Whole.{whole-blocks}
 use Rattle.vodlasim.specs.Lent.{Lent}
 use Rattle.vodlasim.specs.Answered.{Answered}
-use Rattle.vodlasim.specs.Parts.{Plot, bytesOf, Plotted}
+use Rattle.vodlasim.specs.Parts.{Plot, bytesOf, Plotted, Shown}
 use Rattle.vodlasim.proofs.Demands.{stands}
 
 pub output-or-not : (e : End) → (e ≡ Output) ⊎ (¬ (e ≡ Output))
@@ -80,15 +80,23 @@ module _ (sheet : Bytes) (limit budget : ℕ) where
 
 -- ---- of the public call
 
--- what a run shows, with these blocks written
-abbrev pub plotOf : Setting → Lent → Lent → End → Tallies → List Block → Plot
-plotOf S work output e t bs =
-    record { skip = S .skip; words = length (work .before); size = length (output .before); end = e; tallies = t; blocks = bs }
-
--- each run of the public call is a plot, whose bytes stand in the output
+-- each run of it that is not refused is a plot
 pub plots : (sheet : Bytes) (S : Setting) (work output : Lent) (e : End) (t : Tallies) (n : ℕ) → Answered sheet S work output (Ran e t n) →
-    (bs : List Block) × Plotted call sheet (S .path) (S .budget) (plotOf S work output e t bs) × (take n (output .after) ≡ listingText bs)
+    (p : Plot) × Shown sheet (S .path) (S .budget) p × (p .skip ≡ S .skip) × (p .end ≡ e) × (p .tallies ≡ t) × (length (bytesOf p) ≡ n)
 plots sheet S work output e t n a =
     let (w, is, count, bytes) = stands sheet S work output (Ran e t n) a e t n refl in
     let (bs, whole, fits) = whole-blocks sheet S (length (work .before)) (length (output .before)) e t w is in
-    (bs, is ∙ ap (ran e t) whole, ap (take n) bytes ∙ take-at w (drop n (output .before)) n count ∙ whole)
+    let long : length (listingText bs) ≡ n = ap length (sym whole) ∙ count in
+    let p : Plot = record { skip = S .skip; words = length (work .before); size = length (output .before); end = e; tallies = t; blocks = bs } in
+    let top : take (length (listingText bs)) (output .after) ≡ listingText bs =
+    ap (λ k. take k (output .after)) long ∙ ap (take n) bytes ∙ take-at w (drop n (output .before)) n count ∙ whole in
+    (p, (work, output, refl, refl, subst (λ k. Answered sheet S work output (Ran e t k)) (sym long) a, top), refl, refl, refl, long)
+
+-- and it is what `call` gives
+pub shown-plotted : (sheet : Bytes) (limit budget : ℕ) (p : Plot) → Shown sheet limit budget p → Plotted call sheet limit budget p
+shown-plotted sheet limit budget p (work, output, words, size, a, top) =
+    let S = setting limit budget (p .skip) in
+    let n = length (bytesOf p) in
+    let (w, is, count, bytes) = stands sheet S work output (Ran (p .end) (p .tallies) n) a (p .end) (p .tallies) n refl in
+    let same : w ≡ bytesOf p = sym (take-at w (drop n (output .before)) n count) ∙ ap (take n) (sym bytes) ∙ top in
+    ap (λ k. call sheet S k (p .size)) words ∙ ap (call sheet S (length (work .before))) size ∙ is ∙ ap (ran (p .end) (p .tallies)) same

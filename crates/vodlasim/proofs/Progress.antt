@@ -42,7 +42,7 @@ module _ (sheet : Bytes) (limit budget : ℕ) where
     all = blocks (s .declared) 0 0 (leaves (rootOf s))
 
     abbrev PartsFrom : ℕ → Type 0
-    PartsFrom skip = (ps : List Plot) × (last : Plot) × InParts call sheet limit budget skip ps last × Each Lends (ps ++ last ∷ [])
+    PartsFrom skip = (ps : List Plot) × (last : Plot) × InParts (Plotted call sheet limit budget) skip ps last × Each Lends (ps ++ last ∷ [])
 
     -- a last part, or one more and those from a later block on
     one-more : (skip : ℕ) → ((next : ℕ) → skip < next → skip < length all → PartsFrom next) → PartsFrom skip

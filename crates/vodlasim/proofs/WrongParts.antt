@@ -16,7 +16,7 @@ use Rattle.specification.specs.Run.{setting}
 use Rattle.specification.specs.Outcome.{ran, written, wordsFor}
 use Rattle.specification.proofs.Laws.Contradiction.{contradiction}
 use Rattle.specification.proofs.Laws.Blocks.{listing-injective, listingText-++}
-use Rattle.vodlasim.specs.Parts.{Box, Plot, joined, InParts, LawOfParts}
+use Rattle.vodlasim.specs.Parts.{Box, Plot, joined, InParts, Plotted, LawOfParts}
 
 -- a head with `v0=n` under it
 abbrev block : Head → ℕ → Block
@@ -41,7 +41,7 @@ module _ (box : Box) (sheet : Bytes) (limit budget words size : ℕ) (enough : w
   law-joins first second whole some w law =
       let p : Plot = record { skip = 0; words = words; size = w .size₁; end = Output; tallies = w .tallies₁; blocks = first } in
       let q : Plot = record { skip = length first; words = words; size = w .size₂; end = Done; tallies = w .tallies₂; blocks = second } in
-      let parts : InParts box sheet limit budget 0 (p ∷ []) q = (refl, w .part₁, refl, some, (omega arith, w .part₂, λ h. contradiction cc)) in
+      let parts : InParts (Plotted box sheet limit budget) 0 (p ∷ []) q = (refl, w .part₁, refl, some, (omega arith, w .part₂, λ h. contradiction cc)) in
       let both = listingText-++ first second in
       let is = law (p ∷ []) q parts words size enough (rw (sym both) (w .room)) in
       listing-injective whole (first ++ second) (ap written (sym (w .run) ∙ is) ∙ sym both)
