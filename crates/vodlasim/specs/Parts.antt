@@ -49,13 +49,13 @@ joined (p ∷ ps) last = bytesOf p ++ joined ps last
 abbrev pub Due : Sheet → ℕ → Block → Type 0
 Due s skip b = (later : List Block) × (past skip (blocks (s .declared) 0 0 (leaves (rootOf s))) ≡ b ∷ later)
 
--- plots of which each holds: the first has this skip, and each later one skips what those before it wrote besides; each but the last ended
+-- parts: plots of a kind, of which the first has this skip, and each later one skips besides what those before it wrote; each but the last ended
 -- `output` after at least one block, and the last ended otherwise
-module _ (Holds : Plot → Type 0) where
+module _ (Kind : Plot → Type 0) where
   unfoldable pub InParts : ℕ → List Plot → Plot → Type 0
-  InParts skip [] last = (last .skip ≡ skip) × Holds last × (¬ (last .end ≡ Output))
+  InParts skip [] last = (last .skip ≡ skip) × Kind last × (¬ (last .end ≡ Output))
   InParts skip (p ∷ ps) last =
-      (p .skip ≡ skip) × Holds p × (p .end ≡ Output) × (0 < length (p .blocks)) × InParts (skip + length (p .blocks)) ps last
+      (p .skip ≡ skip) × Kind p × (p .end ≡ Output) × (0 < length (p .blocks)) × InParts (skip + length (p .blocks)) ps last
 
 -- ---- of one box and one sheet, with one path limit and budget
 
