@@ -6,7 +6,7 @@
 
 Outputs with room for k bytes, for each k from 0 to more than the page: a file that may not grow beyond k bytes, where a write is cut; and a
 pipe that nobody reads, filled but for k bytes, where a write that does not fit is refused whole. And two that take nothing: a pipe whose
-reader is gone, and /dev/full. With --host the C host is tried in the same ways; its exit status must be 1 where a byte is lost, else 0.
+reader is gone, and /dev/full. With --host the C host is tried in the same ways, in parts too; its exit status must be 1 where a byte is lost, else 0.
 """
 import argparse
 import fcntl
@@ -21,6 +21,7 @@ import tempfile
 
 ROOT = pathlib.Path(__file__).resolve().parent.parent
 PIPE_PAGE = 4096                    # a pipe's room comes in pages, of which the pipes here have two
+PART = "150"                        # bytes of output for a part: one block of twill8
 UNDECLARED = b"edition=1\nscalars=2\nlocals=0\narrays=\ngiven=\nformula=eq v5 1\n", b"refused=7\nat=55\n"
 
 
@@ -90,6 +91,8 @@ def main():
             programs = [[str(ROOT / "target/bin/pattern_box")]]
             if host:
                 programs.append([host, sheet, "512", "1000000", "0", "4096"])
+            if host and b"end=output" not in page:
+                programs.append([host, "--parts", sheet, "512", "1000000", PART])
             rooms = range(len(page) + 2)
             for words in programs:
                 for way, k in [(to_nobody, 0), (to_full, 0)] + [(to_file, k) for k in rooms] + [(to_pipe, k) for k in rooms]:

@@ -102,7 +102,7 @@ static int print_parts(const struct job *job, uint64_t report[8])
         if (!print_listing(report, job->output))
             return 0;
         uint32_t plotted = report[VODLASIM_ANSWERS] + report[VODLASIM_ERRORS];      /* the skipped blocks are counted, too */
-        fprintf(stderr, "part: %u blocks past %u, %llu bytes\n", plotted - skip, skip, (unsigned long long)report[VODLASIM_WRITTEN]);
+        fprintf(stderr, "part: blocks %u to %u, %llu bytes\n", skip + 1, plotted, (unsigned long long)report[VODLASIM_WRITTEN]);
         skip = plotted;
     }
     return 1;
