@@ -16,8 +16,9 @@ use Rattle.specification.specs.Leaves.{Leaf, answer, error, fail, blocks
 use Rattle.specification.specs.Visits.{Event, node, leaf, Visit}
 use Rattle.specification.specs.Run.{tallies, blockCount, Conditions, conditions, Stop, spent, path, output, Run, going, stopped, scan}
 use Rattle.specification.specs.Lists.{Each}
+use Rattle.specification.proofs.Laws.Lists.{Begins}
 use Rattle.specification.proofs.Laws.Stops.{unless, dueText, added, addedUnder, counted, counted-nodes, atStop, Meets, Passes}
-use Rattle.specification.proofs.Laws.Run.{writtenBy, Prefix, then-is-++, scan-append, scan-stops, scan-passes, scan-going, scan-induction, scan-nodes, scan-grows}
+use Rattle.specification.proofs.Laws.Run.{writtenBy, then-is-++, scan-append, scan-stops, scan-passes, scan-going, scan-induction, scan-nodes, scan-grows}
 use Rattle.specification.proofs.Laws.Leaves.{leafOf, leavesIn}
 
 -- ---- a listing under limits is a beginning of the one without
@@ -28,16 +29,16 @@ module _ (C : Conditions) (S′ : Setting) (size′ : ℕ) (same : C .setting .s
   wide = conditions (C .declared) S′ size′
 
   pub cut-prefix : (vs : List Visit) (t t′ : Tallies) (w w′ : Bytes) →
-      scan wide (going t w) vs ≡ going t′ w′ → Prefix (writtenBy (scan C (going t w) vs)) w′
+      scan wide (going t w) vs ≡ going t′ w′ → Begins (writtenBy (scan C (going t w) vs)) w′
   cut-prefix vs t t′ w w′ =
       scan-induction C Goal (λ t w h. ahead [] t w h) (λ v vs t w e m h. ahead (v ∷ vs) t w h)
       (λ v vs t w r m ih h. ih (subst (λ n. scan wide (going (counted (v .event) t) (w ++ added (C .declared) n t (v .event))) vs ≡ going t′ w′)
       (sym same) (scan-going wide v vs t w t′ w′ h .1))) vs t w
     where
       Goal : Tallies → Bytes → List Visit → Run → Type 0
-      Goal t w vs r = scan wide (going t w) vs ≡ going t′ w′ → Prefix (writtenBy r) w′
+      Goal t w vs r = scan wide (going t w) vs ≡ going t′ w′ → Begins (writtenBy r) w′
 
-      ahead : (vs : List Visit) (t : Tallies) (w : Bytes) → scan wide (going t w) vs ≡ going t′ w′ → Prefix w w′
+      ahead : (vs : List Visit) (t : Tallies) (w : Bytes) → scan wide (going t w) vs ≡ going t′ w′ → Begins w w′
       ahead vs t w h = rw h at (scan-grows wide (going t w) vs)
 
 -- ---- a run that meets no limit
@@ -125,7 +126,7 @@ no-limits-goes D skip vs t w =
 pub cut : (C : Conditions) (vs : List Visit) (t : Tallies) (w : Bytes) →
     (t′ : Tallies) × (w′ : Bytes) ×
     (scan (conditions (C .declared) (noLimits (C .setting .skip) t vs) (roomFor (C .declared) t w vs)) (going t w) vs ≡ going t′ w′) ×
-    Prefix (writtenBy (scan C (going t w) vs)) w′
+    Begins (writtenBy (scan C (going t w) vs)) w′
 cut C vs t w =
     let g = no-limits-goes (C .declared) (C .setting .skip) vs t w in
     (g .0, g .1, g .2, cut-prefix C (noLimits (C .setting .skip) t vs) (roomFor (C .declared) t w vs) refl vs t (g .0) w (g .1) (g .2))

@@ -11,6 +11,7 @@ use Rattle.specification.specs.Visits.{Visit, _then_}
 use Rattle.specification.specs.Run.{Conditions, Stop, Run, going, stopped, visit, scan}
 use Rattle.specification.specs.Outcome.{resultOf, written}
 use Rattle.specification.proofs.Laws.Contradiction.{contradiction}
+use Rattle.specification.proofs.Laws.Lists.{Begins}
 use Rattle.specification.proofs.Laws.Stops.{addedUnder, counted, counted-nodes, atStop, Meets, Passes, visit-stops, visit-passes, Comes, stops, passes, comes}
 
 -- ---- bytes written
@@ -18,14 +19,11 @@ use Rattle.specification.proofs.Laws.Stops.{addedUnder, counted, counte
 abbrev pub writtenBy : Run → Bytes
 writtenBy r = written (resultOf r)
 
-abbrev pub Prefix : Bytes → Bytes → Type 0
-Prefix xs ys = (zs : Bytes) × (xs ++ zs ≡ ys)
+begins-refl : (xs : Bytes) → Begins xs xs
+begins-refl xs = ([], sym (append-nil xs))
 
-prefix-refl : (xs : Bytes) → Prefix xs xs
-prefix-refl xs = ([], append-nil xs)
-
-prefix-trans : (xs ys zs : Bytes) → Prefix xs ys → Prefix ys zs → Prefix xs zs
-prefix-trans xs ys zs p q = (p .0 ++ q .0, sym (append-assoc xs (p .0) (q .0)) ∙ ap (_++ q .0) (p .1) ∙ q .1)
+begins-trans : (xs ys zs : Bytes) → Begins xs ys → Begins ys zs → Begins xs zs
+begins-trans xs ys zs p q = (p .0 ++ q .0, q .1 ∙ ap (_++ q .0) (p .1) ∙ append-assoc xs (p .0) (q .0))
 
 -- ---- a list of visits
 
@@ -100,8 +98,8 @@ module _ (C : Conditions) where
       omega (arith, counted-nodes (x .event) t)
 
   -- bytes are only added
-  pub scan-grows : (s : Run) (vs : List Visit) → Prefix (writtenBy s) (writtenBy (scan C s vs))
+  pub scan-grows : (s : Run) (vs : List Visit) → Begins (writtenBy s) (writtenBy (scan C s vs))
   scan-grows (going t w) vs =
-      scan-induction (λ t w vs r. Prefix w (writtenBy r)) (λ t w. prefix-refl w) (λ v vs t w e m. prefix-refl w)
-      (λ v vs t w r m p. prefix-trans w (w ++ addedUnder C t (v .event)) (writtenBy r) (addedUnder C t (v .event), refl) p) vs t w
-  scan-grows (stopped e t w) vs = rw (scan-stopped e t w vs) (prefix-refl w)
+      scan-induction (λ t w vs r. Begins w (writtenBy r)) (λ t w. begins-refl w) (λ v vs t w e m. begins-refl w)
+      (λ v vs t w r m p. begins-trans w (w ++ addedUnder C t (v .event)) (writtenBy r) (addedUnder C t (v .event), refl) p) vs t w
+  scan-grows (stopped e t w) vs = rw (scan-stopped e t w vs) (begins-refl w)
