@@ -35,7 +35,7 @@ Agrees D φ b = Each (λ n. φ (cellOf D (n .name)) ≡ n .value) (b .cells)
 
 -- ---- the demand
 
--- a filling of all cells with signed 32-bit integers that keeps the given values
+-- a filling of all cells with values of their ranges that keeps the given values
 abbrev pub Such : Sheet → Filling → Type 0
 Such s φ = Fills (s .declared) φ × Keeps (s .given) φ
 

@@ -5,7 +5,7 @@ use lib.Dec.{leb}
 use lib.IntN.{ℤ}
 use Rattle.specification.specs.Bytes.{bytes, pick, feed, comma, colon, point}
 use Rattle.specification.specs.Parser.{Parser, give, require, _>>=_, _>>_, here, sees, spells, mark, exactly, key}
-use Rattle.specification.specs.Lines.{index, value, Declared, CellName, scalar, element, isDeclared, cellOf}
+use Rattle.specification.specs.Lines.{index, value, Declared, CellName, scalar, element, isDeclared, cellOf, inRange}
 
 -- a given cell and its value
 pub record Item : Type 0 where
@@ -33,7 +33,7 @@ name = do
   pick v scalarName elementName
 
 module _ (D : Declared) where
-  -- an item: 4 and 5 as read, then 7, then 10 where its cell is below the floor
+  -- an item: 4 and 5 as read, then 7, then 10 where its cell is below the floor, then 13 where its value is none that the cell may have
   unfoldable pub item : ℕ → Parser Item
   item floor = do
     p ← here
@@ -41,7 +41,8 @@ module _ (D : Declared) where
     mark colon
     z ← value
     require (isDeclared D n) 7 p
-        (require (leb floor (cellOf D n)) 10 p (give (record { cell = cellOf D n; value = z })))
+        (require (leb floor (cellOf D n)) 10 p
+        (require (inRange D (cellOf D n) z) 13 p (give (record { cell = cellOf D n; value = z }))))
 
   -- items with commas between, where k more may follow. There are 512 cells at most, so an item after 512 others has no cell
   -- above theirs and is refused by itself

@@ -1,11 +1,12 @@
--- The whole sheet: six lines in order, from edition 2 on with lines of procedures before the last, each ended by a line feed, the last line
--- feed being the last byte. Assumes nothing.
-use Prim.Native.Nat.{ℕ, zero, suc}
+-- The whole sheet: six lines in order, from edition 2 on with lines of procedures before the last, from edition 3 on with a line of ranges
+-- after that of arrays; each ended by a line feed, the last line feed being the last byte. Assumes nothing.
+use Prim.Native.Nat.{ℕ, zero, suc, _+_}
 use mathlib.Core.List.{List, [], _∷_, _++_}
+use lib.ListN.{length}
 use lib.Dec.{eqb}
 use Rattle.specification.specs.Bytes.{Bytes, bytes, pick, feed, colon}
 use Rattle.specification.specs.Parser.{Reader, Read, Parser, give, _>>=_, _>>_, spells, mark, key, finish}
-use Rattle.specification.specs.Lines.{count, line, Declared, arraysLine}
+use Rattle.specification.specs.Lines.{count, line, Range, Declared, arraysLine, rangesLine}
 use Rattle.specification.specs.Given.{Item, givenLine}
 use Rattle.specification.specs.Ast.{Formula, Procedure}
 use Rattle.specification.specs.Formula.{formula}
@@ -19,6 +20,7 @@ withParameters n D = record {
   scalars = D .scalars;
   locals = D .locals;
   arrays = D .arrays;
+  ranges = D .ranges;
   procedures = D .procedures;
   parameters = n;
 }
@@ -30,6 +32,7 @@ withProcedures Ps D = record {
   scalars = D .scalars;
   locals = D .locals;
   arrays = D .arrays;
+  ranges = D .ranges;
   procedures = Ps;
   parameters = D .parameters;
 }
@@ -63,13 +66,26 @@ pub record Sheet : Type 0 where
   pub given : List Item
   pub formula : Formula
 
+-- what is declared before the procedures
+abbrev pub beginning : ℕ → ℕ → ℕ → List ℕ → List Range → Declared
+beginning edition scalars locals arrays ranges = record {
+  edition = edition;
+  scalars = scalars;
+  locals = locals;
+  arrays = arrays;
+  ranges = ranges;
+  procedures = [];
+  parameters = 0;
+}
+
 unfoldable pub sheet : Parser Sheet
 sheet = do
-  edition ← line (bytes "edition=") 1 2
+  edition ← line (bytes "edition=") 1 3
   scalars ← line (bytes "scalars=") 0 64
   locals ← line (bytes "locals=") 0 32
   arrays ← arraysLine scalars
-  let E : Declared = record { edition = edition; scalars = scalars; locals = locals; arrays = arrays; procedures = []; parameters = 0 }
+  ranges ← rangesLine edition (scalars + length arrays)
+  let E : Declared = beginning edition scalars locals arrays ranges
   given ← givenLine E
   Ps ← procedureLines (mostProcedures edition) E
   let D : Declared = withProcedures Ps E

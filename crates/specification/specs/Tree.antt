@@ -10,7 +10,7 @@ use Rattle.specification.specs.Lines.{Declared}
 use Rattle.specification.specs.Ast.{Rel, Formula, truth, and, or, imp, neg, eq, compare, ex, some, all, call}
 use Rattle.specification.specs.Arithmetic.{noValue, undecidedInside, eqZ, test, count}
 use Rattle.specification.specs.Place.{Place, local, put}
-use Rattle.specification.specs.Value.{empty, full, Valuation, Side, val, bare, err, Pair, values, faulty, pairOf, side}
+use Rattle.specification.specs.Value.{empty, full, Valuation, allowed, Side, val, bare, err, Pair, values, faulty, pairOf, side}
 use Rattle.specification.specs.Outside.{gave}
 
 -- ---- trees
@@ -67,18 +67,19 @@ abbrev pub check : Bool → Rest → Rest
 check true k α = k α
 check false k α = failureLeaf
 
-abbrev pub assign : Place → ℤ → Rest → Rest
-assign p v k α = k (put α p (full v))
+-- a place gets a value, or a failure leaf where it may not have it
+abbrev pub assign : Declared → Place → ℤ → Rest → Rest
+assign D p v k α = check (allowed D p v) (λ β. k (put β p (full v))) α
 
 -- `eq`: a bare side raises nothing if the other side has an error of its own; two bare sides are kind 1
-unfoldable pub equate : ℕ → Side → Side → Rest → Rest
-equate tok (val x) (val y) k α = check (eqZ x y) k α
-equate tok (val x) (bare q) k α = assign q x k α
-equate tok (bare p) (val y) k α = assign p y k α
-equate tok (bare p) (bare q) k α = errorLeaf noValue tok α
-equate tok (bare p) (err κ) k α = errorLeaf κ tok α
-equate tok (val x) (err κ) k α = errorLeaf κ tok α
-equate tok (err κ) y k α = errorLeaf κ tok α
+unfoldable pub equate : Declared → ℕ → Side → Side → Rest → Rest
+equate D tok (val x) (val y) k α = check (eqZ x y) k α
+equate D tok (val x) (bare q) k α = assign D q x k α
+equate D tok (bare p) (val y) k α = assign D p y k α
+equate D tok (bare p) (bare q) k α = errorLeaf noValue tok α
+equate D tok (bare p) (err κ) k α = errorLeaf κ tok α
+equate D tok (val x) (err κ) k α = errorLeaf κ tok α
+equate D tok (err κ) y k α = errorLeaf κ tok α
 
 -- the atoms that compare
 unfoldable pub compared : ℕ → Rel → Pair → Rest → Rest
@@ -133,7 +134,7 @@ doneInside D F α β = step (pick (gave D F α β) (errorLeaf undecidedInside 0 
 module _ (D : Declared) where
   unfoldable pub grow : Formula → Rest → Rest
   grow truth k α = let T = k α in step T
-  grow (eq tok s t) k α = let T = equate tok (side D α s) (side D α t) k α in step T
+  grow (eq tok s t) k α = let T = equate D tok (side D α s) (side D α t) k α in step T
   grow (compare tok r s t) k α = let T = compared tok r (pairOf (side D α s) (side D α t)) k α in step T
   grow (or F G) k α = let T = grow F k α in let U = grow G k α in fork T U
   grow (and F G) k α = let T = grow F (λ β. grow G k β) α in step T

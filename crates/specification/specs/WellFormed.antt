@@ -1,16 +1,16 @@
 -- Well-formed sheets: what holds of every sheet that is read (the theorem is in proofs/Laws/ReadSheet.antt), and what the contracts of the
 -- walk lean on without looking at bytes again. Assumes nothing.
-use Prim.Native.Nat.{ℕ, suc, _≤_, _<_}
+use Prim.Native.Nat.{ℕ, suc, _+_, _≤_, _<_}
 use mathlib.Core.Path.{_≡_}
 use mathlib.Core.Bool.{Bool, true, false, not}
 use mathlib.Core.List.{List, [], _∷_}
 use lib.ListN.{length, take}
-use lib.Dec.{T, eqb}
+use lib.Dec.{T, ltb, eqb}
 use lib.IntN.{ℤ}
 use Rattle.specification.specs.Lists.{Each}
 use Rattle.specification.specs.Bytes.{pick}
 use Rattle.specification.specs.Number.{in32}
-use Rattle.specification.specs.Lines.{Declared, cells, inRange, procedureOf}
+use Rattle.specification.specs.Lines.{Range, Declared, contains, cells, inRange, procedureOf}
 use Rattle.specification.specs.Given.{Item}
 use Rattle.specification.specs.Ast.{Term, constant, scalarAt, localAt, parameter, elementAt, apply, Formula, truth, and, or, imp, neg, eq, compare, ex, some, all, call}
 use Rattle.specification.specs.Fill.{fill}
@@ -18,15 +18,22 @@ use Rattle.specification.specs.Sheet.{Sheet}
 use Rattle.specification.specs.Place.{Place}
 use Rattle.specification.specs.Value.{full, Valuation, allowed}
 
--- ---- what is declared: document 01's limits
+-- ---- what is declared: the limits of documents 01 and 02
+
+-- the ends of a range are values of it
+abbrev pub Ordered : Range → Type 0
+Ordered r = T (contains r (r .low)) × T (contains r (r .high))
 
 pub record Limits (D : Declared) : Type 0 where
-  pub edition : (1 ≤ D .edition) × (D .edition ≤ 2)
+  pub edition : (1 ≤ D .edition) × (D .edition ≤ 3)
   pub scalars : D .scalars ≤ 64
   pub locals : D .locals ≤ 32
   pub arrays : length (D .arrays) ≤ 16
   pub positive : Each (λ n. 1 ≤ n) (D .arrays)
   pub cells : cells D ≤ 512
+  -- none before edition 3, then one for each scalar and each array
+  pub ranges : length (D .ranges) ≡ pick (ltb (D .edition) 3) 0 (D .scalars + length (D .arrays))
+  pub ordered : Each Ordered (D .ranges)
   pub procedures : length (D .procedures) ≤ 16
   -- the sheet's formula has no parameters
   pub parameters : D .parameters ≡ 0
@@ -89,6 +96,7 @@ lineOf D K = record {
   scalars = D .scalars;
   locals = D .locals;
   arrays = D .arrays;
+  ranges = D .ranges;
   procedures = take K (D .procedures);
   parameters = procedureOf D K .parameters;
 }

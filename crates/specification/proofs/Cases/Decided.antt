@@ -67,7 +67,7 @@ readings =
     ∷ boxed (givenSheet "1," "") "refused=4\nat=38\n"
     ∷ boxed (bytes "edition=1\nscalars=3-\n") "refused=4\nat=18\n"
     ∷ boxed (bytes "edition=1\nscalars=65\n") "refused=4\nat=18\n"
-    ∷ boxed (bytes "edition=3x") "refused=4\nat=8\n"
+    ∷ boxed (bytes "edition=4x") "refused=4\nat=8\n"
     ∷ boxed (bytes "edition=1") "refused=5\nat=9\n"
     ∷ boxed (bytes "edition") "refused=3\nat=0\n"
     ∷ boxed (replicate 4096 0) "refused=3\nat=0\n"

@@ -18,7 +18,7 @@ use Rattle.specification.specs.Number.{in32}
 use Rattle.specification.specs.Lines.{scalar, cellOf}
 use Rattle.specification.specs.Ast.{Formula, constant, scalarAt, neg, eq, or}
 use Rattle.specification.specs.Parser.{Reader, found}
-use Rattle.specification.specs.Sheet.{Sheet, read}
+use Rattle.specification.specs.Sheet.{Sheet, beginning, read}
 use Rattle.specification.specs.Listing.{Block, answerHead, listingText}
 use Rattle.specification.specs.Plain.{Filling, valueOf, Truth, Fills, Keeps, True}
 use Rattle.specification.specs.Run.{tallies}
@@ -34,7 +34,7 @@ use Rattle.specification.proofs.Laws.Listed.{demand3-agreement}
 
 -- nothing is given
 abbrev sheetWith : Formula → Sheet
-sheetWith F = record { declared = record { edition = 1; scalars = 1; locals = 0; arrays = []; procedures = []; parameters = 0 }; given = []; formula = F }
+sheetWith F = record { declared = beginning 1 1 0 [] []; given = []; formula = F }
 
 -- its bytes
 abbrev pub sheetText : String → Bytes
@@ -50,7 +50,7 @@ filled n c = pos n
 
 filled-such : (F : Formula) (n : ℕ) → T (in32 (pos n)) → Such (sheetWith F) (filled n)
 unfolding Fills Keeps
-filled-such F n h = ((λ c k. in32-inRange (sheetWith F .declared) c (pos n) h), tt)
+filled-such F n h = ((λ c k. in32-inRange (sheetWith F .declared) refl c (pos n) h), tt)
 
 -- the block `answer=i`, `v0=n`
 abbrev answer : ℕ → ℕ → Block

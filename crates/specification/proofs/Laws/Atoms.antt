@@ -7,11 +7,11 @@ use Rattle.specification.specs.Lines.{Declared}
 use Rattle.specification.specs.Ast.{Rel, Term, eq, compare}
 use Rattle.specification.specs.Arithmetic.{eqZ}
 use Rattle.specification.specs.Place.{Place, put}
-use Rattle.specification.specs.Value.{full, Valuation, Side, val, bare, err, side}
+use Rattle.specification.specs.Value.{full, Valuation, allowed, Side, val, bare, err, side}
 use Rattle.specification.specs.WellFormed.{Scope, OkTerm, Ok, Valid}
 use Rattle.specification.specs.Tree.{Rest, assign, equate, grow}
 use Rattle.specification.specs.Plain.{Env, Has, Truth}
-use Rattle.specification.proofs.Laws.Allowed.{in32-allowed}
+use Rattle.specification.proofs.Laws.Allowed.{fits-allowed}
 use Rattle.specification.proofs.Laws.Scope.{Every, Any, Agree, Ext}
 use Rattle.specification.proofs.Laws.Place.{put-same, valid-put, ext-refl, agree-ext, ext-put, agree-put}
 use Rattle.specification.proofs.Laws.Range.{eqZ-eq, eqZ-refl}
@@ -27,24 +27,26 @@ module _ (D : Declared) (S : Scope) (tok : ℕ) (k : Rest) (α : Valuation) (v :
     assigned-sound :
         (P : Valuation → Type 0) →
         ((β : Valuation) → Ext D S α β → Valid D β → ((ρ : Env) → Agree D S ρ β → Has D ρ s x × Has D ρ t x) → Every P (k β)) →
-        Every P (assign p x k α)
+        Every P (assign D p x k α)
     assigned-sound P go =
         let b = sane-bare D S α t ot p f in
         let β = put α p (full x) in
         let w = ext-put D S α p (full x) (b .1) in
-        go β w (valid-put D α p (full x) v (in32-allowed D p x (sane-val D S α v s os x e))) (λ ρ a.
+        check-every P (allowed D p x) (λ β. k (put β p (full x))) α (λ may.
+        go β w (valid-put D α p (full x) v may) (λ ρ a.
         let a′ = agree-ext D S ρ α β w a in
-        (has-val D S ρ α a′ s os x e, subst (Has D ρ t) (a p (b .0) x (put-same α p (full x))) (has-bare D S ρ α a′ t ot p f)))
+        (has-val D S ρ α a′ s os x e, subst (Has D ρ t) (a .1 p (b .0) x (put-same α p (full x))) (has-bare D S ρ α a′ t ot p f))))
 
     assigned-complete :
         (ρ : Env) → Agree D S ρ α → (z : ℤ) → Has D ρ s z → Has D ρ t z → (Q : Valuation → Type 0) →
-        ((β : Valuation) → Valid D β → Agree D S ρ β → Any Q (k β)) → Any Q (assign p x k α)
+        ((β : Valuation) → Valid D β → Agree D S ρ β → Any Q (k β)) → Any Q (assign D p x k α)
     assigned-complete ρ a z hs ht Q go =
-        go (put α p (full x)) (valid-put D α p (full x) v (in32-allowed D p x (sane-val D S α v s os x e)))
-        (agree-put D S ρ α p (full x) (λ _ w g. held w g) a)
+        let may = fits-allowed D S ρ (a .0) p ((sane-bare D S α t ot p f) .0) x held (sane-val D S α v s os x e) in
+        check-any Q (allowed D p x) (λ β. k (put β p (full x))) α may
+        (go (put α p (full x)) (valid-put D α p (full x) v may) (agree-put D S ρ α p (full x) (λ i w g. (cc (held, g))) a))
       where
-        held : (w : ℤ) → full x ≡ full w → ρ p ≡ w
-        held w g =
+        held : ρ p ≡ x
+        held =
             let hx = same-val D S ρ α a s os x z e hs in
             let hp = has-bare D S ρ α a t ot p f in cc
 
@@ -52,7 +54,7 @@ module _ (D : Declared) (S : Scope) (tok : ℕ) (k : Rest) (α : Valuation) (v :
     equate-sound :
         (P : Valuation → Type 0) →
         ((β : Valuation) → Ext D S α β → Valid D β → ((ρ : Env) → Agree D S ρ β → Truth D ρ (eq tok s t)) → Every P (k β)) →
-        (x y : Side) → side D α s ≡ x → side D α t ≡ y → Every P (equate tok x y k α)
+        (x y : Side) → side D α s ≡ x → side D α t ≡ y → Every P (equate D tok x y k α)
     unfolding Every equate Truth
     equate-sound P go (val x) (val y) e f =
         check-every P (eqZ x y) k α (λ q. go α (ext-refl D S α) v (λ ρ a.
@@ -68,7 +70,7 @@ module _ (D : Declared) (S : Scope) (tok : ℕ) (k : Rest) (α : Valuation) (v :
 
     equate-complete :
         (ρ : Env) → Agree D S ρ α → (z : ℤ) → Has D ρ s z → Has D ρ t z → (Q : Valuation → Type 0) → Q α →
-        ((β : Valuation) → Valid D β → Agree D S ρ β → Any Q (k β)) → (x y : Side) → side D α s ≡ x → side D α t ≡ y → Any Q (equate tok x y k α)
+        ((β : Valuation) → Valid D β → Agree D S ρ β → Any Q (k β)) → (x y : Side) → side D α s ≡ x → side D α t ≡ y → Any Q (equate D tok x y k α)
     unfolding Any equate
     equate-complete ρ a z hs ht Q q go (val x) (val y) e f =
         let i : x ≡ y = cc (same-val D S ρ α a s os x z e hs, same-val D S ρ α a t ot y z f ht) in

@@ -12,7 +12,7 @@ use Rattle.specification.specs.Arithmetic.{noValue, undecidedInside, eqZ
 use Rattle.specification.specs.Place.{Place, local, put}
 use Rattle.specification.specs.Value.{empty, full, Valuation, val, bare, err, faulty, pairOf, side}
 use Rattle.specification.specs.Outside.{gave}
-use Rattle.specification.specs.Tree.{successLeaf, failureLeaf, errorLeaf, step, fork, fan, ask, succeeds, fails, undecided, verdict, Rest, check, equate, compared, bounded, sons, rounds, enquire, doneInside, grow, treeOf}
+use Rattle.specification.specs.Tree.{successLeaf, failureLeaf, errorLeaf, step, fork, fan, ask, succeeds, fails, undecided, verdict, Rest, check, assign, equate, compared, bounded, sons, rounds, enquire, doneInside, grow, treeOf}
 use Rattle.specification.proofs.Laws.Negation.{innerTree}
 
 module _ (D : Declared) (α : Valuation) where
@@ -49,14 +49,14 @@ module _ (D : Declared) (α : Valuation) where
         unfolding treeOf grow compared pairOf
         compare-closed r = rw (e, f)
 
-      -- an assignment, and the symmetrical case
+      -- an assignment, which is a failure leaf where the place may not have the value; and the symmetrical case
       pub eq-assigns-left :
-          (p : Place) (y : ℤ) → side D α s ≡ bare p → side D α t ≡ val y → treeOf D (eq tok s t ∷ Fs) α ≡ step (treeOf D Fs (put α p (full y)))
+          (p : Place) (y : ℤ) → side D α s ≡ bare p → side D α t ≡ val y → treeOf D (eq tok s t ∷ Fs) α ≡ step (assign D p y (treeOf D Fs) α)
       unfolding treeOf grow equate
       eq-assigns-left p y e f = rw (e, f)
 
       pub eq-assigns-right :
-          (x : ℤ) (q : Place) → side D α s ≡ val x → side D α t ≡ bare q → treeOf D (eq tok s t ∷ Fs) α ≡ step (treeOf D Fs (put α q (full x)))
+          (x : ℤ) (q : Place) → side D α s ≡ val x → side D α t ≡ bare q → treeOf D (eq tok s t ∷ Fs) α ≡ step (assign D q x (treeOf D Fs) α)
       unfolding treeOf grow equate
       eq-assigns-right x q e f = rw (e, f)
 

@@ -5,16 +5,17 @@ use mathlib.Core.Path.{_≡_, refl}
 use mathlib.Core.Bool.{Bool, true, false}
 use mathlib.Core.List.{List, [], _∷_}
 use mathlib.Core.Option.{Option, none, some}
-use lib.Dec.{leb}
+use lib.Dec.{leb, ltb}
 use lib.IntN.{ℤ}
+use lib.Signed.{leZ}
 use Rattle.specification.specs.Bytes.{Bytes, bytes, pick, between, Class, feed, comma, colon, point, inNumber}
 use Rattle.specification.specs.Number.{natural, integer, in32}
 use Rattle.specification.specs.Parser.{Parser, give, refuse, require, present, _>>=_, _>>_, here, sees, spells, mark, exactly, taken}
-use Rattle.specification.specs.Lines.{index, count, value, line, Declared, lengths, arraysLine, CellName, scalar, element, isDeclared, cellOf}
+use Rattle.specification.specs.Lines.{index, count, value, line, Declared, lengths, arraysLine, Range, range, ranges, rangesLine, CellName, scalar, element, isDeclared, cellOf, inRange}
 use Rattle.specification.proofs.Laws.Parser.{refuses}
 use Rattle.specification.specs.Given.{Item, scalarName, elementName, name, item, items, givenLine}
 
--- Q of a reader, where P holds of each place that is read from; a refusal has a number from 3 to 12
+-- Q of a reader, where P holds of each place that is read from; a refusal has a number from 3 to 14
 pub record Composed (P : ℕ → Type 0) (Q : (A : Type 0) → Parser A → Type 0) : Type 1 where
   pub give : (A : Type 0) (a : A) → Q A (give a)
   pub refuse : (A : Type 0) (n p : ℕ) → refuses n ≡ true → P p → Q A (refuse n p)
@@ -78,7 +79,7 @@ module _ {P : ℕ → Type 0} {Q : (A : Type 0) → Parser A → Type 0} (c : Co
       then (c .sees feed) λ none.
       then (pick-by none (c .give (List ℕ) []) (lengths-by 16 (512 - scalars))) λ ns. then (c .mark feed) λ u. c .give (List ℕ) ns
 
-  -- ---- the given items
+  -- ---- ranges
 
   value-by : Q ℤ value
   unfolding value
@@ -86,6 +87,35 @@ module _ {P : ℕ → Type 0} {Q : (A : Type 0) → Parser A → Type 0} (c : Co
       c .here ℤ (λ p. taken inNumber >>= λ bs. present 4 p (integer bs) >>= λ z. require (in32 z) 4 p (give z)) λ p i.
       then (c .taken inNumber) λ bs.
       then (present-by 4 p (integer bs) refl i) λ z. require-by (in32 z) 4 p refl i (c .give ℤ z)
+
+  range-by : Q Range range
+  unfolding range
+  range-by =
+      c .here Range (λ p. value >>= λ lo. mark colon >> (value >>= λ hi. require (leZ lo hi) 14 p (give (from lo hi)))) λ p i.
+      then value-by λ lo.
+      then (c .mark colon) λ u.
+      then value-by λ hi.
+      require-by (leZ lo hi) 14 p refl i (c .give Range (from lo hi))
+    where
+      from : ℤ → ℤ → Range
+      from lo hi = record { low = lo; high = hi }
+
+  ranges-of : (lead : Parser (Unit {0})) → Q (Unit {0}) lead → (k : ℕ) → Q (List Range) (ranges lead k)
+  unfolding ranges
+  ranges-of lead h zero = c .give (List Range) []
+  ranges-of lead h (suc k) =
+      then h λ u.
+      then range-by λ r.
+      then (ranges-of (mark comma) (c .mark comma) k) λ rs. c .give (List Range) (r ∷ rs)
+
+  pub ranges-by : (edition k : ℕ) → Q (List Range) (rangesLine edition k)
+  unfolding rangesLine
+  ranges-by edition k =
+      pick-by (ltb edition 3) (c .give (List Range) [])
+      (then (c .exactly 3 (bytes "ranges=") refl) λ u.
+      then (ranges-of (give tt) (c .give (Unit {0}) tt) k) λ rs. then (c .mark feed) λ u. c .give (List Range) rs)
+
+  -- ---- the given items
 
   name-by : Q CellName name
   unfolding name scalarName elementName
@@ -101,11 +131,12 @@ module _ {P : ℕ → Type 0} {Q : (A : Type 0) → Parser A → Type 0} (c : Co
     unfolding item
     item-by floor =
         c .here Item
-        (λ p. name >>= λ n. mark colon >> (value >>= λ z. require (isDeclared D n) 7 p (require (leb floor (cellOf D n)) 10 p (give (found n z))))) λ p i.
+        (λ p. name >>= λ n. mark colon >> (value >>= λ z. require (isDeclared D n) 7 p (require (leb floor (cellOf D n)) 10 p (require (inRange D (cellOf D n) z) 13 p (give (found n z)))))) λ p i.
         then name-by λ n.
         then (c .mark colon) λ u.
         then value-by λ z.
-        require-by (isDeclared D n) 7 p refl i (require-by (leb floor (cellOf D n)) 10 p refl i (c .give Item (found n z)))
+        require-by (isDeclared D n) 7 p refl i (require-by (leb floor (cellOf D n)) 10 p refl i
+        (require-by (inRange D (cellOf D n) z) 13 p refl i (c .give Item (found n z))))
       where
         found : CellName → ℤ → Item
         found n z = record { cell = cellOf D n; value = z }

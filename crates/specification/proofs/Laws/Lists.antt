@@ -1,8 +1,18 @@
 -- Laws of Each and Some: over predicates, over lists joined and mapped, and of a member that has both. Assumes nothing.
+use Prim.Native.Nat.{ℕ, zero, suc}
 use mathlib.Core.Path.{_≡_}
 use mathlib.Core.Logic.{_⊎_, inl, inr}
 use mathlib.Core.List.{List, [], _∷_, _++_, map}
+use lib.ListN.{getD}
 use Rattle.specification.specs.Lists.{Each, Some}
+
+-- ---- a member by its number
+
+pub each-getD : {A : Type 0} (P : A → Type 0) (xs : List A) (n : ℕ) (d : A) → Each P xs → P d → P (getD xs n d)
+unfolding Each
+each-getD P [] n d h k = k
+each-getD P (x ∷ xs) zero d h k = h .0
+each-getD P (x ∷ xs) (suc n) d h k = each-getD P xs n d (h .1) k
 
 -- ---- from one predicate to another
 

@@ -5,17 +5,19 @@
 use Prim.Native.Nat.{ℕ}
 use mathlib.Core.Path.{_≡_, refl}
 use mathlib.Core.Bool.{Bool, true, false}
+use lib.IntN.{ℤ}
 use Rattle.specification.specs.Bytes.{pick}
 use Rattle.specification.specs.Lines.{Declared}
 use Rattle.specification.specs.Ast.{Formula, imp, neg}
 use Rattle.specification.specs.Arithmetic.{undecidedInside}
+use Rattle.specification.specs.Place.{Place}
 use Rattle.specification.specs.Value.{Slot, empty, full, Valuation}
 use Rattle.specification.specs.WellFormed.{Scope, Ok, Valid}
 use Rattle.specification.specs.Outside.{gave}
 use Rattle.specification.specs.Tree.{Tree, successLeaf, errorLeaf, succeeds, fails, undecided, verdict, denied, implied, doneInside, grow}
 use Rattle.specification.specs.Plain.{Env, Truth}
 use Rattle.specification.proofs.Laws.Contradiction.{contradiction}
-use Rattle.specification.proofs.Laws.Scope.{Every, Any, Agree, Ext}
+use Rattle.specification.proofs.Laws.Scope.{Every, Any, In, Agree, Ext}
 use Rattle.specification.proofs.Laws.Outside.{Covers, gave-none, in-declares, in-outside}
 use Rattle.specification.proofs.Laws.Place.{ext-refl}
 use Rattle.specification.proofs.Laws.Inner.{fails-none, succeeds-one}
@@ -49,11 +51,11 @@ leaf-any Q false β h = h
 module _ (D : Declared) (F : Formula) (S : Scope) (c : Covers D S) (o : Ok D S F) (α : Valuation) where
   -- β extends α and gave nothing: what agrees with α agrees with β
   agree-given : (β : Valuation) → Ext D S α β → gave D F α β ≡ false → (ρ : Env) → Agree D S ρ α → Agree D S ρ β
-  agree-given β x n ρ a p i v e = go (α p) refl
+  agree-given β x n ρ a = (a .0, λ p i v e. go p i v e (α p) refl)
     where
-      go : (s : Slot) → α p ≡ s → ρ p ≡ v
-      go empty f = let g = gave-none D F α β n p (in-declares D S c p i) (in-outside D S F o p i) f in contradiction cc
-      go (full u) f = let g = x p i u f in let h = a p i u f in cc
+      go : (p : Place) → In D S p → (v : ℤ) → β p ≡ full v → (s : Slot) → α p ≡ s → ρ p ≡ v
+      go p i v e empty f = let g = gave-none D F α β n p (in-declares D S c p i) (in-outside D S F o p i) f in contradiction cc
+      go p i v e (full u) f = let g = x p i u f in let h = a .1 p i u f in cc
 
   -- a leaf that gave nothing: where its valuation proves F, so does α
   pub gave-nothing-proves : (β : Valuation) → Ext D S α β → Proves D S F β → gave D F α β ≡ false → Proves D S F α

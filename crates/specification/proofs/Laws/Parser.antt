@@ -10,7 +10,7 @@ use Rattle.specification.proofs.Laws.Contradiction.{contradiction}
 
 -- the numbers of the refusals of reading
 abbrev pub refuses : ℕ → Bool
-refuses n = between 3 12 n
+refuses n = between 3 14 n
 
 -- ---- tests
 

@@ -80,7 +80,7 @@ module _ (D : Declared) (S : Scope) where
   ext-trans α β γ e f p i v h = f p i v (e p i v h)
 
   pub agree-ext : (ρ : Env) (α β : Valuation) → Ext D S α β → Agree D S ρ β → Agree D S ρ α
-  agree-ext ρ α β e a p i v h = a p i v (e p i v h)
+  agree-ext ρ α β e a = (a .0, λ p i v h. a .1 p i v (e p i v h))
 
   -- at a place without a value
   pub ext-put : (α : Valuation) (p : Place) (s : Slot) → α p ≡ empty → Ext D S α (put α p s)
@@ -92,7 +92,8 @@ module _ (D : Declared) (S : Scope) where
   pub agree-put :
       (ρ : Env) (α : Valuation) (p : Place) (s : Slot) → (In D S p → (v : ℤ) → s ≡ full v → ρ p ≡ v) → Agree D S ρ α →
       Agree D S ρ (put α p s)
-  agree-put ρ α p s h a q i v = put-cases α p s q (λ r. r ≡ full v → ρ q ≡ v) (λ x e. ap ρ x ∙ h (rw x at i) v e) (λ n. a q i v)
+  agree-put ρ α p s h a =
+      (a .0, λ q i v. put-cases α p s q (λ r. r ≡ full v → ρ q ≡ v) (λ x e. ap ρ x ∙ h (rw x at i) v e) (λ n. a .1 q i v))
 
 -- ---- in and out of a binder's scope
 
@@ -118,7 +119,8 @@ module _ (D : Declared) (S : Scope) (l : ℕ) where
   pub agree-enter :
       (ρ : Env) (v : ℤ) (β : Valuation) → ((w : ℤ) → β (local l) ≡ full w → v ≡ w) → Agree D S ρ β →
       Agree D (enter S l) (put ρ (local l) v) β
-  agree-enter ρ v β h a q i w e = put-cases ρ (local l) v q (λ z. z ≡ w) (λ x. h w (rw x at e)) (λ n. a q (in-leave q n i) w e)
+  unfolding put
+  agree-enter ρ v β h a = (a .0, λ q i w e. put-cases ρ (local l) v q (λ z. z ≡ w) (λ x. h w (rw x at e)) (λ n. a .1 q (in-leave q n i) w e))
 
   -- an environment that gives the local the value it has in an extension
   pub agree-held :
@@ -134,7 +136,8 @@ module _ (D : Declared) (S : Scope) (l : ℕ) where
     in-fresh q i e = T-not (S l) fresh (subst (In D S) e i)
 
     pub agree-leave : (ρ : Env) (v : ℤ) (β : Valuation) → Agree D (enter S l) (put ρ (local l) v) β → Agree D S ρ β
-    agree-leave ρ v β a q i w e = rw (put-other ρ (local l) v q (in-fresh q i)) at (a q (in-enter q i) w e)
+    unfolding put
+    agree-leave ρ v β a = (a .0, λ q i w e. sym (put-other ρ (local l) v q (in-fresh q i)) ∙ a .1 q (in-enter q i) w e)
 
     pub ext-leave : (α β : Valuation) (s : Slot) → Ext D (enter S l) (put α (local l) s) β → Ext D S α β
     ext-leave α β s x q i w e = x q (in-enter q i) w (put-other α (local l) s q (in-fresh q i) ∙ e)

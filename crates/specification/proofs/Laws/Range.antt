@@ -33,6 +33,10 @@ le-pos a b h = leb→le a b (h .le)
 le-neg : (a b : ℕ) → negsuc a ≤ℤ negsuc b → b ≤ a
 le-neg a b h = leb→le b a (h .le)
 
+pub le-self : (z : ℤ) → T (leZ z z)
+le-self (pos a) = le→leb a a (omega arith)
+le-self (negsuc a) = le→leb a a (omega arith)
+
 pos-le : (a b : ℕ) → a ≤ b → pos a ≤ℤ pos b
 pos-le a b h = record { le = le→leb a b h }
 

@@ -1,4 +1,4 @@
--- A sheet is refused at one of its bytes or at its end, with a number from 3 to 12. Assumes nothing.
+-- A sheet is refused at one of its bytes or at its end, with a number from 3 to 14. Assumes nothing.
 use Prim.Native.Nat.{ℕ, _≤_}
 use native.Mathlib.Omega.{arith}
 use mathlib.Core.Path.{_≡_, refl}
@@ -72,12 +72,12 @@ module _ (N : ℕ) where
 -- the numbers 1 and 2 are the call's, not the reader's
 pub record RefusedWell (b : Bytes) (n p : ℕ) : Type 0 where
   pub least : 3 ≤ n
-  pub greatest : n ≤ 12
+  pub greatest : n ≤ 14
   pub place : p ≤ length b
 
 pub read-refused : (b : Bytes) (n p : ℕ) → read b ≡ refused n p → RefusedWell b n p
 unfolding read
 read-refused b n p e =
     let h = of-refused (sheet-safe (length b) (opened b) (omega arith)) e in
-    let t = and-true (leb 3 n) (leb n 12) (h .0) in
-    record { least = leb-true 3 n (t .0); greatest = leb-true n 12 (t .1); place = h .1 }
+    let t = and-true (leb 3 n) (leb n 14) (h .0) in
+    record { least = leb-true 3 n (t .0); greatest = leb-true n 14 (t .1); place = h .1 }

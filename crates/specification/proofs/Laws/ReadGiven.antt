@@ -7,14 +7,12 @@ use mathlib.Core.List.{List, [], _∷_}
 use lib.ListN.{getD}
 use lib.Dec.{T}
 use borrow.Author.Tests.{ltb-true, leb-true}
-use Rattle.specification.specs.Bytes.{bytes, feed, comma, colon, inNumber}
-use Rattle.specification.specs.Number.{integer, in32}
-use Rattle.specification.specs.Parser.{Reader, give, present, _>>_, next, mark, taken, key}
+use Rattle.specification.specs.Bytes.{bytes, feed, comma, colon}
+use Rattle.specification.specs.Parser.{Reader, give, _>>_, next, mark, key}
 use Rattle.specification.specs.Lines.{value, Declared, CellName, scalar, element, cells, firstOf, lengthOf, isDeclared, cellOf, inRange}
 use Rattle.specification.specs.Given.{Item, name, item, items, givenLine}
 use Rattle.specification.specs.Lists.{Each}
 use Rattle.specification.specs.WellFormed.{Rising}
-use Rattle.specification.proofs.Laws.Allowed.{in32-inRange}
 use Rattle.specification.proofs.Laws.Elements.{sum-take}
 use Rattle.specification.proofs.Laws.Lists.{each-map}
 use Rattle.specification.proofs.Laws.Parser.{true-T, Post, holds, bind-post, after, require-post, choose-post}
@@ -47,13 +45,6 @@ rising-distinct floor (i ∷ is) h =
 
 -- ---- items
 
-value-post : (r : Reader) → Post (λ z r′. T (in32 z)) (value r)
-unfolding value
-value-post r =
-    after (taken inNumber r) λ bs r₁.
-    after (present 4 (r .place) (integer bs) r₁) λ z r₂.
-    require-post _ _ _ _ _ tt λ e. holds (true-T (in32 z) e)
-
 module _ (D : Declared) where
   item-post : (floor : ℕ) (r : Reader) →
       Post (λ i r′. T (inRange D (i .cell) (i .value)) × (i .cell < cells D) × (floor ≤ i .cell)) (item D floor r)
@@ -61,10 +52,11 @@ module _ (D : Declared) where
   item-post floor r =
       after (name r) λ n r₁.
       after (mark colon r₁) λ u r₂.
-      bind-post (value-post r₂) λ z r₃ h.
+      after (value r₂) λ z r₃.
       require-post _ _ _ _ _ tt λ d.
       require-post _ _ _ _ _ tt λ e.
-      holds (in32-inRange D (cellOf D n) z h, declared-cell D n d, leb-true floor (cellOf D n) e)
+      require-post _ _ _ _ _ tt λ i.
+      holds (true-T (inRange D (cellOf D n) z) i, declared-cell D n d, leb-true floor (cellOf D n) e)
 
   -- each value of its cell's range, each cell declared, all rising
   abbrev pub Items : ℕ → List Item → Reader → Type 0

@@ -1,17 +1,23 @@
--- What the first four lines declare is within document 01's limits. Assumes nothing.
-use Prim.Native.Nat.{ℕ, zero, suc, _-_, _≤_}
-use mathlib.Core.Path.{_≡_}
+-- What the lines before the given values declare is within the limits of documents 01 and 02. Assumes nothing.
+use Prim.Native.Nat.{ℕ, zero, suc, _+_, _-_, _≤_}
+use mathlib.Core.Path.{_≡_, refl, ap}
 use native.Mathlib.Omega.{arith}
+use mathlib.Core.Bool.{Bool, true, false}
 use mathlib.Core.List.{List, [], _∷_}
 use lib.ListN.{length}
-use lib.Dec.{leb}
+use lib.Dec.{T, leb, ltb}
+use lib.IntN.{ℤ}
+use lib.Signed.{leZ}
 use borrow.Author.Tests.{leb-true}
-use Rattle.specification.specs.Bytes.{Bytes, bytes, feed, comma}
-use Rattle.specification.specs.Parser.{Reader, give, _>>_, next, mark, key}
-use Rattle.specification.specs.Lines.{index, count, line, Declared, lengths, arraysLine, sum, cells}
+use mir.Facts.{yes-and}
+use Rattle.specification.specs.Bytes.{Bytes, bytes, pick, feed, comma, colon, inNumber}
+use Rattle.specification.specs.Number.{integer, within, in32}
+use Rattle.specification.specs.Parser.{Reader, Parser, give, present, _>>=_, _>>_, next, mark, taken, key}
+use Rattle.specification.specs.Lines.{index, count, value, line, Range, Declared, lengths, arraysLine, range, ranges, rangesLine, contains, sum, cells}
 use Rattle.specification.specs.Lists.{Each}
-use Rattle.specification.specs.WellFormed.{Limits}
-use Rattle.specification.proofs.Laws.Parser.{and-true, Post, refusal, holds, bind-post, after, require-post, choose-post}
+use Rattle.specification.specs.WellFormed.{Ordered, Limits}
+use Rattle.specification.proofs.Laws.Range.{le-self}
+use Rattle.specification.proofs.Laws.Parser.{and-true, true-T, Post, refusal, holds, bind-post, after, require-post, choose-post}
 
 -- ---- numbers
 
@@ -67,20 +73,74 @@ arrays-post scalars r =
     (holds (no-lengths 16 (512 - scalars))) (lengths-post 16 (512 - scalars) r₁)) λ ns r₂ l.
     after (mark feed r₂) λ u r₃. holds l
 
+-- ---- ranges
+
+value-post : (r : Reader) → Post (λ z r′. T (in32 z)) (value r)
+unfolding value
+value-post r =
+    after (taken inNumber r) λ bs r₁.
+    after (present 4 (r .place) (integer bs) r₁) λ z r₂.
+    require-post _ _ _ _ _ tt λ e. holds (true-T (in32 z) e)
+
+-- its ends are values of it
+ends-ordered : (lo hi : ℤ) → T (in32 lo) → T (in32 hi) → T (leZ lo hi) → Ordered (record { low = lo; high = hi })
+unfolding contains
+ends-ordered lo hi a b h = (
+  yes-and (in32 lo) (within lo hi lo) a (yes-and (leZ lo lo) (leZ lo hi) (le-self lo) h),
+  yes-and (in32 hi) (within lo hi hi) b (yes-and (leZ lo hi) (leZ hi hi) h (le-self hi)),
+)
+
+range-post : (r : Reader) → Post (λ x r′. Ordered x) (range r)
+unfolding range
+range-post r =
+    bind-post (value-post r) λ lo r₁ a.
+    after (mark colon r₁) λ u r₂.
+    bind-post (value-post r₂) λ hi r₃ b.
+    require-post _ _ _ _ _ tt λ e. holds (ends-ordered lo hi a b (true-T (leZ lo hi) e))
+
+-- so many, each ordered
+pub record Ranges (k : ℕ) (rs : List Range) : Type 0 where
+  pub many : length rs ≡ k
+  pub ordered : Each Ordered rs
+
+ranges-post : (lead : Parser (Unit {0})) (k : ℕ) (r : Reader) → Post (λ rs r′. Ranges k rs) (ranges lead k r)
+unfolding ranges Each
+ranges-post lead zero r = holds (record { many = refl; ordered = tt })
+ranges-post lead (suc k) r =
+    after (lead r) λ u r₁.
+    bind-post (range-post r₁) λ x r₂ h.
+    bind-post (ranges-post (mark comma) k r₂) λ rs r₃ l.
+    holds (record { many = ap suc (l .many); ordered = (h, l .ordered) })
+
+-- none before edition 3, and then k of them
+pub ranges-line-post : (edition k : ℕ) (r : Reader) → Post (λ rs r′. Ranges (pick (ltb edition 3) 0 k) rs) (rangesLine edition k r)
+unfolding rangesLine Each
+ranges-line-post edition k r = go (ltb edition 3)
+  where
+    go : (b : Bool) →
+        Post (λ rs r′. Ranges (pick b 0 k) rs) (pick b (give []) (key (bytes "ranges=") >> (ranges (give tt) k >>= λ rs. mark feed >> give rs)) r)
+    go true = holds (record { many = refl; ordered = tt })
+    go false =
+        after (key (bytes "ranges=") r) λ u r₁.
+        bind-post (ranges-post (give tt) k r₁) λ rs r₂ h.
+        after (mark feed r₂) λ u r₃. holds h
+
 -- ---- the limits
 
 -- from what is known of these lines, and of the procedures
 module _ (D : Declared) where
-  pub limits : (1 ≤ D .edition) × (D .edition ≤ 2) → D .scalars ≤ 64 → D .locals ≤ 32 → Lengths 16 (512 - D .scalars) (D .arrays) →
-      length (D .procedures) ≤ 16 → D .parameters ≡ 0 → Limits D
+  pub limits : (1 ≤ D .edition) × (D .edition ≤ 3) → D .scalars ≤ 64 → D .locals ≤ 32 → Lengths 16 (512 - D .scalars) (D .arrays) →
+      Ranges (pick (ltb (D .edition) 3) 0 (D .scalars + length (D .arrays))) (D .ranges) → length (D .procedures) ≤ 16 → D .parameters ≡ 0 → Limits D
   unfolding cells
-  limits e v l a p n = record {
+  limits e v l a r p n = record {
     edition = e;
     scalars = v;
     locals = l;
     arrays = a .few;
     positive = a .positive;
     cells = omega (arith, a .fit, v);
+    ranges = r .many;
+    ordered = r .ordered;
     procedures = p;
     parameters = n;
   }

@@ -6,7 +6,7 @@ use mathlib.Core.Path.{_≡_}
 use mathlib.Core.Logic.{_⊎_}
 use lib.Dec.{T}
 use lib.IntN.{ℤ}
-use Rattle.specification.specs.Lines.{Declared, cells}
+use Rattle.specification.specs.Lines.{Declared, cells, inRange}
 use Rattle.specification.specs.Place.{Place, cell, local}
 use Rattle.specification.specs.Value.{full, Valuation}
 use Rattle.specification.specs.Tree.{Tree, successLeaf, failureLeaf, errorLeaf, step, fork, fan, ask}
@@ -42,9 +42,13 @@ module _ (D : Declared) where
   In S (cell c) = c < cells D
   In S (local l) = T (S l)
 
-  -- an environment agrees with a valuation, and a valuation extends another, on the places in scope
+  -- an environment gives every cell a value of its range
+  abbrev pub Fits : Env → Type 0
+  Fits ρ = (c : ℕ) → c < cells D → T (inRange D c (ρ (cell c)))
+
+  -- such an environment agrees with a valuation, and a valuation extends another, on the places in scope
   abbrev pub Agree : Scope → Env → Valuation → Type 0
-  Agree S ρ α = (p : Place) → In S p → (v : ℤ) → α p ≡ full v → ρ p ≡ v
+  Agree S ρ α = Fits ρ × ((p : Place) → In S p → (v : ℤ) → α p ≡ full v → ρ p ≡ v)
 
   abbrev pub Ext : Scope → Valuation → Valuation → Type 0
   Ext S α β = (p : Place) → In S p → (v : ℤ) → α p ≡ full v → β p ≡ full v

@@ -1,17 +1,18 @@
 -- The sheet's lines in their order, for every law about whole sheets: a line of the notation is added to `sheet` and here, and elsewhere
 -- only where its own facts are wanted. `Lines` and `sheet-lines` tell what was read, line by line; `sheet-by` puts together what holds of
 -- each line's reader (LineReaders), of refusals too. Assumes nothing.
-use Prim.Native.Nat.{ℕ}
+use Prim.Native.Nat.{ℕ, _+_}
 use mathlib.Core.Path.{_≡_, refl}
 use mathlib.Core.List.{List, []}
+use lib.ListN.{length}
 use Rattle.specification.specs.Bytes.{bytes, feed}
 use Rattle.specification.specs.Parser.{Reader, Read, refused, found, Parser, give, andThen, _>>=_, _>>_, mark, key, finish}
-use Rattle.specification.specs.Lines.{line, Declared, arraysLine}
+use Rattle.specification.specs.Lines.{line, Declared, arraysLine, rangesLine}
 use Rattle.specification.specs.Given.{Item, givenLine}
 use Rattle.specification.specs.Formula.{formula}
-use Rattle.specification.specs.Sheet.{withProcedures, procedureLines, mostProcedures, Sheet, sheet}
+use Rattle.specification.specs.Sheet.{withProcedures, procedureLines, mostProcedures, Sheet, beginning, sheet}
 use Rattle.specification.proofs.Laws.Parser.{Post, refusal, holds, of-found}
-use Rattle.specification.proofs.Laws.LineReaders.{Composed, line-by, arrays-by, given-by}
+use Rattle.specification.proofs.Laws.LineReaders.{Composed, line-by, arrays-by, ranges-by, given-by}
 
 -- ---- what was read
 
@@ -22,22 +23,16 @@ pub record Gives {A : Type 0} (m : Parser A) (r : Reader) (a : A) : Type 0 where
 
 -- what is declared before the procedures
 abbrev pub firstDeclared : Declared → Declared
-firstDeclared D = record {
-  edition = D .edition;
-  scalars = D .scalars;
-  locals = D .locals;
-  arrays = D .arrays;
-  procedures = [];
-  parameters = 0;
-}
+firstDeclared D = beginning (D .edition) (D .scalars) (D .locals) (D .arrays) (D .ranges)
 
 -- each line gives its part of the sheet, from where the line before it ended
 pub record Lines (r : Reader) (s : Sheet) : Type 0 where
-  pub edition : Gives (line (bytes "edition=") 1 2) r (s .declared .edition)
+  pub edition : Gives (line (bytes "edition=") 1 3) r (s .declared .edition)
   pub scalars : Gives (line (bytes "scalars=") 0 64) (edition .after) (s .declared .scalars)
   pub locals : Gives (line (bytes "locals=") 0 32) (scalars .after) (s .declared .locals)
   pub arrays : Gives (arraysLine (s .declared .scalars)) (locals .after) (s .declared .arrays)
-  pub given : Gives (givenLine (firstDeclared (s .declared))) (arrays .after) (s .given)
+  pub ranges : Gives (rangesLine (s .declared .edition) (s .declared .scalars + length (s .declared .arrays))) (arrays .after) (s .declared .ranges)
+  pub given : Gives (givenLine (firstDeclared (s .declared))) (ranges .after) (s .given)
   pub procedures : Gives (procedureLines (mostProcedures (s .declared .edition)) (firstDeclared (s .declared))) (given .after) (s .declared .procedures)
   pub parameters : s .declared .parameters ≡ 0
   pub start : Gives (key (bytes "formula=")) (procedures .after) tt
@@ -53,30 +48,32 @@ module _ {A B : Type 0} {Q : B → Reader → Type 0} {f : A → Parser B} where
 sheet-known : (r : Reader) → Post (λ s r′. Lines r s) (sheet r)
 unfolding sheet
 sheet-known r =
-    known (line (bytes "edition=") 1 2 r) λ edition r₁ e.
+    known (line (bytes "edition=") 1 3 r) λ edition r₁ e.
     known (line (bytes "scalars=") 0 64 r₁) λ scalars r₂ v.
     known (line (bytes "locals=") 0 32 r₂) λ locals r₃ l.
     known (arraysLine scalars r₃) λ arrays r₄ a.
-    let E : Declared = record { edition = edition; scalars = scalars; locals = locals; arrays = arrays; procedures = []; parameters = 0 } in
-    known (givenLine E r₄) λ is r₅ g.
-    known (procedureLines (mostProcedures edition) E r₅) λ Ps r₆ p.
+    known (rangesLine edition (scalars + length arrays) r₄) λ ranges r₅ x.
+    let E : Declared = beginning edition scalars locals arrays ranges in
+    known (givenLine E r₅) λ is r₆ g.
+    known (procedureLines (mostProcedures edition) E r₆) λ Ps r₇ p.
     let D : Declared = withProcedures Ps E in
-    known (key (bytes "formula=") r₆) λ u r₇ k.
-    known (formula D 64 [] r₇) λ F r₈ f.
-    known (mark feed r₈) λ u r₉ m.
-    known (finish r₉) λ u r₁₀ n.
+    known (key (bytes "formula=") r₇) λ u r₈ k.
+    known (formula D 64 [] r₈) λ F r₉ f.
+    known (mark feed r₉) λ u r₁₀ m.
+    known (finish r₁₀) λ u r₁₁ n.
     holds (record {
       edition = record { after = r₁; is = e };
       scalars = record { after = r₂; is = v };
       locals = record { after = r₃; is = l };
       arrays = record { after = r₄; is = a };
-      given = record { after = r₅; is = g };
-      procedures = record { after = r₆; is = p };
+      ranges = record { after = r₅; is = x };
+      given = record { after = r₆; is = g };
+      procedures = record { after = r₇; is = p };
       parameters = refl;
-      start = record { after = r₇; is = k };
-      formula = record { after = r₈; is = f };
-      feed = record { after = r₉; is = m };
-      end = record { after = r₁₀; is = n };
+      start = record { after = r₈; is = k };
+      formula = record { after = r₉; is = f };
+      feed = record { after = r₁₀; is = m };
+      end = record { after = r₁₁; is = n };
     })
 
 pub sheet-lines : {r : Reader} {s : Sheet} {r′ : Reader} → sheet r ≡ found s r′ → Lines r s
@@ -100,9 +97,10 @@ module _ {P : ℕ → Type 0} {Q : (A : Type 0) → Parser A → Type 0} (c : Co
   pub sheet-by : ((E : Declared) (is : List Item) → W (fromProcedures E is)) → W sheet
   unfolding sheet
   sheet-by rest =
-      back _ _ _ (line-by c (bytes "edition=") 1 2) λ edition.
+      back _ _ _ (line-by c (bytes "edition=") 1 3) λ edition.
       back _ _ _ (line-by c (bytes "scalars=") 0 64) λ scalars.
       back _ _ _ (line-by c (bytes "locals=") 0 32) λ locals.
       back _ _ _ (arrays-by c scalars) λ arrays.
-      let E : Declared = record { edition = edition; scalars = scalars; locals = locals; arrays = arrays; procedures = []; parameters = 0 } in
+      back _ _ _ (ranges-by c edition (scalars + length arrays)) λ ranges.
+      let E : Declared = beginning edition scalars locals arrays ranges in
       back _ _ _ (given-by c E) λ given. rest E given

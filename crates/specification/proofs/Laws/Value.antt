@@ -37,7 +37,7 @@ computed-tells ρ (fault κ) = tt
 
 module _ (D : Declared) (S : Scope) (ρ : Env) (α : Valuation) (a : Agree D S ρ α) where
   inArray-tells : (b : Bool) (c : ℕ) → (T b → c < cells D) → Tells ρ (inArray D α b c) (pick b (just (ρ (cell c))) none)
-  inArray-tells true c h = look-tells ρ (cell c) (α (cell c)) (a (cell c) (h tt))
+  inArray-tells true c h = look-tells ρ (cell c) (α (cell c)) (a .1 (cell c) (h tt))
   inArray-tells false c h = tt
 
   element-tells :
@@ -63,8 +63,8 @@ module _ (D : Declared) (S : Scope) (ρ : Env) (α : Valuation) (a : Agree D S �
   side-tells : (t : Term) → OkTerm D S t → Tells ρ (side D α t) (valueOf D ρ t)
   unfolding side valueOf OkTerm
   side-tells (constant z) h = refl
-  side-tells (scalarAt c) h = look-tells ρ (cell c) (α (cell c)) (a (cell c) (scalar-declared D c h))
-  side-tells (localAt l) h = look-tells ρ (local l) (α (local l)) (a (local l) h)
+  side-tells (scalarAt c) h = look-tells ρ (cell c) (α (cell c)) (a .1 (cell c) (scalar-declared D c h))
+  side-tells (localAt l) h = look-tells ρ (local l) (α (local l)) (a .1 (local l) h)
   side-tells (parameter n) h = tt
   side-tells (elementAt n t) h = element-tells n (side D α t) (valueOf D ρ t) (side-tells t (h .1))
   side-tells (apply o s t) h =
