@@ -1,21 +1,25 @@
--- What the tables hold: which term or formula stands from a token on, the values of cells and locals, the arrays' first cells and the
--- procedures. A walk leans on these and never looks at the sheet's bytes. Meaning is given by recursion on the term or formula.
+-- What the tables hold: which term or formula stands from a token on, the values of cells and locals, the arrays' first cells, the
+-- procedures and the ranges. A walk leans on these and never looks at the sheet's bytes. Meaning is given by recursion on the term or formula.
 -- Assumes nothing.
 use Prim.Native.Nat.{ℕ, suc, _+_, _<_, _≤_, max}
 use mathlib.Core.Path.{_≡_}
 use mathlib.Core.List.{List, [], _∷_}
 use lib.ListN.{length, getD}
+use lib.Dec.{T}
+use lib.IntN.{ℤ}
 use Rattle.specification.specs.Lists.{Each}
-use Rattle.specification.specs.Lines.{Declared, firstOf, procedureOf}
+use Rattle.specification.specs.Number.{in32}
+use Rattle.specification.specs.Lines.{Declared, cells, firstOf, procedureOf, inRange}
 use Rattle.specification.specs.Ast.{Term, constant, scalarAt, localAt, parameter, elementAt, apply, Formula, truth, and, or, imp, neg, eq, compare, ex, some, all, call}
 use Rattle.specification.specs.Place.{Place, cell, local}
 use Rattle.specification.specs.Value.{Slot, empty, full, Valuation}
 use Rattle.values.specs.Word.{biased}
 use Rattle.tables.specs.Layout.{maxTokens, maxCells, maxLocals, maxArrays, maxNesting, maxParameters, cellSlot, localSlot, firstSlot}
 pub use Rattle.tables.specs.Layout.{codeAt, operandAt, endAt, procAt}
+use Rattle.tables.specs.Ranges.{allows}
 use Rattle.tables.specs.Codes.{trueCode, andCode, orCode, impCode, notCode, eqCode, exCode, someCode, allCode, callCode, constantCode, scalarCode, localCode, arrayCode, parameterCode, procedureCode}
 use Rattle.sheet.specs.Codes.{relCode, opCode}
-use Rattle.sheet.specs.Tables.{Words}
+use Rattle.sheet.specs.Tables.{Words, markOf}
 
 -- ---- tokens
 
@@ -128,10 +132,14 @@ pub record Holds (w : Words) (α : Valuation) : Type 0 where
   pub cells : (c : ℕ) → c < maxCells → SlotAt w (cellSlot c) (α (cell c))
   pub locals : (l : ℕ) → l < maxLocals → SlotAt w (localSlot l) (α (local l))
 
--- the second word of a slot without a value is zero
-pub record Unmarked (w : Words) (α : Valuation) : Type 0 where
-  pub cells : (c : ℕ) → c < maxCells → α (cell c) ≡ empty → getD w (suc (cellSlot c)) 0 ≡ 0
+-- the second word of a slot without a value is the cell's mark, and zero for a local
+pub record Marked (w : Words) (D : Declared) (α : Valuation) : Type 0 where
+  pub cells : (c : ℕ) → c < maxCells → α (cell c) ≡ empty → getD w (suc (cellSlot c)) 0 ≡ markOf D c
   pub locals : (l : ℕ) → l < maxLocals → α (local l) ≡ empty → getD w (suc (localSlot l)) 0 ≡ 0
+
+-- the words hold the ranges: a cell's mark allows the values of its range
+abbrev pub RangesAt : Words → Declared → Type 0
+RangesAt w D = (c : ℕ) → c < cells D → (v : ℤ) → T (in32 v) → allows w (markOf D c) (biased v) ≡ inRange D c v
 
 -- the words hold the arrays' first cells, and the end of the cells after them
 abbrev pub ArraysAt : Words → Declared → Type 0

@@ -10,8 +10,9 @@ use Rattle.specification.specs.Bytes.{Bytes, pick, feed, colon, point}
 use Rattle.specification.specs.Parser.{Read, refused, found, Parser, give, refuse, require, next, mark, _>>=_, _>>_}
 use Rattle.specification.specs.Lines.{index, value, Declared, cells, CellName, scalar, element}
 use Rattle.specification.specs.Given.{Item, items, givenLine}
-use Rattle.values.specs.Word.{signed}
-use Rattle.tables.specs.Layout.{maxArrays, maxCells, firstAt}
+use Rattle.values.specs.Word.{biased, signed}
+use Rattle.tables.specs.Layout.{maxArrays, maxCells, firstAt, valueAt}
+use Rattle.tables.specs.Ranges.{allows}
 use Rattle.sheet.specs.declared.given.Name.{Name}
 use Rattle.sheet.specs.declared.given.Name.the-variants as names
 use Rattle.sheet.specs.declared.given.Cell.{Cell}
@@ -22,8 +23,8 @@ use Rattle.sheet.specs.declared.given.Given.{Given}
 use Rattle.sheet.specs.declared.given.Given.the-variants as given
 use Rattle.sheet.specs.Codes.{indexWord}
 use Rattle.sheet.specs.Reader.{lineAt}
-use Rattle.sheet.specs.Tables.{Words, laidGiven}
-use Rattle.sheet.specs.Held.{ArraysAt}
+use Rattle.sheet.specs.Tables.{Words, markOf, laidGiven}
+use Rattle.sheet.specs.Held.{ArraysAt, RangesAt}
 use Rattle.sheet.specs.Answers.{mapped, heldIndex}
 
 -- ---- names
@@ -61,14 +62,14 @@ elementIn arrays w a i =
 abbrev pub itemOf : ℕ → ℤ → Item
 itemOf c z = record { cell = c; value = z }
 
--- 7 at the item's place, then 10
-abbrev pub judged : ℕ → ℕ → Cell → ℤ → Parser Item
-judged p floor cell.Undeclared z = refuse 7 p
-judged p floor (cell.Is c) z = require (leb floor c) 10 p (give (itemOf c z))
+-- 7 at the item's place, then 10, then 13 by the cell's mark
+abbrev pub judged : ℕ → ℕ → Words → Cell → ℤ → Parser Item
+judged p floor w cell.Undeclared z = refuse 7 p
+judged p floor w (cell.Is c) z = require (leb floor c) 10 p (require (allows w (valueAt w c) (biased z)) 13 p (give (itemOf c z)))
 
 -- the rest of an item after its name
-unfoldable pub afterName : ℕ → ℕ → Cell → Parser Item
-afterName p floor c = mark colon >> (value >>= judged p floor c)
+unfoldable pub afterName : ℕ → ℕ → Words → Cell → Parser Item
+afterName p floor w c = mark colon >> (value >>= judged p floor w c)
 
 abbrev pub entryRead : Bytes → Entry → Read Item
 entryRead s (entry.Refused k p) = refused k p
@@ -86,6 +87,12 @@ pub record Declares (D : Declared) (scalars arrays : ℕ) (w : Words) : Type 0 w
 pub record Arranged (scalars arrays : ℕ) (w : Words) : Type 0 where
   pub declared : Declared
   pub declares : Declares declared scalars arrays w
+
+-- and the ranges, with the marks of the cells from the floor on, which have no value yet
+pub record Vacant (D : Declared) (scalars arrays floor : ℕ) (w : Words) : Type 0 where
+  pub declares : Declares D scalars arrays w
+  pub ranges : RangesAt w D
+  pub marks : (c : ℕ) → floor ≤ c → c < cells D → valueAt w c ≡ markOf D c
 
 -- ---- the line's answer
 

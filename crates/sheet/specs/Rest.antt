@@ -1,15 +1,16 @@
 -- The rest of the sheet after some of its lines, as a reader of its own: from each line on the specification reads as this says.
 -- Assumes nothing.
-use Prim.Native.Nat.{ℕ, zero, suc}
+use Prim.Native.Nat.{ℕ, zero, suc, _+_}
 use mathlib.Core.List.{List, [], _∷_, _++_}
+use lib.ListN.{length}
 use lib.Dec.{eqb}
 use Rattle.specification.specs.Bytes.{bytes, feed, pick}
 use Rattle.specification.specs.Parser.{Parser, andThen, give, _>>=_, _>>_, mark, key, finish}
-use Rattle.specification.specs.Lines.{line, Declared, arraysLine}
+use Rattle.specification.specs.Lines.{line, Range, Declared, arraysLine, rangesLine}
 use Rattle.specification.specs.Given.{Item, givenLine}
 use Rattle.specification.specs.Ast.{Formula}
 use Rattle.specification.specs.Formula.{formula}
-use Rattle.specification.specs.Sheet.{withParameters, withProcedures, procedureLines, mostProcedures, Sheet}
+use Rattle.specification.specs.Sheet.{withParameters, withProcedures, procedureLines, mostProcedures, Sheet, beginning}
 use Rattle.tables.specs.Layout.{maxScalars, maxLocals, maxNesting}
 use Rattle.sheet.specs.declared.formula.Limits.{Limits}
 use Rattle.sheet.specs.FormulaLine.{lineFormula, formulaRest}
@@ -40,24 +41,21 @@ fromGiven D =
     (let E = withProcedures Ps D in
     key (bytes "formula=") >> (formula E maxNesting [] >>= λ F. mark feed >> (finish >> give (sheetOf E given F))))
 
--- from the arrays on
-abbrev pub declaring : Limits → List ℕ → Declared
-declaring d ns = record {
-  edition = d .edition;
-  scalars = d .scalars;
-  locals = d .locals;
-  arrays = ns;
-  procedures = [];
-  parameters = 0;
-}
+-- from the ranges on
+abbrev pub declaring : Limits → List ℕ → List Range → Declared
+declaring d ns rs = beginning (d .edition) (d .scalars) (d .locals) ns rs
 
+abbrev pub fromRanges : Limits → List ℕ → Parser Sheet
+fromRanges d ns = rangesLine (d .edition) (d .scalars + length ns) >>= λ rs. fromGiven (declaring d ns rs)
+
+-- from the arrays on
 abbrev pub fromArrays : Limits → Parser Sheet
-fromArrays d = arraysLine (d .scalars) >>= λ ns. fromGiven (declaring d ns)
+fromArrays d = arraysLine (d .scalars) >>= fromRanges d
 
 -- the line with one number that comes k-th, and what is declared with it
 abbrev pub numberOf : ℕ → Parser ℕ
 numberOf k =
-    pick (eqb k 0) (line (bytes "edition=") 1 2)
+    pick (eqb k 0) (line (bytes "edition=") 1 3)
     (pick (eqb k 1) (line (bytes "scalars=") 0 maxScalars)
     (line (bytes "locals=") 0 maxLocals))
 

@@ -1,15 +1,19 @@
 -- The tables that the reader leaves in the work words (tables/specs/Layout.antt has the layout): tokens with the ends of their subtrees, the
--- cells' given values, the arrays' first cells, and the procedures; every other word is zero. Assumes nothing.
+-- cells' given values, and the marks of the others, the arrays' first cells, the procedures and the ranges; every other word is zero.
+-- Assumes nothing.
 use Prim.Native.Nat.{ℕ, zero, suc, _+_, _-_}
 use mathlib.Core.List.{List, [], _∷_, _++_}
 use lib.ListN.{length, set, replicate}
-use Rattle.specification.specs.Lines.{Declared, firstOf}
+use lib.Dec.{ltb}
+use Rattle.specification.specs.Bytes.{pick}
+use Rattle.specification.specs.Lines.{Range, Declared, cells, firstOf, lengthOf, rangeNumber}
 use Rattle.specification.specs.Given.{Item}
 use Rattle.specification.specs.Ast.{Procedure}
 use Rattle.specification.specs.Sheet.{Sheet}
 use Rattle.values.specs.Word.{biased}
-use Rattle.tables.specs.Layout.{maxArrays, cellSlot, firstSlot, procSlot, tokenSlot}
+use Rattle.tables.specs.Layout.{maxArrays, cellSlot, firstSlot, procSlot, rangeSlot, tokenSlot}
 pub use Rattle.tables.specs.Layout.{Words}
+use Rattle.tables.specs.Ranges.{unranged, rangeMark}
 use Rattle.sheet.specs.declared.Token.{Token}
 use Rattle.sheet.specs.Codes.{formulaTokens, proceduresTokens}
 use Rattle.sheet.specs.Sorts.{arity}
@@ -23,6 +27,42 @@ laidFirsts D a (suc n) w = laidFirsts D (suc a) n (set w (firstSlot a) (firstOf 
 
 unfoldable pub laidArrays : Declared → Words → Words
 laidArrays D w = laidFirsts D 0 (suc maxArrays) w
+
+-- ---- ranges
+
+-- the first cell of range k, and how many cells have it: a scalar, or the elements of an array
+unfoldable pub rangeFirst : Declared → ℕ → ℕ
+rangeFirst D k = pick (ltb k (D .scalars)) k (firstOf D (k - D .scalars))
+
+unfoldable pub rangeWidth : Declared → ℕ → ℕ
+rangeWidth D k = pick (ltb k (D .scalars)) 1 (lengthOf D (k - D .scalars))
+
+-- n cells from the c-th on have this mark
+unfoldable pub laidMarks : ℕ → ℕ → ℕ → Words → Words
+laidMarks mark c zero w = w
+laidMarks mark c (suc n) w = laidMarks mark (suc c) n (set w (cellSlot c + 1) mark)
+
+-- range k: the words of its ends, and the marks of its cells
+abbrev pub laidRange : Declared → ℕ → Range → Words → Words
+laidRange D k r w =
+    laidMarks (rangeMark k) (rangeFirst D k) (rangeWidth D k) (set (set w (rangeSlot k) (biased (r .low))) (rangeSlot k + 1) (biased (r .high)))
+
+-- from the k-th on
+unfoldable pub laidRanges : Declared → ℕ → List Range → Words → Words
+laidRanges D k [] w = w
+laidRanges D k (r ∷ rs) w = laidRanges D (suc k) rs (laidRange D k r w)
+
+-- the mark of a cell: that of its range, where the sheet has ranges
+abbrev pub markFrom : List Range → ℕ → ℕ
+markFrom [] k = unranged
+markFrom (r ∷ rs) k = rangeMark k
+
+unfoldable pub markOf : Declared → ℕ → ℕ
+markOf D c = pick (ltb c (cells D)) (markFrom (D .ranges) (rangeNumber D c)) unranged
+
+-- arrays and ranges
+abbrev pub laidCells : Declared → Words → Words
+laidCells D w = laidRanges D 0 (D .ranges) (laidArrays D w)
 
 -- ---- given values
 
@@ -60,7 +100,7 @@ laidEnds i (t ∷ ts) w = laidEnds (suc i) ts (set w (tokenSlot i + 2) (suc i + 
 
 -- without tokens: of what is declared and the given items
 abbrev pub declaredTables : Declared → List Item → ℕ → Words
-declaredTables D is n = laidProcs 0 0 (D .procedures) (laidGiven is (laidArrays D (replicate n 0)))
+declaredTables D is n = laidProcs 0 0 (D .procedures) (laidGiven is (laidCells D (replicate n 0)))
 
 -- with a list of tokens
 abbrev pub tablesOf : Declared → List Item → List Token → ℕ → Words

@@ -9,6 +9,7 @@ pub mod Names
 pub mod Cells
 -- of the reading
 pub mod Scope
+pub mod Range
 pub mod Elements
 pub mod Allowed
 pub mod Outside
@@ -25,12 +26,12 @@ pub mod ReadTerm
 pub mod ReadFormula
 pub mod ReadProcedures
 pub mod ReadSheet
+pub mod Ranges
 pub mod Bounds
 pub mod ReadBounds
 pub mod Steady
 -- of the tree and the plain reading
 pub mod Place
-pub mod Range
 pub mod Value
 pub mod Lasting
 pub mod Inner

@@ -15,7 +15,7 @@ pub record SameSlots (w w' : Words) : Type 0 where
 pub record SameNodes (n : ℕ) (w w' : Words) : Type 0 where
   pub same : (j : ℕ) → pathAt ≤ j → j < nodeSlot n → getD w' j 0 ≡ getD w j 0
 
--- what every step of a walk keeps: tokens, the arrays' first cells and the procedures (`firsts`), and the nodes below n
+-- what every step of a walk keeps: tokens, the arrays' first cells, the procedures and the ranges (`firsts`), and the nodes below n
 pub record Kept (n : ℕ) (w w' : Words) : Type 0 where
   pub tokens : SameTokens w w'
   pub firsts : (j : ℕ) → firstsAt ≤ j → j < duesAt → getD w' j 0 ≡ getD w j 0

@@ -1,14 +1,14 @@
 -- The layout of the work words: where each table begins, how many entries it may have, and the words of each entry.
 --
 --   tokens     4 words each: code, operand, the token after its subtree, spare
---   cells      2 words each, a slot: whether it has a value, and the value's word; without a value its mark (the walker's specs/Site.antt)
+--   cells      2 words each, a slot: whether it has a value, and the value's word; without a value its mark (specs/Ranges.antt)
 --   locals     2 words each, the same
 --   firsts     the first cell of each array, and the end of the cells after the last
 --   procs      2 words each, for a procedure: the first token of its formula and the number of its parameters
+--   ranges     2 words each, of scalars and then of arrays: the words of the lowest and the highest value
 --   dues       3 words each: what is due while a formula is read; afterwards the results of terms that are being valued
 --   arguments  2 words for each procedure and parameter: the result of a parameter that is valued again for each atom, its tag and its word
 --   chain      pointers to the calls that are active where a term is valued, the innermost first
---   ranges     2 words each, room for the ranges of scalars and arrays: the lowest and the highest value
 --   spare      up to the path
 --   path       12 words for each node (specs/Node.antt)
 --
@@ -38,6 +38,9 @@ maxLocals = 32
 
 abbrev pub maxArrays : ℕ
 maxArrays = 16
+
+abbrev pub maxRanges : ℕ
+maxRanges = maxScalars + maxArrays
 
 abbrev pub maxNesting : ℕ
 maxNesting = 64
@@ -92,28 +95,28 @@ firstsAt = 5184
 abbrev pub procsAt : ℕ
 procsAt = 5201
 
+abbrev pub rangesAt : ℕ
+rangesAt = 5233
+
 abbrev pub duesAt : ℕ
-duesAt = 5233
+duesAt = 5393
 
 -- the last result of a term stands outside the words, so the first that stands in them is the second
 abbrev pub resultsAt : ℕ
 resultsAt = duesAt + 2
 
 abbrev pub duesEnd : ℕ
-duesEnd = 5635
+duesEnd = 5795
 
 abbrev pub argumentsAt : ℕ
-argumentsAt = 5635
+argumentsAt = 5795
 
 abbrev pub chainAt : ℕ
-chainAt = 5891
+chainAt = 6051
 
 -- the end of the words that the valuing of terms may change, which begin with the dues
 abbrev pub valuedEnd : ℕ
-valuedEnd = 5907
-
-abbrev pub rangesAt : ℕ
-rangesAt = 5907
+valuedEnd = 6067
 
 abbrev pub spareAt : ℕ
 spareAt = 6067
@@ -138,6 +141,9 @@ firstSlot a = firstsAt + a
 abbrev pub procSlot : ℕ → ℕ
 procSlot k = procsAt + procWords * k
 
+abbrev pub rangeSlot : ℕ → ℕ
+rangeSlot k = rangesAt + rangeWords * k
+
 abbrev pub dueSlot : ℕ → ℕ
 dueSlot i = duesAt + dueWords * i
 
@@ -155,7 +161,7 @@ nodeSlot d = pathAt + nodeWords * d
 abbrev pub nodeEnd : ℕ → ℕ
 nodeEnd d = pathAt + nodeWords + nodeWords * d
 
--- ---- the words of tokens, cells, arrays, procedures and their arguments
+-- ---- the words of tokens, cells, arrays, procedures, ranges and arguments
 
 abbrev pub codeAt : Words → ℕ → ℕ
 codeAt w i = getD w (tokenSlot i) 0
@@ -187,7 +193,14 @@ procAt w k = getD w (procSlot k) 0
 abbrev pub parametersAt : Words → ℕ → ℕ
 parametersAt w k = getD w (procSlot k + 1) 0
 
--- the tag and the word of the result of its parameter n
+-- the words of the lowest and the highest value of range k
+abbrev pub lowestAt : Words → ℕ → ℕ
+lowestAt w k = getD w (rangeSlot k) 0
+
+abbrev pub highestAt : Words → ℕ → ℕ
+highestAt w k = getD w (rangeSlot k + 1) 0
+
+-- the tag and the word of the result of parameter n of procedure k
 abbrev pub argumentTagAt : Words → ℕ → ℕ → ℕ
 argumentTagAt w k n = getD w (argumentSlot k n) 0
 

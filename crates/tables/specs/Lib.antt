@@ -3,3 +3,4 @@ pub mod Codes
 pub mod Node
 pub mod Locals
 pub mod Kept
+pub mod Ranges
