@@ -23,13 +23,13 @@ use Rattle.sheet.specs.declared.whole.Progress.{Progress}
 use Rattle.sheet.specs.declared.whole.Progress.the-variants as progress
 use Rattle.sheet.specs.Codes.{formulaTokens, proceduresTokens}
 use Rattle.sheet.specs.Reader.{readerAt, lineAt}
-use Rattle.sheet.specs.Tables.{Words, laidArrays, laidGiven, laidProcs, laidTokens, declaredTables, tables}
+use Rattle.sheet.specs.Tables.{Words, laidCells, laidGiven, laidProcs, laidTokens, declaredTables, tables}
 use Rattle.sheet.specs.Items.{GivenFound, GivenDone}
 use Rattle.sheet.specs.Stack.{Beside}
 use Rattle.sheet.specs.Ends.{tokensIn}
 use Rattle.sheet.specs.FormulaLine.{lineFormula, formulaRest, begin, Laid, LineRead}
 use Rattle.sheet.specs.Rest.{sheetOf, fromFormula, fromProcedures, fromGiven}
-use Rattle.sheet.specs.Whole.{Headed, Arrayed, Filled, Went, leftLines, reached}
+use Rattle.sheet.specs.Whole.{Headed, Ranged, Filled, Went, leftLines, reached}
 use Rattle.sheet.proofs.Left.{then-same}
 use Rattle.sheet.proofs.Laid.{tokens-length}
 use Rattle.sheet.proofs.Regions.{given-length}
@@ -74,7 +74,7 @@ procedures-sheet : (k : ℕ) (D : Declared) (is : List Item) (r : Reader) →
     fromProcedures k D is r
 procedures-sheet k D is r = then-same (λ Ps r₁. formula-sheet (withProcedures Ps D) is r₁) (procedureLines k D r)
 
-module _ (s : Bytes) (n : ℕ) (d : Limits) (at : ℕ) (w : Words) (h : Arrayed s n d at w) (w₁ : Words) (r : Given) (g : GivenDone (h .declared) s at w w₁ r) where
+module _ (s : Bytes) (n : ℕ) (d : Limits) (at : ℕ) (w : Words) (h : Ranged s n d at w) (w₁ : Words) (r : Given) (g : GivenDone (h .declared) s at w w₁ r) where
   pub given-refused : (k p : ℕ) → r ≡ given.Refused k p → Went 5 s n (progress.Refused k p) w₁
   unfolding fromGiven
   given-refused k p q =
@@ -94,7 +94,7 @@ module _ (s : Bytes) (n : ℕ) (d : Limits) (at : ℕ) (w : Words) (h : Arrayed 
           ap mostProcedures (h .counts .edition) ∙ omega (arith, z)
 
       base : Words
-      base = laidGiven (f .items) (laidArrays (h .declared) (replicate n 0))
+      base = laidGiven (f .items) (laidCells (h .declared) (replicate n 0))
 
       same : w₁ ≡ base
       same = f .laid ∙ ap (laidGiven (f .items)) (h .words)
@@ -182,7 +182,7 @@ module _ (s : Bytes) (n k : ℕ) (p : Progress) (w : Words) (h : Went k s n p w)
     pub at-arrays : k ≡ 3 → Headed 3 s n d (x .at) w
     at-arrays q = as-line s n (progress.Read d x) w q goes-on
 
-    pub at-given : k ≡ 4 → Arrayed s n d (x .at) w
+    pub at-given : k ≡ 4 → Ranged s n d (x .at) w
     at-given q = as-line s n (progress.Read d x) w q goes-on
 
     pub at-procedures : k ≡ 5 → Went 5 s n (progress.Read d x) w

@@ -1,33 +1,38 @@
--- The first four lines in order, from the answers of the code that reads each: what is read after one line more. Assumes nothing.
-use Prim.Native.Nat.{ℕ, zero, suc, _+_, _≤_}
+-- The lines before the given values in order, from the answers of the code that reads each: what is read after one line more. Assumes nothing.
+use Prim.Native.Nat.{ℕ, zero, suc, _+_, _≤_, _<_}
 use native.Mathlib.Omega.{arith}
 use mathlib.Core.Path.{_≡_, refl, sym, ap, subst, _∙_}
 use mathlib.Core.Bool.{true, false}
-use mathlib.Core.List.{List}
-use lib.ListN.{length, replicate, length-replicate}
-use lib.Dec.{eqb}
-use Rattle.specification.specs.Bytes.{Bytes, bytes, feed}
+use mathlib.Core.List.{List, []}
+use lib.ListN.{length, getD, replicate, length-replicate}
+use lib.Dec.{ltb, eqb}
+use Rattle.specification.specs.Bytes.{Bytes, bytes, pick, feed}
 use Rattle.specification.specs.Parser.{Reader, Read, found, andThen}
-use Rattle.specification.specs.Lines.{line, Declared}
+use Rattle.specification.specs.Lines.{line, Range, Declared, rangesLine}
 use Rattle.specification.specs.Sheet.{Sheet, sheet}
 use Rattle.specification.proofs.Laws.Parser.{of-found}
-use Rattle.specification.proofs.Laws.ReadLines.{line-post}
-use Rattle.tables.specs.Layout.{maxArrays, maxScalars, maxLocals, pathAt}
+use Rattle.specification.proofs.Laws.ReadLines.{line-post, ranges-line-post}
+use Rattle.tables.specs.Layout.{maxArrays, maxCells, maxScalars, maxLocals, cellSlot, firstSlot, pathAt}
 use Rattle.sheet.specs.declared.lines.Count.{Count}
 use Rattle.sheet.specs.declared.lines.Count.the-variants as count
 use Rattle.sheet.specs.declared.arrays.Arrays.{Arrays}
 use Rattle.sheet.specs.declared.arrays.Arrays.the-variants as arrays
+use Rattle.sheet.specs.declared.ranges.Ranges.{Ranges}
+use Rattle.sheet.specs.declared.ranges.Ranges.the-variants as ranges
 use Rattle.sheet.specs.declared.formula.Limits.{Limits}
 use Rattle.sheet.specs.declared.formula.Reached.{Reached}
 use Rattle.sheet.specs.declared.whole.Progress.{Progress}
 use Rattle.sheet.specs.declared.whole.Progress.the-variants as progress
 use Rattle.sheet.specs.Reader.{lineAt}
-use Rattle.sheet.specs.Tables.{Words, laidArrays}
+use Rattle.sheet.specs.Tables.{Words, laidArrays, laidRanges}
 use Rattle.sheet.specs.Answers.{numberTo, countRead}
 use Rattle.sheet.specs.Firsts.{ArraysFound, ArraysDone}
-use Rattle.sheet.specs.Rest.{fromGiven, declaring, fromArrays, fromLocals, fromScalars, numberOf, limits, withNumber}
-use Rattle.sheet.specs.Whole.{NumberRead, Headed, Went, reached, unread}
-use Rattle.sheet.proofs.Regions.{firsts-length}
+use Rattle.sheet.specs.Items.{Declares, Vacant}
+use Rattle.sheet.specs.RangeLine.{RangesFound, RangesDone}
+use Rattle.sheet.specs.Rest.{fromGiven, declaring, fromRanges, fromArrays, fromLocals, fromScalars, numberOf, limits, withNumber}
+use Rattle.sheet.specs.Whole.{NumberRead, Headed, Arrayed, Ranged, Went, reached, unread}
+use Rattle.sheet.proofs.Regions.{zeros, firsts-length, firsts-other}
+use Rattle.sheet.proofs.Marks.{span-limit, ranges-length, ranges-other, Fitting, marks-held, ranges-held}
 use Rattle.sheet.proofs.Declares.{arrays-few, found-declares}
 
 -- before the first line
@@ -39,7 +44,7 @@ at-start s n w e l = record { rest = refl; scalars = omega arith; locals = omega
 
 -- which it is
 module _ (k : ℕ) (r : Reader) where
-  pub first-line : eqb k 0 ≡ true → numberTo (bytes "edition=") 1 2 feed r ≡ numberOf k r
+  pub first-line : eqb k 0 ≡ true → numberTo (bytes "edition=") 1 3 feed r ≡ numberOf k r
   unfolding line
   first-line e = rw e
 
@@ -117,28 +122,26 @@ module _ (s : Bytes) (n : ℕ) (d : Limits) (w : Words) where
 
 module _ (s : Bytes) (n : ℕ) (d : Limits) (at : ℕ) (w : Words) (h : Headed 3 s n d at w) (w₁ : Words) (r : Arrays) (a : ArraysDone s at (d .scalars) w w₁ r) where
   abbrev onArrays : Read (List ℕ) → Read Sheet
-  onArrays x = andThen (λ ns. fromGiven (declaring d ns)) x
+  onArrays x = andThen (fromRanges d) x
 
   pub arrays-refused : (k p : ℕ) → r ≡ arrays.Refused k p → Went 4 s n (progress.Refused k p) w₁
   arrays-refused k p q =
       let x : ArraysDone s at (d .scalars) w w₁ (arrays.Refused k p) = rw q at a in
       (h .rest ∙ ap onArrays (x .0), x .1 ∙ headed-long s n d w 3 at h)
 
-  pub arrays-found : (m end c : ℕ) (x : Reached) → r ≡ arrays.Read m end c → x ≡ reached c →
-      Went 4 s n (progress.Read (limits (d .edition) (d .scalars) (d .locals) m (d .procedures) (d .parameters)) x) w₁
+  pub arrays-found : (m end c : ℕ) → r ≡ arrays.Read m end c →
+      Arrayed s n (limits (d .edition) (d .scalars) (d .locals) m (d .procedures) (d .parameters)) c w₁
   unfolding laidArrays
-  arrays-found m end c x q there =
+  arrays-found m end c q =
       let f : ArraysFound s at (d .scalars) w (record { arrays = m; end = end; words = w₁ }) c = rw q at a in
       let long : length w ≡ n = headed-long s n d w 3 at h in
-      let D : Declared = declaring d (f .lengths) in
+      let D : List Range → Declared = declaring d (f .lengths) in
       let few : length (f .lengths) ≤ maxArrays = arrays-few (d .scalars) (lineAt s at) (f .lengths) (lineAt s c) (f .read) .0 in
-      let laid : w₁ ≡ laidArrays D w = f .laid D refl refl in
+      let laid : (rs : List Range) → w₁ ≡ laidArrays (D rs) w = λ rs. f .laid (D rs) refl refl in
       record {
-        declared = D;
-        rest = h .rest ∙ ap onArrays (f .read) ∙ ap (λ y. fromGiven D (lineAt s (y .at))) (sym there);
-        none = refl;
-        plain = refl;
-        counts = record {
+        lengths = f .lengths;
+        rest = h .rest ∙ ap onArrays (f .read);
+        counts = λ rs. record {
           edition = refl;
           scalars = refl;
           locals = refl;
@@ -148,8 +151,99 @@ module _ (s : Bytes) (n : ℕ) (d : Limits) (at : ℕ) (w : Words) (h : Headed 3
           limited = record { scalars = h .scalars; locals = h .locals; arrays = few; procedures = omega arith; each = λ K. omega arith; parameters = omega arith };
         };
         small = record { scalars = h .scalars; locals = h .locals; arrays = omega (arith, few, f .many); procedures = omega (arith, h .procedures) };
-        declares = found-declares f (omega (arith, h .scalars)) (omega (arith, long, h .enough)) D refl refl;
-        words = laid ∙ ap (laidArrays D) (h .words);
-        long = ap length laid ∙ firsts-length D 0 (suc maxArrays) w ∙ long;
+        declares = λ rs. found-declares f (omega (arith, h .scalars)) (omega (arith, long, h .enough)) (D rs) refl refl;
+        words = λ rs. laid rs ∙ ap (laidArrays (D rs)) (h .words);
+        long = ap length (laid []) ∙ firsts-length (D []) 0 (suc maxArrays) w ∙ long;
         enough = h .enough;
       }
+
+-- over as many words
+pub arrayed-long : {s : Bytes} {n m : ℕ} {d : Limits} {at : ℕ} {w : Words} → n ≡ m → Arrayed s n d at w → Arrayed s m d at w
+arrayed-long {s} {n} {m} {d} {at} {w} e h = subst (λ k. Arrayed s k d at w) e h
+
+-- ---- the ranges
+
+module _ (s : Bytes) (n : ℕ) (d : Limits) (at : ℕ) (w : Words) (h : Arrayed s n d at w) (w₁ : Words) (r : Ranges)
+    (a : RangesDone (d .edition) (d .scalars) (d .arrays) s at w w₁ r) where
+  abbrev onRanges : Read (List Range) → Read Sheet
+  onRanges x = andThen (λ rs. fromGiven (declaring d (h .lengths) rs)) x
+
+  next-ranges : sheet (lineAt s 0) ≡ onRanges (rangesLine (d .edition) (d .scalars + d .arrays) (lineAt s at))
+  next-ranges = h .rest ∙ ap (λ k. onRanges (rangesLine (d .edition) (d .scalars + k) (lineAt s at))) (h .counts [] .arrays)
+
+  pub ranges-refused : (k p : ℕ) → r ≡ ranges.Refused k p → Went 4 s n (progress.Refused k p) w₁
+  ranges-refused k p q =
+      let x : RangesDone (d .edition) (d .scalars) (d .arrays) s at w w₁ (ranges.Refused k p) = rw q at a in
+      (next-ranges ∙ ap onRanges (x .0), x .1 ∙ h .long)
+
+  module _ (c : ℕ) (f : RangesFound (d .edition) (d .scalars) (d .arrays) s at w w₁ c) where
+    abbrev rs : List Range
+    rs = f .ranges
+
+    abbrev D : Declared
+    D = declaring d (h .lengths) rs
+
+    fits : Fitting D
+    fits =
+        let post = of-found (ranges-line-post (d .edition) (d .scalars + d .arrays) (lineAt s at)) (f .read) in
+        record {
+          many = post .many ∙ ap (λ k. pick (ltb (d .edition) 3) 0 (d .scalars + k)) (sym (h .counts rs .arrays));
+          ordered = post .ordered;
+          few = omega (arith, h .small .scalars, h .small .arrays, h .counts rs .arrays);
+          small = h .declares rs .small;
+        }
+
+    laid : w₁ ≡ laidRanges D 0 rs w
+    laid = f .laid D (h .declares rs)
+
+    long : length w₁ ≡ n
+    long = ap length laid ∙ ranges-length D 0 rs w ∙ h .long
+
+    unmarked : (x : ℕ) → x < maxCells → getD w (cellSlot x + 1) 0 ≡ 0
+    unfolding laidArrays
+    unmarked x l =
+        ap (λ v. getD v (cellSlot x + 1) 0) (h .words rs) ∙
+        firsts-other D (cellSlot x + 1) 0 (suc maxArrays) (replicate n 0) (λ m p q. omega arith) ∙ zeros n (cellSlot x + 1)
+
+    -- the arrays' first cells stay
+    declares : Declares D (d .scalars) (d .arrays) (laidRanges D 0 rs w)
+    declares =
+        let e = h .declares rs in
+        record {
+          scalar = e .scalar;
+          many = e .many;
+          few = e .few;
+          small = e .small;
+          held = λ a l. ranges-other D (firstSlot a) 0 rs w (λ i p q. record {
+            low = omega arith;
+            high = omega arith;
+            marks = λ x t. omega (arith, t .ends, span-limit D i, e .small);
+          }) ∙ e .held a l;
+        }
+
+    vacant : Vacant D (d .scalars) (d .arrays) 0 w₁
+    vacant = subst (Vacant D (d .scalars) (d .arrays) 0) (sym laid) (record {
+      declares = declares;
+      ranges = ranges-held D fits w (omega (arith, h .long, h .enough));
+      marks = λ x p q. let l : x < maxCells = omega (arith, q, fits .small) in
+          marks-held D fits w (omega (arith, h .long, h .enough)) x (unmarked x l) l;
+    })
+
+    ranged : Ranged s n d c w₁
+    ranged = record {
+      declared = D;
+      rest = next-ranges ∙ ap onRanges (f .read);
+      none = refl;
+      plain = refl;
+      counts = h .counts rs;
+      small = h .small;
+      vacant = vacant;
+      words = laid ∙ ap (laidRanges D 0 rs) (h .words rs);
+      long = long;
+      enough = h .enough;
+    }
+
+  pub ranges-found : (c : ℕ) (x : Reached) → r ≡ ranges.Read c → x ≡ reached c → Went 4 s n (progress.Read d x) w₁
+  ranges-found c x q there =
+      let f : RangesFound (d .edition) (d .scalars) (d .arrays) s at w w₁ c = rw q at a in
+      subst (λ (y : Reached). Ranged s n d (y .at) w₁) (sym there) (ranged c f)

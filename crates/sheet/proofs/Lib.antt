@@ -16,6 +16,7 @@ pub mod After
 pub mod Laid
 pub mod Held
 pub mod Regions
+pub mod Marks
 pub mod Procs
 pub mod Tables
 pub mod Shallow
@@ -28,6 +29,7 @@ pub mod Answers
 pub mod NumberLines
 pub mod ArrayLine
 pub mod CellNames
+pub mod RangeLine
 pub mod GivenItems
 pub mod GivenLine
 pub mod Declares

@@ -7,7 +7,7 @@ use mathlib.Core.List.{List, [], _∷_, _++_}
 use lib.ListN.{length, getD, set, replicate, length-append, length-set}
 use Rattle.specification.specs.Bytes.{Bytes}
 use Rattle.specification.specs.Parser.{refused, andThen}
-use Rattle.specification.specs.Lines.{Declared, firstOf, procedureOf}
+use Rattle.specification.specs.Lines.{Range, Declared, firstOf, lengthOf, procedureOf}
 use Rattle.specification.specs.Ast.{Procedure}
 use Rattle.specification.specs.Sheet.{withParameters, withProcedures}
 use Rattle.tables.specs.Layout.{maxParameters, maxArrays, procSlot, firstSlot, parametersAt}
@@ -17,7 +17,7 @@ use Rattle.sheet.specs.declared.formula.Reached.{Reached}
 use Rattle.sheet.specs.declared.whole.Progress.the-variants as progress
 use Rattle.sheet.specs.Codes.{formulaTokens, proceduresTokens}
 use Rattle.sheet.specs.Reader.{readerAt}
-use Rattle.sheet.specs.Tables.{Words, laidFirsts, laidArrays, laidGiven, laidProcs, laidTokens, declaredTables}
+use Rattle.sheet.specs.Tables.{Words, laidFirsts, laidArrays, rangeFirst, rangeWidth, laidRange, laidRanges, laidCells, laidGiven, laidProcs, laidTokens, declaredTables}
 use Rattle.sheet.specs.Stack.{Beside}
 use Rattle.sheet.specs.FormulaLine.{lineFormula, Small, Sized, Known, Begin, begin, atBegin, Closed}
 use Rattle.sheet.specs.Rest.{fromProcedures, oneMore, limits}
@@ -36,7 +36,7 @@ module _ (k : ℕ) (s : Bytes) (n : ℕ) (d : Limits) (x : Reached) (w : Words) 
   supplied : (K : ℕ) → K < d .procedures → parametersAt w K ≡ procedureOf (h .declared) K .parameters
   supplied K l =
       let Ps = h .declared .procedures in
-      let given = laidGiven (h .items) (laidArrays (h .declared) (replicate n 0)) in
+      let given = laidGiven (h .items) (laidCells (h .declared) (replicate n 0)) in
       let e : 0 + K ≡ K = omega arith in
       let long : length given ≡ n = sym (procs-length 0 0 Ps given) ∙ declared-length (h .declared) (h .items) n in
       h .words .below (procSlot K + 1) (omega (arith, h .small .procedures)) ∙
@@ -89,15 +89,21 @@ few-more [] P h l (suc K) = omega arith
 few-more (Q ∷ Ps) P h l zero = h zero
 few-more (Q ∷ Ps) P h l (suc K) = few-more Ps P (λ J. h (suc J)) l K
 
--- the arrays stay
+-- the arrays and ranges stay
 firsts-same : (D : Declared) (Ps : List Procedure) (a n : ℕ) (w : Words) → laidFirsts (withProcedures Ps D) a n w ≡ laidFirsts D a n w
 unfolding laidFirsts firstOf
 firsts-same D Ps a zero w = refl
 firsts-same D Ps a (suc n) w = firsts-same D Ps (suc a) n (set w (firstSlot a) (firstOf D a))
 
-arrays-same : (D : Declared) (Ps : List Procedure) (w : Words) → laidArrays (withProcedures Ps D) w ≡ laidArrays D w
+ranges-same : (D : Declared) (Ps : List Procedure) (rs : List Range) (k : ℕ) (w : Words) → laidRanges (withProcedures Ps D) k rs w ≡ laidRanges D k rs w
+unfolding laidRanges rangeFirst rangeWidth firstOf lengthOf
+ranges-same D Ps [] k w = refl
+ranges-same D Ps (r ∷ rs) k w = ranges-same D Ps rs (suc k) (laidRange D k r w)
+
+cells-same : (D : Declared) (Ps : List Procedure) (w : Words) → laidCells (withProcedures Ps D) w ≡ laidCells D w
 unfolding laidArrays
-arrays-same D Ps w = firsts-same D Ps 0 (suc maxArrays) w
+cells-same D Ps w =
+    ranges-same D Ps (D .ranges) 0 (laidArrays (withProcedures Ps D) w) ∙ ap (laidRanges D 0 (D .ranges)) (firsts-same D Ps 0 (suc maxArrays) w)
 
 module _ (s : Bytes) (n : ℕ) (d : Limits) (x : Reached) (m from : ℕ) (w : Words) (h : Begun s n d x m from w) where
   abbrev before : Filled (leftLines d) s n d x w
@@ -158,10 +164,10 @@ module _ (s : Bytes) (n : ℕ) (d : Limits) (x : Reached) (m from : ℕ) (w : Wo
 
     entry-more : declaredTables more (before .items) n ≡ entry base
     entry-more =
-        let given = laidGiven (before .items) (laidArrays (before .declared) (replicate n 0)) in
+        let given = laidGiven (before .items) (laidCells (before .declared) (replicate n 0)) in
         let K : 0 + length Ps ≡ d .procedures = omega (arith, before .counts .procedures) in
         let i : 0 + length T ≡ x .tokens = omega (arith, before .tokens) in
-        ap (λ u. laidProcs 0 0 (Ps ++ (P ∷ [])) (laidGiven (before .items) u)) (arrays-same (before .declared) (Ps ++ (P ∷ [])) (replicate n 0)) ∙
+        ap (λ u. laidProcs 0 0 (Ps ++ (P ∷ [])) (laidGiven (before .items) u)) (cells-same (before .declared) (Ps ++ (P ∷ [])) (replicate n 0)) ∙
         procs-more Ps P 0 0 given ∙ ap (λ k. entered base k (0 + length T) P) K ∙ ap (λ j. entered base (d .procedures) j P) i
 
     tokens-entry : laidTokens 0 (T ++ ts) (entry base) ≡ entry (laidTokens 0 (T ++ ts) base)

@@ -13,13 +13,13 @@ use Rattle.specification.specs.Sheet.{mostProcedures, Sheet, opened, read}
 use Rattle.specification.specs.WellFormed.{WellFormed}
 use Rattle.specification.specs.Outcome.{start}
 use Rattle.specification.proofs.Laws.Parser.{of-found}
-use Rattle.specification.proofs.Laws.LineReaders.{line-by, arrays-by, given-by}
+use Rattle.specification.proofs.Laws.LineReaders.{line-by, arrays-by, ranges-by, given-by}
 use Rattle.specification.proofs.Laws.SheetLines.{firstDeclared, Lines, sheet-lines}
 use Rattle.specification.proofs.Laws.ReadSheet.{read-well-formed}
 use Rattle.tables.specs.Layout.{maxTokens, maxNesting, maxProcs, pathAt}
 use Rattle.sheet.specs.Codes.{formulaTokens, proceduresTokens}
 use Rattle.sheet.specs.Tables.{sheetTokens, formulaStart, tables}
-use Rattle.sheet.specs.Held.{FormulaAt, Shallow, ProceduresAt, Holds, Unmarked, ArraysAt}
+use Rattle.sheet.specs.Held.{FormulaAt, Shallow, ProceduresAt, Holds, Marked, ArraysAt, RangesAt}
 use Rattle.sheet.specs.Numbered.{Numbered}
 use Rattle.sheet.proofs.After.{some-token, formula-subtree}
 use Rattle.sheet.proofs.Stays.{exactly-stays, stays-composed}
@@ -27,7 +27,7 @@ use Rattle.sheet.proofs.Numbered.{renumbered, formula-counts}
 use Rattle.sheet.proofs.Shallow.{formula-shallow}
 use Rattle.sheet.proofs.Procs.{firstToken, few-parameters}
 use Rattle.sheet.proofs.Bodies.{Bodies, Read, bodies-at, procedures-read}
-use Rattle.sheet.proofs.Tables.{held, body-inside, body-held, first-held, arrays-held, start-held, start-unmarked}
+use Rattle.sheet.proofs.Tables.{held, body-inside, body-held, first-held, arrays-held, start-held, start-marked, ranges-held-in}
 
 -- ---- the tokens of a sheet
 
@@ -43,11 +43,12 @@ module _ (b : Bytes) (s : Sheet) (l : Lines (opened b) s) (ok : WellFormed s) wh
   fresh : l .given .after .tokens ≡ 0
   fresh =
       let stays = stays-composed 0 in
-      let e = of-found (line-by stays (bytes "edition=") 1 2 (opened b) refl) (l .edition .is) in
+      let e = of-found (line-by stays (bytes "edition=") 1 3 (opened b) refl) (l .edition .is) in
       let v = of-found (line-by stays (bytes "scalars=") 0 64 (l .edition .after) e) (l .scalars .is) in
       let w = of-found (line-by stays (bytes "locals=") 0 32 (l .scalars .after) v) (l .locals .is) in
       let a = of-found (arrays-by stays (s .declared .scalars) (l .locals .after) w) (l .arrays .is) in
-      of-found (given-by stays (firstDeclared (s .declared)) (l .arrays .after) a) (l .given .is)
+      let r = of-found (ranges-by stays (s .declared .edition) (s .declared .scalars + length (s .declared .arrays)) (l .arrays .after) a) (l .ranges .is) in
+      of-found (given-by stays (firstDeclared (s .declared)) (l .ranges .after) r) (l .given .is)
 
   procedures : Read (s .declared .procedures) (l .procedures .after .tokens)
   unfolding Bodies Each proceduresTokens
@@ -84,7 +85,8 @@ pub record Ready (s : Sheet) (n : ℕ) : Type 0 where
   pub shallow : Shallow maxProcs (s .formula)
   pub procedures : ProceduresAt (tables s n) (s .declared)
   pub values : Holds (tables s n) (start (s .given))
-  pub unmarked : Unmarked (tables s n) (start (s .given))
+  pub marked : Marked (tables s n) (s .declared) (start (s .given))
+  pub ranges : RangesAt (tables s n) (s .declared)
   pub arrays : ArraysAt (tables s n) (s .declared)
 
 bodies-held : (s : Sheet) (n : ℕ) → pathAt ≤ n → FromZero s → WellFormed s → ProceduresAt (tables s n) (s .declared)
@@ -111,6 +113,7 @@ read-ready b s r n e h =
       shallow = c .shallow;
       procedures = bodies-held s n h c ok;
       values = start-held s n h (c .few) ok;
-      unmarked = start-unmarked s n h (c .few) ok;
+      marked = start-marked s n h (c .few) ok;
+      ranges = ranges-held-in s n h (c .few) ok;
       arrays = arrays-held s n h (c .few) ok;
     }

@@ -90,18 +90,18 @@ unfolding laidGiven Each
 given-other j [] w h = refl
 given-other j (i ∷ is) w h = given-other j is (gave i w) (h .1) ∙ gave-other j i w (h .0)
 
--- the two words of a slot
+-- the two words of a slot with this mark
 abbrev pub isFull : Slot → ℕ
 isFull empty = 0
 isFull (full z) = 1
 
-abbrev pub wordOf : Slot → ℕ
-wordOf empty = 0
-wordOf (full z) = biased z
+abbrev pub wordOf : ℕ → Slot → ℕ
+wordOf mark empty = mark
+wordOf mark (full z) = biased z
 
-module _ (c : ℕ) where
+module _ (c mark : ℕ) where
   abbrev pub CellWords : Words → Slot → Type 0
-  CellWords w s = (getD w (cellSlot c) 0 ≡ isFull s) × (getD w (cellSlot c + 1) 0 ≡ wordOf s)
+  CellWords w s = (getD w (cellSlot c) 0 ≡ isFull s) × (getD w (cellSlot c + 1) 0 ≡ wordOf mark s)
 
   gave-at : (i : Item) (w : Words) → c ≡ i .cell → c < maxCells → localsAt ≤ length w → CellWords (gave i w) (full (i .value))
   gave-at i w e l h = rw e
@@ -110,7 +110,7 @@ module _ (c : ℕ) where
         getD-set-same (set w k 1) (k + 1) (biased (i .value)) 0 (rw (length-set w k 1) (omega arith)),
       ))
 
-  -- the words of each cell, where each is given once and had no words before
+  -- the words of each cell, where each is given once and had its mark before
   pub given-at : (floor : ℕ) (is : List Item) (w : Words) → Rising floor is → c < maxCells → localsAt ≤ length w → CellWords w empty →
       CellWords (laidGiven is w) (start is (cell c))
   unfolding laidGiven start put Rising

@@ -17,30 +17,39 @@ use Rattle.specification.specs.WellFormed.{WellFormed}
 use Rattle.specification.specs.Outcome.{start}
 use Rattle.specification.proofs.Laws.Lists.{each-map}
 use Rattle.specification.proofs.Laws.Start.{start-local}
-use Rattle.tables.specs.Layout.{maxTokens, maxCells, maxArrays, maxProcs, cellSlot, localSlot, firstSlot, procSlot, tokenSlot, cellsAt, localsAt, firstsAt, duesAt, pathAt}
+use Rattle.values.specs.Word.{biased}
+use Rattle.tables.specs.Layout.{maxTokens, maxCells, maxArrays, maxProcs, maxRanges, cellSlot, localSlot, firstSlot, procSlot, rangeSlot, tokenSlot, cellsAt, localsAt, firstsAt, rangesAt, duesAt, pathAt}
+use Rattle.tables.proofs.Laws.Ranges.{SameRanges, allows-same}
 use Rattle.sheet.specs.declared.Token.{Token}
 use Rattle.sheet.specs.Codes.{formulaTokens, proceduresTokens}
-use Rattle.sheet.specs.Tables.{Words, laidArrays, laidGiven, laidTokens, declaredTables, tablesOf, sheetTokens, formulaStart, tables}
-use Rattle.sheet.specs.Held.{procAt, FormulaAt, SlotAt, Holds, Unmarked, ArraysAt}
+use Rattle.sheet.specs.Tables.{Words, laidArrays, laidCells, markOf, laidGiven, laidTokens, declaredTables, tablesOf, sheetTokens, formulaStart, tables}
+use Rattle.sheet.specs.Held.{procAt, FormulaAt, SlotAt, Holds, Marked, ArraysAt, RangesAt}
 use Rattle.sheet.specs.Numbered.{Numbered}
 use Rattle.sheet.proofs.Laid.{tokens-other, ends-other, tokens-length, ends-length, Along, Entry, laid, skip}
 use Rattle.sheet.proofs.Held.{formula-at}
 use Rattle.sheet.proofs.Regions.{zeros, firsts-length, firsts-other, firsts-at, given-length, given-other, isFull, wordOf, CellWords, given-at}
+use Rattle.sheet.proofs.Marks.{span-limit, ranges-length, ranges-other, Fitting, many-few, marks-held, ranges-held}
 use Rattle.sheet.proofs.Procs.{none, firstToken, tokens-split, procs-length, procs-other, procs-at}
 
--- arrays and given values, without tokens
+-- arrays, ranges and given values, without tokens
 abbrev arrayed : Declared → ℕ → Words
 arrayed D n = laidArrays D (replicate n 0)
 
+abbrev ranged : Declared → ℕ → Words
+ranged D n = laidCells D (replicate n 0)
+
 abbrev valued : Declared → List Item → ℕ → Words
-valued D is n = laidGiven is (arrayed D n)
+valued D is n = laidGiven is (ranged D n)
 
 arrayed-length : (D : Declared) (n : ℕ) → length (arrayed D n) ≡ n
 unfolding laidArrays
 arrayed-length D n = firsts-length D 0 (suc maxArrays) (replicate n 0) ∙ length-replicate n 0
 
+ranged-length : (D : Declared) (n : ℕ) → length (ranged D n) ≡ n
+ranged-length D n = ranges-length D 0 (D .ranges) (arrayed D n) ∙ arrayed-length D n
+
 valued-length : (D : Declared) (is : List Item) (n : ℕ) → length (valued D is n) ≡ n
-valued-length D is n = given-length is (arrayed D n) ∙ arrayed-length D n
+valued-length D is n = given-length is (ranged D n) ∙ ranged-length D n
 
 pub declared-length : (D : Declared) (is : List Item) (n : ℕ) → length (declaredTables D is n) ≡ n
 declared-length D is n = procs-length 0 0 (D .procedures) (valued D is n) ∙ valued-length D is n
@@ -75,8 +84,11 @@ body-inside s K l =
     )
 
 module _ (s : Sheet) (n : ℕ) (enough : pathAt ≤ n) (few : length (sheetTokens s) ≤ maxTokens) where
+  abbrev first : Words
+  first = arrayed (s .declared) n
+
   abbrev under : Words
-  under = arrayed (s .declared) n
+  under = ranged (s .declared) n
 
   abbrev filled : Words
   filled = valued (s .declared) (s .given) n
@@ -135,13 +147,31 @@ module _ (s : Sheet) (n : ℕ) (enough : pathAt ≤ n) (few : length (sheetToken
         above (procSlot K) (omega arith) ∙
         (rw (e, f) at (procs-at (s .declared .procedures) 0 0 K filled h (omega (arith, ok .limits .procedures, valued-length (s .declared) (s .given) n)) .0))
 
-    -- a word that holds neither a given value nor an array nor a procedure
-    zero-base : (j : ℕ) → ((c : ℕ) → c < maxCells → (j ≢ cellSlot c) × (j ≢ cellSlot c + 1)) →
-        ((m : ℕ) → m ≤ maxArrays → j ≢ firstSlot m) → ((m : ℕ) → m < maxProcs → (j ≢ procSlot m) × (j ≢ procSlot m + 1)) → getD base j 0 ≡ 0
+    fits : Fitting (s .declared)
+    fits = record {
+      many = ok .limits .ranges;
+      ordered = ok .limits .ordered;
+      few = omega (arith, ok .limits .scalars, ok .limits .arrays);
+      small = ok .limits .cells;
+    }
+
+    -- beside the words of ranges and marks
+    beside-ranges : (j : ℕ) → ((k : ℕ) → k < maxRanges → (j ≢ rangeSlot k) × (j ≢ rangeSlot k + 1)) → ((c : ℕ) → c < maxCells → j ≢ cellSlot c + 1) →
+        getD under j 0 ≡ getD first j 0
+    beside-ranges j k c =
+        ranges-other (s .declared) j 0 (s .declared .ranges) first (λ i x y.
+        let h = k i (omega (arith, many-few (s .declared) fits)) in
+        record { low = h .0; high = h .1; marks = λ m t. c m (omega (arith, t .ends, span-limit (s .declared) i, ok .limits .cells)) })
+
+    -- a word that holds neither a cell nor an array nor a procedure nor a range
+    zero-base : (j : ℕ) → ((c : ℕ) → c < maxCells → (j ≢ cellSlot c) × (j ≢ cellSlot c + 1)) → ((m : ℕ) → m ≤ maxArrays → j ≢ firstSlot m) →
+        ((m : ℕ) → m < maxProcs → (j ≢ procSlot m) × (j ≢ procSlot m + 1)) → ((k : ℕ) → k < maxRanges → (j ≢ rangeSlot k) × (j ≢ rangeSlot k + 1)) →
+        getD base j 0 ≡ 0
     unfolding laidArrays
-    zero-base j c a p =
+    zero-base j c a p k =
         beside-procs j p ∙
         given-other j (s .given) under (each-map (λ i h. c (i .cell) (omega (arith, ok .limits .cells))) (s .given) (ok .declared)) ∙
+        beside-ranges j k (λ m l. c m l .1) ∙
         firsts-other (s .declared) j 0 (suc maxArrays) (replicate n 0) (λ m x y. a m (omega arith)) ∙ zeros n j
 
     pub arrays-held : ArraysAt (tables s n) (s .declared)
@@ -151,43 +181,63 @@ module _ (s : Sheet) (n : ℕ) (enough : pathAt ≤ n) (few : length (sheetToken
         beside-procs (firstSlot a) (λ m x. (omega arith, omega arith)) ∙
         given-other (firstSlot a) (s .given) under
         (each-map (λ i k. (omega (arith, ok .limits .cells), omega (arith, ok .limits .cells))) (s .given) (ok .declared)) ∙
+        beside-ranges (firstSlot a) (λ k x. (omega arith, omega arith)) (λ c x. omega arith) ∙
         firsts-at (s .declared) a 0 (suc maxArrays) (replicate n 0) (omega arith) (omega arith) (rw length-replicate (omega arith))
 
-    -- both words of each cell
-    pub cells-held : (c : ℕ) → c < maxCells → CellWords c (tables s n) (start (s .given) (cell c))
+    no-array : (j : ℕ) → j < localsAt → getD first j 0 ≡ 0
     unfolding laidArrays
+    no-array j h = firsts-other (s .declared) j 0 (suc maxArrays) (replicate n 0) (λ m x y. omega arith) ∙ zeros n j
+
+    -- both words of each cell
+    pub cells-held : (c : ℕ) → c < maxCells → CellWords c (markOf (s .declared) c) (tables s n) (start (s .given) (cell c))
     cells-held c h =
-        let g = given-at c 0 (s .given) under (ok .rising) h (omega (arith, arrayed-length (s .declared) n)) (
-          firsts-other (s .declared) (cellSlot c) 0 (suc maxArrays) (replicate n 0) (λ m x y. omega arith) ∙ zeros n (cellSlot c),
-          firsts-other (s .declared) (cellSlot c + 1) 0 (suc maxArrays) (replicate n 0) (λ m x y. omega arith) ∙ zeros n (cellSlot c + 1),
+        let long = arrayed-length (s .declared) n in
+        let g = given-at c (markOf (s .declared) c) 0 (s .given) under (ok .rising) h (omega (arith, ranged-length (s .declared) n)) (
+          beside-ranges (cellSlot c) (λ k x. (omega arith, omega arith)) (λ m x. omega arith) ∙ no-array (cellSlot c) (omega arith),
+          marks-held (s .declared) fits first (omega (arith, long)) c (no-array (cellSlot c + 1) (omega arith)) h,
         ) in (
           above (cellSlot c) (omega arith) ∙ beside-procs (cellSlot c) (λ m x. (omega arith, omega arith)) ∙ g .0,
           above (cellSlot c + 1) (omega arith) ∙ beside-procs (cellSlot c + 1) (λ m x. (omega arith, omega arith)) ∙ g .1,
         )
 
+    pub ranges-held-in : RangesAt (tables s n) (s .declared)
+    ranges-held-in c h v t =
+        allows-same same (markOf (s .declared) c) (biased v) ∙ ranges-held (s .declared) fits first (omega (arith, arrayed-length (s .declared) n)) c h v t
+      where
+        still : (j : ℕ) → rangesAt ≤ j → j < duesAt → getD (tables s n) j 0 ≡ getD under j 0
+        still j x y =
+            above j (omega arith) ∙ beside-procs j (λ m l. (omega arith, omega arith)) ∙
+            given-other j (s .given) under (each-map (λ i l. (omega (arith, ok .limits .cells), omega (arith, ok .limits .cells))) (s .given) (ok .declared))
+
+        same : SameRanges under (tables s n)
+        same = record {
+          lowest = λ k l. still (rangeSlot k) (omega arith) (omega arith);
+          highest = λ k l. still (rangeSlot k + 1) (omega arith) (omega arith);
+        }
+
     -- ---- every other word
 
     pub locals-zero : (j : ℕ) → localsAt ≤ j → j < firstsAt → getD (tables s n) j 0 ≡ 0
-    locals-zero j l h = above j (omega arith) ∙ zero-base j (λ c x. (omega arith, omega arith)) (λ m x. omega arith) (λ m x. (omega arith, omega arith))
+    locals-zero j l h = above j (omega arith) ∙ zero-base j (λ c x. (omega arith, omega arith)) (λ m x. omega arith) (λ m x. (omega arith, omega arith)) (λ k x. (omega arith, omega arith))
 
     -- what is due while the formula is read, the spare words, and the path
     pub rest-zero : (j : ℕ) → duesAt ≤ j → getD (tables s n) j 0 ≡ 0
-    rest-zero j l = above j (omega arith) ∙ zero-base j (λ c x. (omega arith, omega arith)) (λ m x. omega arith) (λ m x. (omega arith, omega arith))
+    rest-zero j l = above j (omega arith) ∙ zero-base j (λ c x. (omega arith, omega arith)) (λ m x. omega arith) (λ m x. (omega arith, omega arith)) (λ k x. (omega arith, omega arith))
 
     -- ---- the start valuation
 
-    pub start-unmarked : Unmarked (tables s n) (start (s .given))
-    start-unmarked = record {
+    pub start-marked : Marked (tables s n) (s .declared) (start (s .given))
+    start-marked = record {
       cells = λ c h e. rw (add-one, e) at (cells-held c h .1);
       locals = λ l h e. locals-zero (suc (localSlot l)) (omega arith) (omega arith);
     }
 
     pub start-held : Holds (tables s n) (start (s .given))
     start-held = record {
-      cells = λ c h. slot (cellSlot c) (start (s .given) (cell c)) (cells-held c h .0) (rw add-one at (cells-held c h .1));
+      cells = λ c h. slot (cellSlot c) (markOf (s .declared) c) (start (s .given) (cell c)) (cells-held c h .0) (rw add-one at (cells-held c h .1));
       locals = λ l h. rw start-local (locals-zero (localSlot l) (omega arith) (omega arith));
     }
       where
-        slot : (j : ℕ) (v : Slot) → getD (tables s n) j 0 ≡ isFull v → getD (tables s n) (suc j) 0 ≡ wordOf v → SlotAt (tables s n) j v
-        slot j empty x y = x
-        slot j (full z) x y = (x, y)
+        slot : (j m : ℕ) (v : Slot) → getD (tables s n) j 0 ≡ isFull v → getD (tables s n) (suc j) 0 ≡ wordOf m v → SlotAt (tables s n) j v
+        slot j m empty x y = x
+        slot j m (full z) x y = (x, y)

@@ -69,6 +69,7 @@ counted d = record {
   scalars = d .scalars;
   locals = d .locals;
   arrays = replicate (d .arrays) 0;
+  ranges = [];
   procedures = replicate (d .procedures) (record { parameters = 0; formula = truth });
   parameters = d .parameters;
 }

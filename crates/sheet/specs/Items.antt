@@ -1,6 +1,6 @@
 -- The line of given values as the code reads it: names with held indices, cells found in the work words, each item laid as it is
 -- read, and what the line's answer says. Assumes nothing.
-use Prim.Native.Nat.{ℕ, _+_, _≤_}
+use Prim.Native.Nat.{ℕ, _+_, _≤_, _<_}
 use mathlib.Core.Path.{_≡_}
 use mathlib.Core.List.{List, []}
 use lib.Dec.{leb, ltb}
@@ -62,6 +62,11 @@ elementIn arrays w a i =
 abbrev pub itemOf : ℕ → ℤ → Item
 itemOf c z = record { cell = c; value = z }
 
+-- a cell within the limit
+abbrev pub Below : Cell → Type 0
+Below cell.Undeclared = Unit {0}
+Below (cell.Is c) = c < maxCells
+
 -- 7 at the item's place, then 10, then 13 by the cell's mark
 abbrev pub judged : ℕ → ℕ → Words → Cell → ℤ → Parser Item
 judged p floor w cell.Undeclared z = refuse 7 p
@@ -93,6 +98,10 @@ pub record Vacant (D : Declared) (scalars arrays floor : ℕ) (w : Words) : Type
   pub declares : Declares D scalars arrays w
   pub ranges : RangesAt w D
   pub marks : (c : ℕ) → floor ≤ c → c < cells D → valueAt w c ≡ markOf D c
+
+pub record Furnished (scalars arrays : ℕ) (w : Words) : Type 0 where
+  pub declared : Declared
+  pub vacant : Vacant declared scalars arrays 0 w
 
 -- ---- the line's answer
 

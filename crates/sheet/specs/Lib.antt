@@ -14,5 +14,6 @@ pub mod FormulaLine
 pub mod Answers
 pub mod Firsts
 pub mod Items
+pub mod RangeLine
 pub mod Rest
 pub mod Whole

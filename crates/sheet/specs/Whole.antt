@@ -1,5 +1,5 @@
--- The lines in order: what was read after some of them, and what the reader's answer says of a sheet. The lines of procedures are one stage
--- together. Assumes nothing.
+-- The lines in order: what was read after some of them, and what the reader's answer says of a sheet. The lines of arrays and of ranges are one
+-- stage together, and those of procedures. Assumes nothing.
 use Prim.Native.Nat.{ℕ, zero, suc, pred, _-_, _≤_, _<_}
 use mathlib.Core.Bool.{Bool, true, false, _&&_}
 use mathlib.Core.Path.{_≡_}
@@ -8,7 +8,7 @@ use lib.ListN.{length, getD, replicate, drop}
 use lib.Dec.{ltb}
 use Rattle.specification.specs.Bytes.{Bytes, bytes, begins}
 use Rattle.specification.specs.Parser.{Reader, Read, refused, found}
-use Rattle.specification.specs.Lines.{Declared}
+use Rattle.specification.specs.Lines.{Range, Declared}
 use Rattle.specification.specs.Given.{Item}
 use Rattle.specification.specs.Formula.{Locals}
 use Rattle.specification.specs.Sheet.{mostProcedures, Sheet, sheet}
@@ -21,11 +21,11 @@ use Rattle.sheet.specs.declared.whole.Progress.{Progress}
 use Rattle.sheet.specs.declared.whole.Progress.the-variants as progress
 use Rattle.sheet.specs.Codes.{proceduresTokens}
 use Rattle.sheet.specs.Reader.{readerAt, lineAt}
-use Rattle.sheet.specs.Tables.{Words, laidArrays, laidTokens, declaredTables, sheetTokens, formulaStart, tables}
+use Rattle.sheet.specs.Tables.{Words, laidArrays, laidCells, laidTokens, declaredTables, sheetTokens, formulaStart, tables}
 use Rattle.sheet.specs.Stack.{Bits, Beside}
-use Rattle.sheet.specs.Items.{Declares}
+use Rattle.sheet.specs.Items.{Declares, Vacant}
 use Rattle.sheet.specs.FormulaLine.{Small, Counts}
-use Rattle.sheet.specs.Rest.{fromProcedures, fromBody, fromGiven, numberOf, limits, withNumber, afterNumbers}
+use Rattle.sheet.specs.Rest.{fromProcedures, fromBody, fromGiven, fromRanges, declaring, numberOf, limits, withNumber, afterNumbers}
 
 -- ---- what a sheet is read as
 
@@ -69,16 +69,27 @@ pub record Headed (k : ℕ) (s : Bytes) (n : ℕ) (d : Limits) (at : ℕ) (w : W
   pub words : w ≡ replicate n 0
   pub enough : pathAt ≤ n
 
--- the arrays
+-- the arrays, of these lengths; what is declared with ranges as well has the same first cells
 pub record Arrayed (s : Bytes) (n : ℕ) (d : Limits) (at : ℕ) (w : Words) : Type 0 where
+  pub lengths : List ℕ
+  pub rest : sheet (lineAt s 0) ≡ fromRanges d lengths (lineAt s at)
+  pub counts : (rs : List Range) → Counts d (declaring d lengths rs)
+  pub small : Small d
+  pub declares : (rs : List Range) → Declares (declaring d lengths rs) (d .scalars) (d .arrays) w
+  pub words : (rs : List Range) → w ≡ laidArrays (declaring d lengths rs) (replicate n 0)
+  pub long : length w ≡ n
+  pub enough : pathAt ≤ n
+
+-- the ranges
+pub record Ranged (s : Bytes) (n : ℕ) (d : Limits) (at : ℕ) (w : Words) : Type 0 where
   pub declared : Declared
   pub rest : sheet (lineAt s 0) ≡ fromGiven declared (lineAt s at)
   pub none : declared .procedures ≡ []
   pub plain : declared .parameters ≡ 0
   pub counts : Counts d declared
   pub small : Small d
-  pub declares : Declares declared (d .scalars) (d .arrays) w
-  pub words : w ≡ laidArrays declared (replicate n 0)
+  pub vacant : Vacant declared (d .scalars) (d .arrays) 0 w
+  pub words : w ≡ laidCells declared (replicate n 0)
   pub long : length w ≡ n
   pub enough : pathAt ≤ n
 
@@ -113,14 +124,15 @@ pub record Tabled (s : Bytes) (n : ℕ) (d : Limits) (x : Reached) (w : Words) :
 abbrev pub leftLines : Limits → ℕ
 leftLines d = mostProcedures (d .edition) - d .procedures
 
--- k lines are read, of which p tells; the fifth stage is that of the given values and some procedures, the sixth that of all procedures
+-- k lines are read, of which p tells; the fourth stage is that of the arrays and their ranges, the fifth that of the given values and some
+-- procedures, the sixth that of all procedures
 abbrev pub Went : ℕ → Bytes → ℕ → Progress → Words → Type 0
 Went k s n (progress.Refused e p) w = (sheet (lineAt s 0) ≡ refused e p) × (length w ≡ n)
 Went zero s n (progress.Read d x) w = Headed 0 s n d (x .at) w
 Went (suc zero) s n (progress.Read d x) w = Headed 1 s n d (x .at) w
 Went (suc (suc zero)) s n (progress.Read d x) w = Headed 2 s n d (x .at) w
 Went (suc (suc (suc zero))) s n (progress.Read d x) w = Headed 3 s n d (x .at) w
-Went (suc (suc (suc (suc zero)))) s n (progress.Read d x) w = Arrayed s n d (x .at) w
+Went (suc (suc (suc (suc zero)))) s n (progress.Read d x) w = Ranged s n d (x .at) w
 Went (suc (suc (suc (suc (suc zero))))) s n (progress.Read d x) w = Filled (leftLines d) s n d x w
 Went (suc (suc (suc (suc (suc (suc zero)))))) s n (progress.Read d x) w = Filled 0 s n d x w
 Went (suc (suc (suc (suc (suc (suc (suc k))))))) s n (progress.Read d x) w = Tabled s n d x w

@@ -6,7 +6,7 @@ ghost use Rattle.specification.specs.Lines.{Declared};
 ghost use Rattle.specification.specs.Given.{scalarName, elementName, name, item, items};
 ghost use Rattle.tables.specs.Layout.{maxArrays, maxCells, cellSlot, pathAt};
 ghost use Rattle.sheet.specs.Reader.{lineAt};
-ghost use Rattle.sheet.specs.Items.{heldNames, elementAfter, nameRead, scalarIn, elementIn, afterName, entryRead, Declares, Arranged, laidItems, givenRead, givenValue, GivenDone};
+ghost use Rattle.sheet.specs.Items.{heldNames, elementAfter, nameRead, scalarIn, elementIn, Below, afterName, entryRead, Arranged, Vacant, Furnished, laidItems, givenRead, givenValue, GivenDone};
 use crate::lines;
 use crate::lines::Index;
 use crate::lines::Integer;
@@ -120,9 +120,10 @@ fn element_cell(a: u32, i: u32, arrays: u32, w: &[u32]) -> Cell
 
 // ---- items
 
-// An item whose name begins at one place and ends at another: its form is tested first, then its cell, then the order.
-fn valued(s: &[u8], at: usize, e: usize, floor: u32, c: Cell) -> Entry
-    ensures { λ r. ⌜ entryRead (now (s .entry)) r ≡ afterName at floor c (lineAt (now (s .entry)) e) ⌝ }
+// An item whose name begins at one place and ends at another: its form is tested first, then its cell, the order, and its value.
+fn valued(s: &[u8], at: usize, e: usize, floor: u32, c: Cell, w: &[u32]) -> Entry
+    requires { ⌜ (Below c) × (pathAt ≤ length (now w)) ⌝ }
+    ensures { λ r. ⌜ entryRead (now (s .entry)) r ≡ afterName at floor (now (w .entry)) c (lineAt (now (s .entry)) e) ⌝ }
 {
     if text::class_at(s, e) != text::COLON {
         return Entry::Refused(refusals::BYTE, e);
@@ -136,20 +137,23 @@ fn valued(s: &[u8], at: usize, e: usize, floor: u32, c: Cell) -> Entry
             if n < floor {
                 return Entry::Refused(refusals::NOT_RISING, at);
             }
+            if !tables::ranges::allows(w, tables::ranges::mark(w, n), z) {
+                return Entry::Refused(refusals::OUT_OF_RANGE, at);
+            }
             Entry::Is(n, z, q)
         }
     }
 }
 
 fn item_at(s: &[u8], at: usize, scalars: u32, arrays: u32, floor: u32, w: &[u32]) -> Entry
-    requires { ⌜ (arrays ≤ maxArrays) × (pathAt ≤ length (now w)) ⌝ }
-    ensures { λ r. ⌜ ((D : Declared) → Declares D scalars arrays (now (w .entry))
+    requires { ⌜ (Arranged scalars arrays (now w)) × (pathAt ≤ length (now w)) ⌝ }
+    ensures { λ r. ⌜ ((D : Declared) → Vacant D scalars arrays floor (now (w .entry))
         → entryRead (now (s .entry)) r ≡ item D floor (lineAt (now (s .entry)) at)) ⌝ }
 {
     match name_at(s, at) {
         Name::Refused(k, p) => Entry::Refused(k, p),
-        Name::Scalar(n, e) => valued(s, at, e, floor, scalar_cell(n, scalars)),
-        Name::Element(a, i, e) => valued(s, at, e, floor, element_cell(a, i, arrays, w)),
+        Name::Scalar(n, e) => valued(s, at, e, floor, scalar_cell(n, scalars), w),
+        Name::Element(a, i, e) => valued(s, at, e, floor, element_cell(a, i, arrays, w), w),
     }
 }
 
@@ -170,8 +174,8 @@ fn put(w: &mut [u32], cell: u32, word: u32)
 
 // Items from a place on. Each has a cell above that of the one before, so they come to an end.
 fn items_at(s: &[u8], from: usize, scalars: u32, arrays: u32, w: &mut [u32]) -> Given
-    requires { ⌜ (Arranged scalars arrays (now w)) × (pathAt ≤ length (now w)) ⌝ }
-    ensures { λ r. ⌜ ((D : Declared) → Declares D scalars arrays (now (w .entry))
+    requires { ⌜ (Furnished scalars arrays (now w)) × (pathAt ≤ length (now w)) ⌝ }
+    ensures { λ r. ⌜ ((D : Declared) → Vacant D scalars arrays 0 (now (w .entry))
         → givenRead (now (s .entry)) r (now (w .exit)) ≡ laidItems (now (w .entry)) (items D maxCells 0 (lineAt (now (s .entry)) from))) ⌝ }
 {
     let mut at = from;
@@ -195,8 +199,8 @@ fn items_at(s: &[u8], from: usize, scalars: u32, arrays: u32, w: &mut [u32]) -> 
 
 // The line's value: empty, or items.
 fn contents(s: &[u8], from: usize, scalars: u32, arrays: u32, w: &mut [u32]) -> Given
-    requires { ⌜ (Arranged scalars arrays (now w)) × (pathAt ≤ length (now w)) ⌝ }
-    ensures { λ r. ⌜ ((D : Declared) → Declares D scalars arrays (now (w .entry))
+    requires { ⌜ (Furnished scalars arrays (now w)) × (pathAt ≤ length (now w)) ⌝ }
+    ensures { λ r. ⌜ ((D : Declared) → Vacant D scalars arrays 0 (now (w .entry))
         → givenRead (now (s .entry)) r (now (w .exit)) ≡ laidItems (now (w .entry)) (givenValue D (lineAt (now (s .entry)) from))) ⌝ }
 {
     if text::class_at(lines::value(s, from), 0) == text::FEED {
@@ -207,8 +211,8 @@ fn contents(s: &[u8], from: usize, scalars: u32, arrays: u32, w: &mut [u32]) -> 
 
 // The line of given values, where the words have the arrays of a sheet.
 pub(crate) fn given_line(s: &[u8], at: usize, scalars: u32, arrays: u32, w: &mut [u32]) -> Given
-    requires { ⌜ (Arranged scalars arrays (now w)) × (pathAt ≤ length (now w)) ⌝ }
-    ensures { λ r. ⌜ ((D : Declared) → Declares D scalars arrays (now (w .entry))
+    requires { ⌜ (Furnished scalars arrays (now w)) × (pathAt ≤ length (now w)) ⌝ }
+    ensures { λ r. ⌜ ((D : Declared) → Vacant D scalars arrays 0 (now (w .entry))
         → GivenDone D (now (s .entry)) at (now (w .entry)) (now (w .exit)) r) ⌝ }
 {
     let key = b"given=";

@@ -12,6 +12,7 @@ mod formula;
 mod given;
 mod lines;
 mod procedures;
+mod ranges;
 mod reader;
 mod refusals;
 mod sorts;

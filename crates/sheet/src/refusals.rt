@@ -29,3 +29,9 @@ pub(crate) const PROCEDURE: u32 = 11;
 
 // a parameter stands outside a procedure's line, or is not below its number of parameters
 pub(crate) const PARAMETER: u32 = 12;
+
+// a given value is none that its cell may have
+pub(crate) const OUT_OF_RANGE: u32 = 13;
+
+// the lowest value of a range is above its highest
+pub(crate) const EMPTY_RANGE: u32 = 14;

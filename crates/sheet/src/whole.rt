@@ -1,4 +1,4 @@
-// The lines in order, those of procedures as one: one reader is handed on from line to line.
+// The lines in order, those of arrays and of ranges as one, and those of procedures: one reader is handed on from line to line.
 ghost use mathlib.Core.Path.{_≡_};
 ghost use Prim.Native.Nat.{_≤_, _+_};
 ghost use lib.ListN.{length, replicate};
@@ -6,7 +6,7 @@ ghost use Rattle.tables.specs.Layout.{pathAt};
 ghost use Rattle.sheet.specs.Reader.{lineAt};
 ghost use Rattle.sheet.specs.Answers.{countRead};
 ghost use Rattle.sheet.specs.Rest.{numberOf};
-ghost use Rattle.sheet.specs.Whole.{reached, unread, NumberRead, Headed, Arrayed, Filled, Went};
+ghost use Rattle.sheet.specs.Whole.{reached, unread, NumberRead, Headed, Arrayed, Ranged, Filled, Went};
 use crate::arrays;
 use crate::arrays::Arrays;
 use crate::formula;
@@ -18,6 +18,8 @@ use crate::given::Given;
 use crate::lines;
 use crate::lines::Count;
 use crate::procedures;
+use crate::ranges;
+use crate::ranges::Ranges;
 use crate::reader;
 use crate::words;
 
@@ -27,9 +29,9 @@ pub(crate) enum Progress {
     Read(Limits, Reached),
 }
 
-const LAST_EDITION: u32 = 2;
+const LAST_EDITION: u32 = 3;
 
-// The lines by their numbers.
+// The lines by their numbers; that of ranges belongs to the arrays.
 const EDITION: u32 = 0;
 
 const SCALARS: u32 = 1;
@@ -117,7 +119,17 @@ fn number_line(s: &[u8], at: usize, d: Limits, k: u32) -> Progress
     }
 }
 
-// The line of arrays, of given values, of the formula: what is known after each.
+// The line of ranges, of arrays with it, of given values, of the formula: what is known after each.
+fn after_ranges(s: &[u8], at: usize, d: Limits, w: &mut [u32]) -> Progress
+    requires { ⌜ Arrayed (now s) (length (now w)) d at (now w) ⌝ }
+    ensures { λ r. ⌜ Went 4 (now (s .entry)) (length (now (w .entry))) r (now (w .exit)) ⌝ }
+{
+    match ranges::ranges_line(s, at, d.edition, d.scalars, d.arrays, w) {
+        Ranges::Refused(k, p) => Progress::Refused(k, p),
+        Ranges::Read(e) => Progress::Read(d, reached(e)),
+    }
+}
+
 fn after_arrays(s: &[u8], at: usize, d: Limits, w: &mut [u32]) -> Progress
     requires { ⌜ Headed 3 (now s) (length (now w)) d at (now w) ⌝ }
     ensures { λ r. ⌜ Went 4 (now (s .entry)) (length (now (w .entry))) r (now (w .exit)) ⌝ }
@@ -127,13 +139,13 @@ fn after_arrays(s: &[u8], at: usize, d: Limits, w: &mut [u32]) -> Progress
         Arrays::Read(n, _, e) => {
             let mut l = d;
             l.arrays = n;
-            Progress::Read(l, reached(e))
+            after_ranges(s, e, l, w)
         }
     }
 }
 
 fn after_given(s: &[u8], at: usize, d: Limits, w: &mut [u32]) -> Progress
-    requires { ⌜ Arrayed (now s) (length (now w)) d at (now w) ⌝ }
+    requires { ⌜ Ranged (now s) (length (now w)) d at (now w) ⌝ }
     ensures { λ r. ⌜ Went 5 (now (s .entry)) (length (now (w .entry))) r (now (w .exit)) ⌝ }
 {
     match given::given_line(s, at, d.scalars, d.arrays, w) {

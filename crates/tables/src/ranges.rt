@@ -3,7 +3,7 @@
 ghost use mathlib.Core.Path.{_≡_};
 ghost use Prim.Native.Nat.{_+_, _<_, _≤_};
 ghost use lib.ListN.{length, set};
-ghost use Rattle.tables.specs.Layout.{rangeSlot, lowestAt, highestAt, duesAt};
+ghost use Rattle.tables.specs.Layout.{cellSlot, rangeSlot, valueAt, lowestAt, highestAt, duesAt};
 ghost use Rattle.tables.specs.Ranges.{inside, allows};
 
 pub const MAX_RANGES: u32 = crate::MAX_SCALARS + crate::MAX_ARRAYS;
@@ -43,6 +43,21 @@ fn highest(w: &[u32], k: u32) -> u32
     ensures { λ r. ⌜ r ≡ highestAt (now (w .entry)) k ⌝ }
 {
     w[RANGES + RANGE_WORDS * (k as usize) + 1]
+}
+
+// The mark of cell c, which has no value.
+pub fn mark(w: &[u32], c: u32) -> u32
+    requires { ⌜ cellSlot c + 1 < length (now w) ⌝ }
+    ensures { λ r. ⌜ r ≡ valueAt (now (w .entry)) c ⌝ }
+{
+    w[crate::CELLS + crate::SLOT_WORDS * (c as usize) + 1]
+}
+
+pub fn set_mark(w: &mut [u32], c: u32, mark: u32)
+    requires { ⌜ cellSlot c + 1 < length (now w) ⌝ }
+    ensures { λ _. ⌜ now (w .exit) ≡ set (now (w .entry)) (cellSlot c + 1) mark ⌝ }
+{
+    w[crate::CELLS + crate::SLOT_WORDS * (c as usize) + 1] = mark;
 }
 
 // Whether range k has the value of this word: words compare as their values do.

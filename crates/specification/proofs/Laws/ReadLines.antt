@@ -75,7 +75,7 @@ arrays-post scalars r =
 
 -- ---- ranges
 
-value-post : (r : Reader) → Post (λ z r′. T (in32 z)) (value r)
+pub value-post : (r : Reader) → Post (λ z r′. T (in32 z)) (value r)
 unfolding value
 value-post r =
     after (taken inNumber r) λ bs r₁.

@@ -1,5 +1,5 @@
 -- By the name. Assumes nothing.
-use Rattle.sheet.proofs.GivenItems.{item-refused, item-scalar, item-element}
+use Rattle.sheet.proofs.GivenItems.{scalar-below, element-below, item-refused, item-scalar, item-element}
 use borrow.Author.Needs.{needs}
 use Rattle.sheet.proofs.given.item_at.Statement.{statement}
 use Rattle.sheet.proofs.given.item_at.Tie as tie
@@ -17,7 +17,7 @@ scalar-cell-requires : tie.Need-scalar-cell-requires
 scalar-cell-requires c κs = search needs
 
 valued-requires : tie.Need-valued-requires
-valued-requires c κs = search needs
+valued-requires c κs = (scalar-below (c .before .before .before .before .before .before .before .pre .0) _ _ (c .scalar-cell .ensures), search needs)
 
 enum-known-a : tie.Need-enum-known-a
 enum-known-a c = search needs
@@ -26,7 +26,7 @@ element-cell-requires : tie.Need-element-cell-requires
 element-cell-requires c κs = search needs
 
 valued-requires-2 : tie.Need-valued-requires-2
-valued-requires-2 c κs = search needs
+valued-requires-2 c κs = (element-below (c .before .before .before .before .before .before .before .pre .0) _ _ _ (c .element-cell .ensures), search needs)
 
 returns : tie.Need-returns
 returns c = λ D d. item-refused _ _ _ _ (c .before .before .before .name-at .ensures) d _ _ (c .before .k .given .1)

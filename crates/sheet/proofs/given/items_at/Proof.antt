@@ -6,7 +6,7 @@ use native.Mathlib.Omega.{arith}
 use Rattle.specification.specs.Bytes.{comma, classNumber}
 use Rattle.text.proofs.Laws.Class.{class-inside}
 use Rattle.tables.specs.Layout.{maxCells}
-use Rattle.sheet.proofs.GivenLine.{Turning, turn-first, turn-refused, turn-cell, turn-length, turn-last, turn-next}
+use Rattle.sheet.proofs.GivenLine.{Turning, turn-first, turn-arranged, turn-refused, turn-cell, turn-length, turn-last, turn-next}
 use borrow.Author.Needs.{needs}
 use Rattle.sheet.proofs.given.items_at.Statement.{statement}
 use Rattle.sheet.proofs.given.items_at.Tie as tie
@@ -21,7 +21,7 @@ loop-holds : tie.Need-loop-holds Inv-loop μ-loop
 loop-holds c = turn-first _ _ _ _ _
 
 item-at-requires : tie.Need-item-at-requires Inv-loop μ-loop
-item-at-requires c κs = ((c .before .before .before .before .pre .0) .declares .few, omega (arith, (c .before .loop .inv .long), (c .before .before .before .before .pre .1)))
+item-at-requires c κs = (turn-arranged (c .before .loop .inv) (c .before .before .before .before .pre .0), omega (arith, (c .before .loop .inv .long), (c .before .before .before .before .pre .1)))
 
 enum-known-k : tie.Need-enum-known-k Inv-loop μ-loop
 enum-known-k c = search needs

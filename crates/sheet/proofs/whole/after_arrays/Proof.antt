@@ -1,6 +1,8 @@
--- By the answer of the line. Assumes nothing.
+-- By the answer of the line, and then the line of ranges. Assumes nothing.
+use mathlib.Core.Path.{sym}
 use native.Mathlib.Omega.{arith}
-use Rattle.sheet.proofs.FirstLines.{arrays-refused, arrays-found}
+use Rattle.sheet.proofs.FirstLines.{arrays-refused, arrays-found, arrayed-long}
+use Rattle.sheet.proofs.AllLines.{as-long}
 use borrow.Author.Needs.{needs}
 use Rattle.sheet.proofs.whole.after_arrays.Statement.{statement}
 use Rattle.sheet.proofs.whole.after_arrays.Tie as tie
@@ -14,8 +16,13 @@ enum-known-k c = search needs
 enum-known-n : tie.Need-enum-known-n
 enum-known-n c = search needs
 
-reached-requires : tie.Need-reached-requires
-reached-requires c κs = search needs
+after-ranges-requires : tie.Need-after-ranges-requires
+after-ranges-requires c κs =
+    let mid = c .before .before .before .before .before in
+    let start = mid .before .before .before .before .before in
+    let told = mid .before .arrays-line in
+    arrayed-long (sym (told .kept .1 .1 .1 .0))
+    (arrays-found (start .args .s .now) _ _ _ (start .args .w .now) (start .pre) _ (told .result) (told .ensures) _ _ _ (c .before .before .n .given .1))
 
 same-length : tie.Need-same-length
 same-length c = search needs
@@ -24,8 +31,7 @@ returns : tie.Need-returns
 returns c =
     let mid = c .before .before .before .before .before in
     let start = mid .before .before .before .before in
-    let told = c .before .before .before .before .before in
-    arrays-refused (start .args .s .now) _ _ _ (start .args .w .now) (start .pre) _ (told .arrays-line .result) (told .arrays-line .ensures) _ _ (c .before .k .given .1)
+    arrays-refused (start .args .s .now) _ _ _ (start .args .w .now) (start .pre) _ (mid .arrays-line .result) (mid .arrays-line .ensures) _ _ (c .before .k .given .1)
 
 same-length-2 : tie.Need-same-length-2
 same-length-2 c = search needs
@@ -33,9 +39,9 @@ same-length-2 c = search needs
 returns-2 : tie.Need-returns-2
 returns-2 c =
     let mid = c .before .before .before .before .before in
-    let start = mid .before .before .before .before .before in
-    let told = mid .before in
-    arrays-found (start .args .s .now) _ _ _ (start .args .w .now) (start .pre) _ (told .arrays-line .result) (told .arrays-line .ensures) _ _ _ _ (c .before .before .n .given .1) (c .reached .ensures)
+    let told = mid .before .before .before .before .arrays-line in
+    let last = c .before .before .after-ranges in
+    as-long 4 _ (last .result) _ (told .kept .1 .1 .1 .0) (last .ensures)
 
 pub after-arrays-spec : {M : Type 1} → statement M
 after-arrays-spec =
@@ -44,7 +50,7 @@ after-arrays-spec =
     arrays-line-requires
     enum-known-k
     enum-known-n
-    reached-requires
+    after-ranges-requires
     same-length
     returns
     same-length-2

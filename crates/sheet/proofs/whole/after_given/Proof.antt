@@ -6,7 +6,7 @@ use Rattle.sheet.proofs.whole.after_given.Statement.{statement}
 use Rattle.sheet.proofs.whole.after_given.Tie as tie
 
 given-line-requires : tie.Need-given-line-requires
-given-line-requires c κs = let start = c .before .before .before in (record { declared = start .pre .declared; declares = start .pre .declares }, omega (arith, start .pre .enough))
+given-line-requires c κs = let start = c .before .before .before in (record { declared = start .pre .declared; vacant = start .pre .vacant }, omega (arith, start .pre .enough))
 
 enum-known-k : tie.Need-enum-known-k
 enum-known-k c = search needs
@@ -25,7 +25,7 @@ returns c =
     let mid = c .before .before .before .before .before in
     let start = mid .before .before .before .before in
     let told = c .before .before .before .before .before in
-    given-refused (start .args .s .now) _ _ _ (start .args .w .now) (start .pre) _ (told .given-line .result) (told .given-line .ensures _ (start .pre .declares)) _ _ (c .before .k .given .1)
+    given-refused (start .args .s .now) _ _ _ (start .args .w .now) (start .pre) _ (told .given-line .result) (told .given-line .ensures _ (start .pre .vacant)) _ _ (c .before .k .given .1)
 
 same-length-2 : tie.Need-same-length-2
 same-length-2 c = search needs
@@ -35,7 +35,7 @@ returns-2 c =
     let mid = c .before .before .before .before .before in
     let start = mid .before .before .before .before .before in
     let told = mid .before in
-    given-found (start .args .s .now) _ _ _ (start .args .w .now) (start .pre) _ (told .given-line .result) (told .given-line .ensures _ (start .pre .declares)) _ _ (c .before .before .e .given .1) (c .reached .ensures)
+    given-found (start .args .s .now) _ _ _ (start .args .w .now) (start .pre) _ (told .given-line .result) (told .given-line .ensures _ (start .pre .vacant)) _ _ (c .before .before .e .given .1) (c .reached .ensures)
 
 pub after-given-spec : {M : Type 1} → statement M
 after-given-spec =
