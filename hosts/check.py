@@ -185,7 +185,7 @@ def main():
         parser.error("no library at %s: `rt staticlib vodlasim_c` makes it" % given.library)
     with tempfile.TemporaryDirectory() as folder:
         ended = check(given, folder)
-    ends = ENDS + tuple("refused %d" % number for number in range(1, 13))
+    ends = ENDS + tuple("refused %d" % number for number in range(1, 15))
     print("%d runs alike:" % sum(ended[end] for end in ends), ", ".join("%s %d" % (end, ended[end]) for end in ends))
     for program in ("host", "box"):
         if ended[program]:

@@ -9,12 +9,13 @@ crates/cases/src/main.rt says how a case stands in stdin.
 """
 import argparse
 import random
+import re
 
 import random_sheets
 import walker
 
 FILES = walker.ROOT / "crates" / "cases"
-RANDOM = {1: 150, 2: 90}                # so many random cases of each edition, the last ones
+RANDOM = {1: 150, 2: 90, 3: 60}              # so many random cases of each edition, the last ones
 cases = []                              # name and case
 
 
@@ -27,10 +28,12 @@ def case(name, sheet, path=512, budget=1000000, skip=0, output=4096, words=None)
     cases.append((name, walker.Case(sheet, path, budget, skip, output, words)))
 
 
-def lines(edition="1", scalars="1", locals="1", arrays="", given="", procedures=(), formula="true"):
-    """A sheet by the values of its lines."""
-    rows = ["edition=" + edition, "scalars=" + scalars, "locals=" + locals, "arrays=" + arrays, "given=" + given]
-    return "".join(row + "\n" for row in rows + ["proc=" + value for value in procedures] + ["formula=" + formula])
+def lines(edition="1", scalars="1", locals="1", arrays="", ranges=None, given="", procedures=(), formula="true"):
+    """A sheet by the values of its lines, with one of ranges unless they are None."""
+    rows = ["edition=" + edition, "scalars=" + scalars, "locals=" + locals, "arrays=" + arrays]
+    rows += [] if ranges is None else ["ranges=" + ranges]
+    rows += ["given=" + given, *("proc=" + value for value in procedures), "formula=" + formula]
+    return "".join(row + "\n" for row in rows)
 
 
 def formulas(text, setting={}, **declared):
@@ -39,11 +42,11 @@ def formulas(text, setting={}, **declared):
         case(formula, lines(formula=formula, **declared), **setting)
 
 
-def libraries(text, setting={}, **declared):
-    """A case for each paragraph of the text, a sheet of edition 2: the values of its proc lines, then its formula."""
+def libraries(text, setting={}, edition="2", **declared):
+    """A case for each paragraph of the text, a sheet with procedures: the values of its proc lines, then its formula."""
     for paragraph in text.strip("\n").split("\n\n"):
         *procedures, formula = paragraph.split("\n")
-        sheet = lines(edition="2", procedures=procedures, formula=formula, **declared)
+        sheet = lines(edition=edition, procedures=procedures, formula=formula, **declared)
         case("; ".join(procedures + [formula]), sheet, **setting)
 
 
@@ -153,7 +156,7 @@ imp true eq a0 0 1
     givens("a0.1:1,a0.0:2;\na0.1:1,a0.1:2\na0.0:1,v0:1\nv0:1,a0.0:1,a0.1:2", arrays="2")
     case("the seventeenth array", lines(arrays=",".join("1" * 17)))
     case("scalars=3-", "edition=1\nscalars=3-\n")
-    case("edition=3x", "edition=3x")
+    case("edition=4x", "edition=4x")
     case("arrays=1,", lines(arrays="1,"))
     case("ex under all", lines(scalars="0", locals="2", formula="all l0 1 2 ex l1 eq l1 l0"))
     case("all 32-bit values", lines(formula="some l0 %s %s eq v0 l0" % (LOW, HIGH)), budget=7)
@@ -580,7 +583,7 @@ def negations_cut():
 def editions():
     """Edition 2 without a procedure is edition 1; edition 1 has none."""
     case("formula (1.1), edition 2", FORMULA_11.replace("edition=1", "edition=2"))
-    for edition in ("3", "02", "2-", "-2", "22", "2x", "2 ", "20", "12"):
+    for edition in ("4", "02", "2-", "-2", "22", "2x", "2 ", "20", "12"):
         case("edition=" + edition, lines(edition=edition))
     for edition in ("1", "2"):
         formulas("""
@@ -1409,6 +1412,360 @@ def procedures_cut():
                                          formula="all l0 0 3 some l1 0 3 and eq a0 l0 l1 all l2 0 sub l0 1 call 0 l2 a0 l2 l0 l1"))
 
 
+# ---------------------------------------------------------------- cells with a range (document 02, Six)
+
+def edition_3():
+    """Edition 3 is edition 2 with that line, and with ranges of all values it lists the same."""
+    for edition in ("1", "2"):
+        case("edition %s with a line of ranges" % edition, lines(edition=edition, ranges="0:1"))
+        case("edition %s with an empty line of ranges" % edition, lines(edition=edition, scalars="0", ranges=""))
+    case("edition 3 without a line of ranges", lines(edition="3"))
+    case("edition 3 without cells and without a line of ranges", lines(edition="3", scalars="0"))
+    for edition in ("03", "3-", "-3", "33", "3x", "3 ", "4"):
+        case("edition=%s, with ranges" % edition, lines(edition=edition, ranges="0:1"))
+    def full(count):
+        return ",".join([LOW + ":" + HIGH] * count)
+    case("formula (1.1), edition 3", FORMULA_11.replace("edition=1", "edition=3").replace("given=", "ranges=%s\ngiven=" % full(2)))
+    for name, count in (("beads", 5), ("call", 3), ("errors", 2)):
+        sheet = (FILES.parent.parent / "sheets" / (name + ".sheet")).read_text()
+        case(name + ", edition 3", re.sub("edition=.", "edition=3", sheet).replace("given=", "ranges=%s\ngiven=" % full(count)))
+    formulas("""
+eq v0 div -7 2
+eq v0 mod -7 2
+eq v0 quo 7 2
+eq v0 rem 7 2
+call 0 v0
+call 1
+eq p0 1
+eq v1 1
+ex l0 ex l0 true
+some l0 8 1 true
+""", edition="3", ranges="-9:9", procedures=["1:eq p0 9"])
+    # as many pairs as there can be
+    most = dict(edition="3", scalars="64", arrays=",".join("2" * 16))
+    formula = "and eq v0 0 and eq v63 3 and eq a0 1 4 or eq a15 1 79 eq a15 1 9"
+    pairs = ["%d:9" % (n % 10) for n in range(80)]
+    case("80 ranges", lines(ranges=",".join(pairs), formula=formula, **most))
+    case("79 ranges", lines(ranges=",".join(pairs[:79]), formula=formula, **most))
+    case("81 ranges", lines(ranges=",".join(pairs + ["0:1"]), formula=formula, **most))
+    case("80 ranges, the last one empty", lines(ranges=",".join(pairs[:79] + ["1:0"]), formula=formula, **most))
+    case("80 ranges of all values", lines(ranges=full(80), formula="and eq v63 %s eq a15 1 %s" % (HIGH, LOW), **most))
+
+
+def cell_ranges():
+    """An `eq` that would give a cell a value outside its range fails."""
+    least, most = int(LOW), int(HIGH)
+    for low, high in ((0, 4), (4, 4), (0, 0), (-3, -3), (-1, 1), (least, least), (most, most), (least, most), (least, least + 1),
+                      (most - 1, most), (least, -1), (1, most), (least, 0), (0, most)):
+        near = sorted({n for end in (low, high) for n in (end - 1, end, end + 1) if least <= n <= most})
+        formula = "or " + " or ".join("eq v0 %d" % n for n in near) + " eq v0 7"
+        case("ranges=%d:%d, %s" % (low, high, formula), lines(edition="3", ranges="%d:%d" % (low, high), formula=formula))
+    declared = dict(edition="3", scalars="3", locals="2", arrays="3", ranges="0:4,0:9,0:4,0:4", given="v1:5")
+    # from either side, and what is computed; an error of the other side comes first; no other word gives a value
+    formulas("""
+eq v0 5
+eq 5 v0
+eq v0 4
+eq v0 add 2 3
+eq sub 2 3 v0
+eq v0 v1
+eq a0 2 v1
+eq sub v1 1 a0 0
+eq v0 v2
+eq v0 div 1 0
+eq v0 add 2147483647 1
+eq v0 a0 5
+eq a0 3 5
+eq a0 v0 5
+eq a0 v0 div 1 0
+and eq v0 3 eq v0 5
+and eq v0 5 eq v0 div 1 0
+ne v0 5
+lt v0 5
+and eq v0 3 lt add v0 9 13
+and eq v0 4 eq v2 add v0 1
+and eq v0 4 eq v2 sub v0 4
+eq v0 div -9 2
+eq v0 mod 9 5
+""", **declared)
+    # a local has no range
+    formulas("""
+ex l0 eq l0 99
+ex l0 and eq l0 99 eq v0 sub l0 95
+ex l0 and eq l0 99 eq v0 l0
+ex l0 and eq v0 5 eq l0 1
+ex l0 and eq l0 v1 eq l0 5
+some l0 98 99 eq v0 sub l0 94
+all l0 99 99 eq v0 sub l0 95
+""", **declared)
+    # in the middle of `all`, `some`, `or` and `and`
+    formulas("""
+all l0 0 2 eq a0 l0 add 2 l0
+all l0 0 2 eq a0 l0 add 3 l0
+all l0 0 2 eq a0 l0 sub 1 l0
+all l0 0 2 and eq a0 l0 add 3 l0 eq v0 div 1 0
+some l0 3 6 eq v0 l0
+some l0 -2 6 eq v0 l0
+some l0 3 6 and eq v0 l0 eq v2 sub l0 3
+some l0 0 6 and eq v0 l0 eq v2 sub l0 2
+some l0 0 2 all l1 0 2 eq a0 l1 mul l0 add l1 1
+all l0 0 2 some l1 4 5 eq a0 l0 l1
+all l0 0 2 or eq a0 l0 add l0 3 eq a0 l0 l0
+or all l0 0 2 eq a0 l0 add l0 3 eq v0 1
+and or eq v0 4 eq v0 5 or eq v2 5 eq v2 4
+and or and eq a0 0 4 eq a0 1 5 eq a0 1 4 eq a0 0 3
+and some l0 4 5 eq v0 l0 some l1 4 5 eq v2 l1
+""", **declared)
+
+
+def ranges_inside():
+    """The same in the trees of `not` and `imp`, where what was not given does not count as given."""
+    declared = dict(edition="3", scalars="2", locals="2", arrays="2", ranges="0:4,0:4,0:4")
+    formulas("""
+not eq v0 5
+not eq v0 4
+not eq v0 -1
+not eq 5 v0
+not eq a0 1 5
+not eq a0 1 4
+not not eq v0 5
+not not eq v0 4
+and not eq v0 5 eq v0 3
+and not eq v0 5 eq v0 5
+and eq v0 3 not eq v1 5
+and eq v0 3 not eq v1 3
+not or eq v0 5 true
+not or eq v0 5 eq v0 4
+not or eq v0 5 eq v0 div 1 0
+not and eq v0 5 eq v1 v1
+not and eq v0 4 eq v1 5
+not and eq v0 4 eq v0 5
+not and not eq v0 5 true
+not and not eq v0 5 eq v1 1
+not ex l0 eq l0 5
+not ex l0 and eq l0 5 eq v0 l0
+not ex l0 and eq l0 4 eq v0 l0
+ex l0 not eq l0 5
+ex l0 and eq l0 5 not eq v0 l0
+not some l0 5 9 eq v0 l0
+not some l0 4 9 eq v0 l0
+not some l0 5 9 or eq v0 l0 eq l0 9
+not all l0 0 1 eq a0 l0 add l0 4
+not all l0 0 1 eq a0 l0 add l0 3
+not all l0 5 4 eq v0 5
+imp eq v0 5 eq v1 1
+imp eq v0 4 eq v1 1
+imp true eq v0 5
+imp true eq v0 4
+imp not eq v0 5 eq v0 3
+not imp true eq v0 5
+not imp true eq v0 4
+not imp eq v0 5 eq v1 1
+imp imp eq v0 5 eq v1 1 eq v1 2
+imp imp true eq v0 5 eq v1 1
+some l0 3 6 not eq v0 l0
+all l0 5 6 not eq v0 l0
+""", **declared)
+    formulas("not " * 30 + "eq v0 5", **declared)
+
+
+def ranges_called():
+    """The same through parameters: a scalar, an element or a local that is passed in."""
+    declared = dict(edition="3", scalars="2", locals="3", arrays="2,3", ranges="0:4,5:6,7:8,0:9")
+    formulas("""
+call 0 v0 5
+call 0 v0 4
+call 0 5 v0
+call 0 v1 6
+call 0 a0 1 9
+call 0 a0 1 8
+call 0 9 a1 2
+call 0 v0 v1
+call 0 v0 div 1 0
+call 1 v0 5
+call 1 a0 0 6
+call 1 a0 0 7
+call 1 sub 5 6 a1 0
+call 2 v0
+call 2 v1
+call 2 a0 1
+call 2 a1 0
+ex l2 and call 0 l2 5 call 0 v0 l2
+ex l2 and call 1 l2 99 eq v0 sub l2 96
+not call 0 v0 5
+not call 0 v0 4
+not call 1 a1 1 -1
+not ex l2 call 1 l2 99
+imp call 1 v0 9 call 0 v1 6
+some l2 3 6 call 1 v0 l2
+all l2 0 2 call 1 a1 l2 add l2 7
+all l2 0 2 call 1 a1 l2 add l2 8
+and call 0 v0 4 call 1 v1 add v0 3
+""", procedures=["2:eq p0 p1", "2:call 0 p1 p0", "1:or call 1 p0 5 call 1 p0 8"], **declared)
+    libraries("""
+1:eq v0 p0
+or call 0 5 call 0 4
+
+1:eq a0 p0 8
+some l2 0 2 call 0 l2
+
+1:eq a1 p0 add 8 p0
+all l2 0 2 call 0 l2
+
+1:not eq p0 5
+call 0 v0
+
+1:not eq p0 5
+call 0 v1
+
+1:not eq p0 5
+ex l2 call 0 l2
+
+1:imp eq p0 5 eq v1 6
+call 0 v0
+
+1:ex l0 and eq l0 p0 eq v0 l0
+or call 0 5 call 0 4
+
+1:ex l0 and eq p0 5 eq l0 1
+call 0 v0
+
+1:some l0 3 6 eq p0 l0
+1:call 0 p0
+1:and call 1 p0 call 0 v0
+call 2 v0
+
+2:and eq p0 4 eq p1 4
+call 0 v0 v0
+
+2:and eq p0 4 eq p1 4
+call 0 v0 v1
+
+2:and eq p0 4 eq p1 8
+call 0 v0 a0 sub v0 3
+
+1:eq p0 5
+1:or call 0 p0 eq p0 3
+not call 1 v0
+""", **declared)
+
+
+def ranges_of_arrays():
+    """Every element has its array's range: the first and the last of each, and what the cells beside them may have."""
+    declared = dict(edition="3", scalars="2", locals="1", arrays="1,2,3", ranges="0:9,10:19,20:29,30:39,40:49")
+    for cell in ("v0", "v1", "a0 0", "a1 0", "a1 1", "a2 0", "a2 1", "a2 2"):
+        atoms = ["eq %s %d" % (cell, value) for value in (-1, 0, 9, 10, 19, 20, 29, 30, 39, 40, 49)]
+        formulas("or " + " or ".join(atoms) + " eq %s 50" % cell, **declared)
+    formulas("""
+all l0 0 2 eq a2 l0 add 40 l0
+some l0 -1 3 eq a2 l0 45
+some l0 0 2 eq a1 l0 25
+and eq v0 1 eq a1 v0 30
+and eq v0 1 eq a1 v0 39
+and eq v0 1 eq a1 sub v0 1 29
+all l0 0 1 and eq a1 l0 add 30 l0 eq a2 l0 add 9 a1 l0
+""", **declared)
+    givens("a0.0:20,a1.0:30,a1.1:39,a2.0:40,a2.2:49\na0.0:30\na1.0:29\na1.1:40\na2.0:39\na2.2:50\nv1:19,a0.0:19", **declared)
+    # 512 cells
+    lengths = [32] * 15 + [31]
+    pairs = ["7:8"] + ["%d:%d" % (10 * n, 10 * n + 1) for n in range(16)]
+    ends = [(n, e, 10 * n + (e > 0)) for n, length in enumerate(lengths) for e in (0, length - 1)]
+    whole = dict(edition="3", arrays=",".join(map(str, lengths)), ranges=",".join(pairs))
+    case("the first and the last element of 16 arrays", lines(formula=conjunction(["eq a%d %d %d" % end for end in ends]), **whole))
+    case("the same given", lines(given=",".join("a%d.%d:%d" % end for end in ends), **whole))
+    formulas("some l0 149 152 eq a15 30 l0\nsome l0 0 31 eq a14 l0 142\nsome l0 29 31 eq a15 l0 151", **whole)
+    whole = dict(edition="3", scalars="0", arrays="512", ranges="-1:1")
+    formulas("and eq a0 511 1 eq a0 0 -1\nor eq a0 511 2 eq a0 0 -2", **whole)
+
+
+def ranges_given():
+    """13, at the item: after 4, 5, 7 and 10, before the byte after it."""
+    givens("""
+v0:0
+v0:4
+v0:-1
+v0:5
+v0:2147483647
+v0:-2147483648
+v0:2147483648
+v0:00
+v0:5x
+v0:5,
+v0:5,v1
+v0:4x
+v0:4,v1:10,a0.0:-5,a0.1:5
+v0:4,v1:9
+v0:4,v1:15
+v0:4,v1:4
+v0:4,v0:5
+v0:4,v0:5x
+v1:10,v0:5
+v1:9,v0:5
+v2:99
+v2:99x
+a0.0:6
+a0.1:-6
+a0.0:5,a0.1:6
+a0.1:5,a0.1:6
+a0.1:6,a0.0:6
+a0.2:6
+a1.0:6
+""", edition="3", scalars="2", arrays="2", ranges="0:4,10:14,-5:5")
+    for pair, values in ((LOW + ":" + LOW, (LOW, "-2147483647", HIGH)), (HIGH + ":" + HIGH, (HIGH, "2147483646", LOW)),
+                         (LOW + ":" + HIGH, (LOW, HIGH)), ("0:0", ("-1", "0", "1"))):
+        for value in values:
+            case("v0:%s in %s" % (value, pair), lines(edition="3", ranges=pair, given="v0:" + value))
+    good = lines(edition="3", ranges="0:4", given="v0:5")
+    for k in range(good.index("v0:5"), good.index("v0:5") + 5):
+        case("a given value outside its range, cut to %d bytes" % k, good[:k])
+    formulas("eq v0 5\neq v0 4\nnot eq v0 5\nnot eq v0 4\nlt v0 5", edition="3", ranges="0:4", given="v0:4")
+
+
+def range_lines():
+    """The line of ranges: its key, its numbers, the byte after each; 14 once the second number is read."""
+    for value in ("", "0", "0:", ":1", "0:1", "1:1", "1:0", "1:0x", "1:0,", "1:", "1:x", "1:00", "1:0-", "1:2147483648", "0:1x", "0:1,",
+                  "0:1,0:1", "0:1 ", "0:1:2", "0:1-", "0:1\r", "0::1", "0;1", "0,1", "0 :1", "0: 1", " 0:1", ",0:1", "00:1", "-0:1", "0:-0",
+                  "0:01", "--1:1", "0:-", "1-:1", "0:+1", "x", "v0:1", "-1:0", "-2:-1", "-1:-2", "0:-1", HIGH + ":2147483648",
+                  "2147483648:" + HIGH, "-2147483649:0", "0:-2147483649", LOW + ":" + HIGH, HIGH + ":" + LOW, "4294967295:0",
+                  "0:4294967296", "0:" + "1" * 99, "-" * 99 + ":0"):
+        case("ranges=%r" % value, lines(edition="3", ranges=value))
+    for value in ("", ",", "0:1", "1:0", "x"):
+        case("no cells, ranges=%r" % value, lines(edition="3", scalars="0", ranges=value))
+    for value in ("", "0:1", "0:1,", "0:1,0", "0:1,0:1", "0:1,0:1,", "0:1,,0:1", "0:1, 0:1", "0:1,0:1,0:1", "0:1,0:1,0:1,",
+                  "0:1,0:1,0:1,0:1", "0:1,0:1,1:0", "0:1,1:0,1:0", "0:1,1:0", "1:0,x", "0:1,0:1,x", "0:1,0:1,0:1x", "0:1;0:1,0:1",
+                  "0:1,00:1,0:1", "0:1,0:01,0:1", "0:1\n0:1,0:1"):
+        case("two scalars and an array, ranges=%r" % value, lines(edition="3", scalars="2", arrays="3", ranges=value))
+    for scalars, arrays, value in (("0", "3", "0:1"), ("0", "3", "0:1,0:1"), ("0", "3", ""), ("0", "3,3", "0:1"), ("0", "3,3", "0:1,2:3"),
+                                   ("2", "", "0:1,2:3"), ("2", "", "0:1"), ("2", "", "0:1,2:3,4:5")):
+        formula = "or eq a0 2 1 eq a0 2 2" if arrays else "or eq v1 1 eq v1 2"
+        case("scalars=%s, arrays=%s, ranges=%s" % (scalars, arrays, value), lines("3", scalars, "1", arrays, value, formula=formula))
+    good = lines(edition="3", scalars="1", arrays="2", ranges="-1:0,12:34")
+    case("whole, with ranges", good)
+    for k in range(good.index("ranges="), good.index("given=") + 1):
+        case("cut to %d bytes" % k, good[:k])
+    for k in range(good.index("s=-"), good.index("given=")):
+        case("byte %d an x" % k, good[:k] + "x" + good[k + 1:])
+    rows = good.split("\n")[:-1]
+    for row in ("", "ranges", "Ranges=-1:0,12:34", "range=-1:0,12:34", "ranges =-1:0,12:34", "given=", "formula=true"):
+        case("%r for the line of ranges" % row, "".join(line + "\n" for line in rows[:4] + [row] + rows[5:]))
+    others = rows[:4] + rows[5:]
+    for at in (0, 3, 5, 6):
+        case("the line of ranges after %d others" % at, "".join(line + "\n" for line in others[:at] + [rows[4]] + others[at:]))
+    case("the line of ranges twice", good.replace("given=", rows[4] + "\ngiven="))
+
+
+def ranges_cut():
+    """Where a run is ended at such a failure leaf, before it or after it, and where blocks are skipped."""
+    sheet = lines(edition="3", ranges="0:4", formula="or eq v0 5 or and not eq v0 5 eq v0 1 some l0 3 5 eq v0 l0")
+    case("a run with ranges", sheet)
+    for path in range(1, 8):
+        case("the same under path limit %d" % path, sheet, path=path)
+    for budget in (2, 3, 4, 6, 7, 8, 9, 10, 11, 19, 20):
+        case("the same under budget %d" % budget, sheet, budget=budget)
+    for output, skip in ((0, 0), (13, 0), (28, 0), (41, 0), (14, 1), (0, 3)):
+        case("the same in %d bytes after a skip of %d" % (output, skip), sheet, output=output, skip=skip)
+
+
 # ---------------------------------------------------------------- damaged sheets
 
 def damaged():
@@ -1586,9 +1943,10 @@ def main():
     given = parser.parse_args()
     for group in (marked, readings, slips, declared_limits, text_limits, lent_limits, kinds, words, inner_trees, negations, negations_cut,
                   damaged, taught, editions, calls, arguments, bound_anew, inner_calls, call_numbers, parameter_names, local_binders,
-                  procedure_lines, procedure_limits, many_uses, procedures_cut, parts):
+                  procedure_lines, procedure_limits, many_uses, procedures_cut, edition_3, cell_ranges, ranges_inside, ranges_called,
+                  ranges_of_arrays, ranges_given, range_lines, ranges_cut, parts):
         group()
-    for number, drawn_case in enumerate([*drawn(1), *drawn(2)] if given.random else stored()):
+    for number, drawn_case in enumerate([*drawn(1), *drawn(2), *drawn(3)] if given.random else stored()):
         cases.append(("random %d" % (number + 1), drawn_case))
     if given.list:
         for number, (name, listed) in enumerate(cases):

@@ -1,5 +1,5 @@
 #!/usr/bin/env python3
-"""Random sheets of editions 1 and 2: well formed ones, ones at a limit or one past it, and damaged ones.
+"""Random sheets of editions 1 to 3: well formed ones, ones at a limit or one past it, and damaged ones.
 
   tools/random_sheets.py [SEED]      prints the sheet that a seed gives
 
@@ -15,9 +15,10 @@ OPERATIONS = ("add", "sub", "mul", "div", "mod")
 CONNECTIVES, QUANTIFIERS = ("and", "or", "imp"), ("some", "all")
 WORDS = ("true", "not", "ex", "call") + CONNECTIVES + QUANTIFIERS + COMPARISONS + OPERATIONS
 ENDS = (LOW, LOW + 1, HIGH - 1, HIGH)
+ALL = (LOW, HIGH)                       # the range of all values
 
 
-def drawn(rng, editions=(1, 2)):
+def drawn(rng, editions=(1, 2, 3)):
     """A sheet of one of the editions: mostly well formed, one in eight at a limit, one in three damaged."""
     edition = rng.choice(editions)
     sheet = edge(rng, edition) if rng.random() < 0.12 else well_formed(rng, edition)
@@ -27,11 +28,12 @@ def drawn(rng, editions=(1, 2)):
     return sheet
 
 
-def lines(scalars=1, locals=1, arrays=(), given="", formula="true", edition=1, procedures=()):
-    """A sheet by what its lines hold; a procedure by its number of parameters and its formula."""
+def lines(scalars=1, locals=1, arrays=(), given="", formula="true", edition=1, procedures=(), ranges=()):
+    """A sheet by what its lines hold; a procedure by its number of parameters and its formula. Edition 3 has a line of ranges."""
     procedures = "".join("proc=%d:%s\n" % procedure for procedure in procedures)
-    values = edition, scalars, locals, ",".join(map(str, arrays)), given, procedures, formula
-    return ("edition=%s\nscalars=%s\nlocals=%s\narrays=%s\ngiven=%s\n%sformula=%s\n" % values).encode()
+    ranges = "ranges=%s\n" % ",".join("%d:%d" % pair for pair in ranges) if edition == 3 else ""
+    values = edition, scalars, locals, ",".join(map(str, arrays)), ranges, given, procedures, formula
+    return ("edition=%s\nscalars=%s\nlocals=%s\narrays=%s\n%sgiven=%s\n%sformula=%s\n" % values).encode()
 
 
 # ---------------------------------------------------------------- well-formed sheets
@@ -39,7 +41,7 @@ def lines(scalars=1, locals=1, arrays=(), given="", formula="true", edition=1, p
 def well_formed(rng, edition):
     """A sheet that no refusal fits: what it declares and gives, and formulas that mostly use what has a value."""
     while True:
-        sheet = Draft(rng).sheet(edition)
+        sheet = Draft(rng, edition).sheet()
         tokens = sheet.count(b" ") + sheet.count(b"\nproc=") + 1
         if len(sheet) <= 4096 and tokens <= 1024:
             return sheet
@@ -52,12 +54,43 @@ def constant(rng):
     return rng.choice(ENDS) if x < 0.96 else rng.choice((1, -1)) * rng.choice((46340, 46341, 65536, rng.randint(10, HIGH)))
 
 
-def given_line(rng, scalars, arrays, share):
-    """The given line for that share of the cells, with the names given, as the formula writes them."""
-    cells = [("v%d" % n, "v%d" % n) for n in range(scalars)]
-    cells += [("a%d.%d" % (n, e), "a%d %d" % (n, e)) for n, length in enumerate(arrays) for e in range(length)]
-    chosen = [cell for cell in cells if rng.random() < share]
-    return ",".join("%s:%d" % (name, constant(rng)) for name, _ in chosen), [name for _, name in chosen]
+def cells(scalars, arrays):
+    """Every cell: its name in the given line, its name in the formula, and the number of its range."""
+    elements = [("a%d.%d" % (n, e), "a%d %d" % (n, e), scalars + n) for n, length in enumerate(arrays) for e in range(length)]
+    return [("v%d" % n, "v%d" % n, n) for n in range(scalars)] + elements
+
+
+def given_line(rng, scalars, arrays, share, ranges=()):
+    """The given line for that share of the cells, with the names given, as the formula writes them. Where there are ranges, each value is
+    in its cell's."""
+    chosen = [cell for cell in cells(scalars, arrays) if rng.random() < share]
+    items = ["%s:%d" % (name, inside(rng, ranges[number]) if ranges else constant(rng)) for name, _, number in chosen]
+    return ",".join(items), [name for _, name, _ in chosen]
+
+
+def cell_range(rng):
+    """A cell's range: a few values mostly, one value, all of 32 bits, or all above or below some value."""
+    x = rng.random()
+    if x < 0.25:
+        return ALL
+    if x < 0.35:
+        return rng.choice(((LOW, rng.randint(-3, 9)), (rng.randint(-3, 9), HIGH)))
+    if x < 0.42:
+        return tuple(sorted(rng.choices(ENDS, k=2)))
+    low = rng.randint(-3, 5)
+    return low, low + rng.choice((0, 0, 1, 2, 3, 5, 9, 12))
+
+
+def inside(rng, pair):
+    """A value of a range, often its first or last."""
+    low, high = pair
+    return rng.choice((low, high, rng.randint(low, high), min(high, low + rng.randint(0, 9))))
+
+
+def outside(rng, pair):
+    """A value one outside a range, if there is one."""
+    low, high = pair
+    return rng.choice([value for value in (low - 1, high + 1) if LOW <= value <= HIGH] or [low])
 
 
 class Procedure:
@@ -72,12 +105,14 @@ class Draft:
     """One sheet while it is drawn. `valued` holds the cells, locals and parameters that will have a value, as far as can be seen, when the
     walk gets to the place that is drawn next: names as the formula writes them, elements by a constant index."""
 
-    def __init__(self, rng):
-        self.rng = rng
+    def __init__(self, rng, edition):
+        self.rng, self.edition = rng, edition
         self.scalars = rng.choice((0, 1, 2, 2, 3, 3, 5, 9))
         self.locals = rng.choice((0, 1, 2, 3, 4, 6, 32))
         self.arrays = [rng.choice((1, 2, 3, 3, 4, 8)) for _ in range(rng.choice((0, 0, 1, 1, 1, 2, 4)))]
-        self.given, given = given_line(rng, self.scalars, self.arrays, rng.choice((0, 0, 0.1, 0.5)))
+        self.ranges = [cell_range(rng) for _ in range(self.scalars + len(self.arrays))] if edition == 3 else []
+        self.range_of = {name: self.ranges[number] for _, name, number in cells(self.scalars, self.arrays)} if self.ranges else {}
+        self.given, given = given_line(rng, self.scalars, self.arrays, rng.choice((0, 0, 0.1, 0.5)), self.ranges)
         self.valued = set(given)
         self.unbound = rng.sample(range(self.locals), self.locals)
         self.scope = []
@@ -85,13 +120,13 @@ class Draft:
         self.procedures = []
         self.parameters = 0         # of the line that is drawn
 
-    def sheet(self, edition):
-        if edition == 2:
+    def sheet(self):
+        if self.edition >= 2:
             for _ in range(self.rng.choice((0, 1, 1, 2, 2, 3, 4, 6, 16))):
                 self.procedures.append(self.procedure())
         formula = self.formula(self.rng.choice((1, 8, 15, 30, 30, 60, 120, 400)))
         procedures = [(procedure.parameters, procedure.formula) for procedure in self.procedures]
-        return lines(self.scalars, self.locals, self.arrays, self.given, formula, edition, procedures)
+        return lines(self.scalars, self.locals, self.arrays, self.given, formula, self.edition, procedures, self.ranges)
 
     def procedure(self):
         """A procedure; most parameters, and in one of two sheets some cells, are taken to have a value where it is called."""
@@ -160,7 +195,14 @@ class Draft:
 
     def assignment(self, name, term):
         self.valued.add(name)
+        term = self.told(name, term)
         return "eq %s %s" % ((name, term) if self.rng.random() < 0.8 else (term, name))
+
+    def told(self, name, term):
+        """What a cell is to get: the term, or often, if it has a range, a value of that range, and now and then one outside."""
+        if name not in self.range_of or self.rng.random() < 0.3:
+            return term
+        return str((inside if self.rng.random() < 0.85 else outside)(self.rng, self.range_of[name]))
 
     def parts(self, size):
         left = self.rng.randint(1, size - 2)
@@ -229,7 +271,7 @@ class Draft:
         local, last = "l%d" % self.unbound.pop(), self.arrays[array] - 1
         self.scope.append(local)
         self.valued.add(local)
-        body = "eq a%d %s %s" % (array, local, self.term(self.rng.choice((1, 1, 3))))
+        body = "eq a%d %s %s" % (array, local, self.told("a%d 0" % array, self.term(self.rng.choice((1, 1, 3)))))
         self.scope.remove(local)
         self.valued.discard(local)
         self.valued.update("a%d %d" % (array, e) for e in range(last + 1))
@@ -257,9 +299,22 @@ class Draft:
 
 def edge(rng, edition):
     past = rng.random() < 0.4
-    if edition == 2 and rng.random() < 0.6:
-        return rng.choice(PROCEDURE_EDGES)(rng, past)
-    return rng.choice(EDGES)(rng, past).replace(b"edition=1", b"edition=%d" % edition)
+    if edition == 3 and rng.random() < 0.5:
+        return rng.choice(RANGE_EDGES)(rng, past)
+    if edition >= 2 and rng.random() < 0.6:
+        return of_edition(rng, rng.choice(PROCEDURE_EDGES)(rng, past), edition)
+    return of_edition(rng, rng.choice(EDGES)(rng, past), edition)
+
+
+def of_edition(rng, sheet, edition):
+    """A sheet of an edition before as one of this: edition 3 has a range for each scalar and array, in one sheet of two all of 32 bits."""
+    sheet = b"edition=%d" % edition + sheet[len(b"edition=1"):]
+    if edition < 3:
+        return sheet
+    scalars, arrays = re.search(rb"\nscalars=(.*)\nlocals=.*\narrays=(.*)\n", sheet).groups()
+    count = int(scalars) + len(arrays.split(b",")) * (arrays != b"")
+    ranges = [ALL] * count if rng.random() < 0.5 else [cell_range(rng) for _ in range(count)]
+    return sheet.replace(b"\ngiven=", b"\nranges=%s\ngiven=" % b",".join(b"%d:%d" % pair for pair in ranges), 1)
 
 
 def deep(rng, past):
@@ -288,14 +343,14 @@ def many_tokens(rng, past):
     return lines(formula="%s%s %s %s" % ("" if past else "not ", rng.choice(COMPARISONS), *sums))
 
 
-def many_bytes(rng, past):
+def many_bytes(rng, past, **declared):
     """4,096 bytes: a conjunction of comparisons whose constants make up the length."""
     atoms = rng.randint(160, 250)
-    left = 4096 + past - len(lines(formula="")) - atoms * len("and eq 1 1 ") + len("and ") + 1
+    left = 4096 + past - len(lines(formula="", **declared)) - atoms * len("and eq 1 1 ") + len("and ") + 1
     more, rest = divmod(left, 2 * atoms)
     sizes = rng.sample([1 + more] * (2 * atoms - rest) + [2 + more] * rest, 2 * atoms)
     constants = [str(rng.randint(10**(size - 1), 10**size - 1)) for size in sizes]
-    return lines(formula=tree(rng, "and", ["eq %s %s" % pair for pair in zip(constants[::2], constants[1::2])]))
+    return lines(formula=tree(rng, "and", ["eq %s %s" % pair for pair in zip(constants[::2], constants[1::2])]), **declared)
 
 
 def lengths(rng, cells, count):
@@ -440,10 +495,68 @@ def many_uses(rng, past):
 PROCEDURE_EDGES = (many_procedures, many_parameters, many_tokens_by_lines, deep_by_lines, one_number, one_number, many_uses)
 
 
+# ---------------------------------------------------------------- the same for ranges
+
+def many_pairs(rng, past):
+    """A range for each of many scalars and arrays, or few, or none; past: one too few or too many."""
+    scalars, arrays = rng.choice((0, 1, 63, 64)), [rng.randint(1, 4) for _ in range(rng.choice((0, 1, 16)))]
+    ranges = [cell_range(rng) for _ in range(scalars + len(arrays))]
+    every = cells(scalars, arrays)
+    atoms = ["eq %s %d" % (name, inside(rng, ranges[number])) for _, name, number in every[:1] + every[-1:]]
+    if past:
+        ranges = ranges[:-1] if ranges and rng.random() < 0.5 else ranges + [cell_range(rng)]
+    return lines(scalars, 1, arrays, formula=tree(rng, "and", atoms or ["true"]), edition=3, ranges=ranges)
+
+
+def own_ranges(rng, past):
+    """Scalars and arrays, each with ten values of its own; each scalar, and the first and last element of each array, gets one of them;
+    past: one gets what another may have."""
+    scalars, arrays, first = rng.randint(0, 3), [rng.randint(1, 5) for _ in range(rng.choice((2, 3, 16)))], rng.randint(-90, 90)
+    ranges = [(first + 10 * n, first + 10 * n + 9) for n in rng.sample(range(scalars + len(arrays)), scalars + len(arrays))]
+    told = [("v%d" % n, ranges[n]) for n in range(scalars)]
+    told += [("a%d %d" % (n, e), ranges[scalars + n]) for n, length in enumerate(arrays) for e in (0, length - 1)[:length]]
+    wrong = rng.randrange(len(told)) if past else -1
+    atoms = ["eq %s %d" % (name, inside(rng, rng.choice(ranges) if n == wrong else pair)) for n, (name, pair) in enumerate(told)]
+    return lines(scalars, 1, arrays, formula=tree(rng, rng.choice(("and", "and", "or")), atoms), edition=3, ranges=ranges)
+
+
+BORDER = ("eq v1 %d", "eq %d v1", "eq a0 2 %d", "eq add 0 %d a0 0", "not eq v1 %d", "not eq a0 1 %d", "not not eq v1 %d",
+          "imp eq v1 %d eq v0 1", "imp true eq v1 %d", "not imp true eq %d v1", "or eq v1 %d eq v0 2", "some l0 0 2 eq a0 l0 %d",
+          "all l0 0 2 eq a0 l0 %d", "ex l0 and eq l0 %d eq v1 l0", "not ex l0 and eq l0 %d eq a0 0 l0", "not ex l0 eq l0 %d",
+          "call 0 v1 %d", "call 0 %d v1", "call 1 a0 2 %d", "not call 1 v1 %d", "ex l0 call 1 l0 %d", "and eq v1 %d true")
+
+
+def border(rng, past):
+    """A value of a cell's range, often on its border, assigned in one of many ways or given; past: one outside."""
+    pair = cell_range(rng)
+    value = (outside if past else inside)(rng, pair)
+    given = rng.choice(("", "", "", "v1:%d", "a0.2:%d"))
+    procedures = [(2, "eq p0 p1"), (2, "call 0 p0 p1")]
+    formula = rng.choice(BORDER) % value
+    return lines(2, 1, (3,), given % value if given else "", formula, 3, procedures, [ALL, pair, pair])
+
+
+def end_pairs(rng, past):
+    """Ranges at the ends of 32 bits; past: a number beyond them, or the first above the last."""
+    low, high = sorted(rng.choices(ENDS, k=2))
+    pair = rng.choice(((LOW - 1, high), (low, HIGH + 1), (10**20, high), (HIGH, LOW), (high, high - 1))) if past else (low, high)
+    value = rng.choice((low, high, *ENDS))
+    return lines(2, 1, formula="or eq v0 %d %s v1 %d" % (value, rng.choice(("eq", "not eq")), value), edition=3, ranges=[(low, high), pair])
+
+
+def many_bytes_with_ranges(rng, past):
+    ranges = [cell_range(rng) for _ in range(rng.randint(1, 20))]
+    return many_bytes(rng, past, scalars=len(ranges), edition=3, ranges=ranges)
+
+
+RANGE_EDGES = (many_pairs, many_pairs, own_ranges, own_ranges, border, border, border, border, end_pairs, many_bytes_with_ranges)
+
+
 # ---------------------------------------------------------------- damage
 
 def damaged(rng, sheet):
-    return rng.choice(DAMAGES)(rng, sheet) if sheet else b"\n"
+    ways = DAMAGES + RANGE_DAMAGES if b"\nranges=" in sheet else DAMAGES
+    return rng.choice(ways)(rng, sheet) if sheet else b"\n"
 
 
 def telling(rng):
@@ -530,11 +643,37 @@ def word_exchanged(rng, sheet):
 
 
 def edition_changed(rng, sheet):
-    return replaced(rng, sheet, rb"(?<=edition=)[12]", lambda old: rng.choice((b"1", b"2", b"3")))
+    return replaced(rng, sheet, rb"(?<=edition=)[123]", lambda old: rng.choice((b"1", b"2", b"3", b"4")))
+
+
+def pair_changed(rng, sheet):
+    """A range dropped, written twice, turned round, empty by one, or with another sign in it or after it."""
+    def new(old):
+        low, high = old.split(b":")
+        empty = b"%d:%s" % (int(high[:30]) + 1, high)
+        return rng.choice((b"", old + b"," + old, high + b":" + low, empty, empty + b"x", low + b":", b":" + high, low, low + b"," + high,
+                           low + b" :" + high, low + b"-" + high, old + b":" + high, old + b"x"))
+    return replaced(rng, sheet, rb"(?<=[=,])-?[0-9]+:-?[0-9]+(?=[,\n])", new)
+
+
+def item_changed(rng, sheet):
+    """A given value one more or less."""
+    def new(old):
+        name, value = old.split(b":")
+        return b"%s:%d" % (name, int(value[:30]) + rng.choice((-1, 1)))
+    return replaced(rng, sheet, rb"(?<=[=,])[va][0-9.]+:-?[0-9]+(?=[,\n])", new)
+
+
+def ranges_changed(rng, sheet):
+    """Another value of the line of ranges."""
+    def new(old):
+        return rng.choice((b"", b"0:1", b"0:9,0:9,0:9", old + b",", b"," + old, old + b",0:1", old[:rng.randint(0, len(old))]))
+    return replaced(rng, sheet, rb"(?<=\nranges=).*", new)
 
 
 DAMAGES = (changed, dropped, inserted, doubled, cut_short, goes_on, lines_moved, number_changed, number_changed, word_changed, word_changed,
            word_exchanged, word_exchanged, edition_changed)
+RANGE_DAMAGES = (pair_changed, pair_changed, pair_changed, item_changed, item_changed, ranges_changed)
 
 
 if __name__ == "__main__":

@@ -1,5 +1,5 @@
-//! The sheet: six lines and, in edition 2, those of procedures, read into trees of formulas and terms, or refused with a number and a byte
-//! place.
+//! The sheet: six lines, from edition 2 on those of procedures and from edition 3 on one of ranges, read into trees of formulas and terms,
+//! or refused with a number and a byte place.
 
 /// Why and where a sheet is refused.
 #[derive(Debug)]
@@ -14,7 +14,8 @@ pub type Slot = u16;
 pub struct Sheet {
     /// The cells' names, in cell order.
     pub names: Vec<String>,
-    pub slots: usize,
+    /// The lowest and the highest value of each slot: of a cell those of its range, of a local those of 32 bits.
+    pub ranges: Vec<[i32; 2]>,
     pub given: Vec<(Slot, i32)>,
     pub procedures: Vec<Procedure>,
     pub formula: Formula,
@@ -118,6 +119,7 @@ struct Reader<'a> {
     /// First cell and length of each array.
     arrays: Vec<(usize, usize)>,
     cells: usize,
+    ranges: Vec<[i32; 2]>,
     procedures: Vec<Procedure>,
     /// How many parameters there are in the line that is read.
     parameters: usize,
@@ -161,14 +163,23 @@ fn signed(text: &[u8]) -> Option<i32> {
     }
 }
 
+/// Whether a slot with this range may have the value.
+pub fn within([low, high]: [i32; 2], value: i32) -> bool {
+    (low..=high).contains(&value)
+}
+
 // The lines.
 impl<'a> Reader<'a> {
     fn sheet(mut self) -> Read<Sheet> {
-        self.edition = self.line("edition", |r| r.number(1, 2))?;
+        self.edition = self.line("edition", |r| r.number(1, 3))?;
         self.scalars = self.line("scalars", |r| r.number(0, 64))? as usize;
         self.locals = self.line("locals", |r| r.number(0, 32))? as usize;
         self.cells = self.scalars;
         self.line("arrays", |r| r.items(Self::array))?;
+        self.ranges = vec![[i32::MIN, i32::MAX]; self.cells + self.locals];
+        if self.edition >= 3 {
+            self.line("ranges", Self::ranges)?;
+        }
         let mut given = Vec::new();
         self.line("given", |r| r.items(|r| r.given(&mut given)))?;
         while self.procedure_follows() {
@@ -180,7 +191,7 @@ impl<'a> Reader<'a> {
         if self.position < self.bytes.len() {
             return refused(5, self.position);
         }
-        Ok(Sheet { names: self.names(), slots: self.cells + self.locals, given, procedures: self.procedures, formula })
+        Ok(Sheet { names: self.names(), ranges: self.ranges, given, procedures: self.procedures, formula })
     }
 
     fn names(&self) -> Vec<String> {
@@ -225,6 +236,34 @@ impl<'a> Reader<'a> {
         Ok(())
     }
 
+    /// A range for each scalar and then each array, with commas between.
+    fn ranges(&mut self) -> Read<()> {
+        for scalar in 0..self.scalars {
+            self.range_of(scalar, 1)?;
+        }
+        for array in 0..self.arrays.len() {
+            let (first, length) = self.arrays[array];
+            self.range_of(first, length)?;
+        }
+        Ok(())
+    }
+
+    /// The range of so many cells; all but that of cell 0 stand after a comma.
+    fn range_of(&mut self, first: usize, length: usize) -> Read<()> {
+        if first > 0 {
+            self.want(b',')?;
+        }
+        let place = self.position;
+        let low = self.value()?;
+        self.want(b':')?;
+        let high = self.value()?;
+        if low > high {
+            return refused(14, place);
+        }
+        self.ranges[first..first + length].fill([low, high]);
+        Ok(())
+    }
+
     fn given(&mut self, given: &mut Vec<(Slot, i32)>) -> Read<()> {
         let place = self.position;
         let cell = match self.here() {
@@ -244,18 +283,20 @@ impl<'a> Reader<'a> {
             _ => return refused(5, place),
         };
         self.want(b':')?;
-        let at = self.position;
-        let Some(value) = signed(self.run()) else { return refused(4, at) };
+        let value = self.value()?;
         let Some(cell) = cell else { return refused(7, place) };
         if given.last().is_some_and(|&(last, _)| cell <= last.into()) {
             return refused(10, place);
+        }
+        if !within(self.ranges[cell], value) {
+            return refused(13, place);
         }
         given.push((cell as Slot, value));
         Ok(())
     }
 
     fn procedure_follows(&self) -> bool {
-        self.edition == 2 && self.procedures.len() < 16 && self.bytes[self.position..].starts_with(b"proc=")
+        self.edition >= 2 && self.procedures.len() < 16 && self.bytes[self.position..].starts_with(b"proc=")
     }
 
     fn procedure(&mut self) -> Read<Procedure> {
@@ -295,6 +336,11 @@ impl<'a> Reader<'a> {
             _ => refused(4, place),
         }
     }
+
+    fn value(&mut self) -> Read<i32> {
+        let place = self.position;
+        signed(self.run()).ok_or(Refused { number: 4, place })
+    }
 }
 
 // Formulas.
@@ -315,7 +361,7 @@ impl<'a> Reader<'a> {
         if is_number(text) {
             return signed(text).map(Word::Constant).ok_or(Refused { number: 4, place });
         }
-        let letters: &[u8] = if self.edition == 2 { b"vlap" } else { b"vla" };
+        let letters: &[u8] = if self.edition >= 2 { b"vlap" } else { b"vla" };
         Ok(match text {
             [letter, index @ ..] if letters.contains(letter) => natural(index).map_or(Word::Text(text), |n| Word::Name(*letter, n)),
             _ => Word::Text(text),
@@ -338,7 +384,7 @@ impl<'a> Reader<'a> {
             }
             b"some" => return Ok(Formula::Some(Box::new(self.range(at, depth)?))),
             b"all" => return Ok(Formula::All(Box::new(self.range(at, depth)?))),
-            b"call" if self.edition == 2 => return self.call(depth),
+            b"call" if self.edition >= 2 => return self.call(depth),
             b"eq" => Comparison::Eq,
             b"ne" => Comparison::Ne,
             b"lt" => Comparison::Lt,

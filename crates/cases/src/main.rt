@@ -16,7 +16,7 @@ ghost use Prim.Native.Nat.{_<_};
 ghost use lib.ListN.{length};
 
 fn main() {
-    let mut input = [0u8; 524288];
+    let mut input = [0u8; 655360];
     let mut work = [0u32; 399360];
     let mut output = [0u8; 65536];
     let mut lines = [0u8; CLOSING];

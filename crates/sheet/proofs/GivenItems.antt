@@ -119,7 +119,7 @@ module _ {D : Declared} {scalars arrays floor : ℕ} {w : Words} (v : Vacant D s
           require t 10 p (require (inRange D c z) 13 p (give (itemOf c z))) q ≡
           require t 10 p (require (allows w (valueAt w c) (biased z)) 13 p (give (itemOf c z))) q
       by-floor c z q true l h i =
-          ap (λ (b : Bool). require b 13 p (give (itemOf c z)) q) (sym (ap (λ (m : ℕ). allows w m (biased z)) (v .marks c (leb-true floor c l) h) ∙ v .ranges c h z i))
+          ap (λ (b : Bool). require b 13 p (give (itemOf c z)) q) (sym (ap (λ (m : ℕ). allows w m (biased z)) (v .marks c (leb-true floor c l) h) ∙ v .ranges .allowed c h z i))
       by-floor c z q false l h i = refl
 
       by-cell : (n : CellName) (z : ℤ) (q : Reader) (t : Bool) → isDeclared D n ≡ t → T (in32 z) →

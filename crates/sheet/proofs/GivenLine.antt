@@ -14,18 +14,19 @@ use Rattle.specification.specs.Lines.{Declared}
 use Rattle.specification.specs.Given.{Item, item, items, givenLine}
 use Rattle.text.specs.Class.{classAt}
 use Rattle.text.proofs.Laws.Class.{class-next, class-not-next}
-use Rattle.values.specs.Word.{biased, signed}
+use Rattle.values.specs.Word.{signed}
 use Rattle.values.proofs.Laws.Word.{biased-signed}
 use Rattle.tables.specs.Layout.{maxCells, cellSlot, firstSlot, rangeSlot}
-use Rattle.tables.proofs.Laws.Ranges.{SameRanges, allows-same}
+use Rattle.tables.proofs.Laws.Ranges.{SameRanges}
 use Rattle.sheet.specs.declared.given.Entry.{Entry}
 use Rattle.sheet.specs.declared.given.Entry.the-variants as entry
 use Rattle.sheet.specs.declared.given.Given.{Given}
 use Rattle.sheet.specs.declared.given.Given.the-variants as given
 use Rattle.sheet.specs.Reader.{lineAt}
-use Rattle.sheet.specs.Tables.{Words, markOf, laidGiven}
+use Rattle.sheet.specs.Tables.{Words, laidGiven}
 use Rattle.sheet.specs.Items.{itemOf, entryRead, Arranged, Vacant, Furnished, laidItems, givenRead, givenValue, GivenFound}
 use Rattle.sheet.proofs.Answers.{Origin, mapped-refused, mapped-found}
+use Rattle.sheet.proofs.Marks.{ranges-keep}
 use Rattle.sheet.proofs.Keys.{exactly-yes, exactly-no, mark-yes, closed, closed-yes, closed-no}
 use Rattle.sheet.proofs.GivenItems.{item-cell}
 
@@ -49,7 +50,7 @@ module _ (w : Words) (c z : ℕ) (h : c < maxCells) where
   }
 
   stored-vacant : {D : Declared} {scalars arrays floor : ℕ} → floor ≤ c → Vacant D scalars arrays floor w → Vacant D scalars arrays (c + 1) (stored c z w)
-  stored-vacant {D} above v =
+  stored-vacant above v =
       let d = v .declares in
       record {
         declares = record {
@@ -59,7 +60,7 @@ module _ (w : Words) (c z : ℕ) (h : c < maxCells) where
           small = d .small;
           held = λ a l. stored-other (firstSlot a) (λ e. omega arith) (λ e. omega arith) ∙ d .held a l;
         };
-        ranges = λ x l y t. allows-same stored-ranges (markOf D x) (biased y) ∙ v .ranges x l y t;
+        ranges = ranges-keep stored-ranges (v .ranges);
         marks = λ x l m. stored-other (cellSlot x + 1) (λ e. omega arith) (λ e. omega arith) ∙ v .marks x (omega arith) m;
       }
 

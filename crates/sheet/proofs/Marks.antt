@@ -24,8 +24,8 @@ use Rattle.specification.proofs.Laws.Ranges.{Own, scalar-number, element-number
 use Rattle.values.specs.Word.{biased}
 use Rattle.values.proofs.Laws.Word.{signed-biased, signed-le}
 use Rattle.tables.specs.Layout.{maxCells, maxRanges, cellSlot, rangeSlot, localsAt, rangesAt, duesAt}
-use Rattle.tables.specs.Ranges.{rangeMark, allows}
-use Rattle.tables.proofs.Laws.Ranges.{allows-every, allows-range}
+use Rattle.tables.specs.Ranges.{rangeMark, localMark, allows}
+use Rattle.tables.proofs.Laws.Ranges.{allows-every, allows-range, SameRanges, allows-same}
 use Rattle.sheet.specs.Tables.{Words, rangeFirst, rangeWidth, laidMarks, laidRange, laidRanges, markFrom, markOf}
 use Rattle.sheet.specs.Held.{RangesAt}
 
@@ -265,9 +265,22 @@ module _ (D : Declared) (f : Fitting D) where
             marks = λ d t. omega (arith, t .ends, span-limit D i);
           }) ∙ z
 
-  pub ranges-held : (w : Words) → duesAt ≤ length w → RangesAt (laidRanges D 0 (D .ranges) w) D
+  mark-low : (c : ℕ) → markOf D c < localMark
+  unfolding markOf
+  mark-low c = by-cell (ltb c (cells D)) refl
+    where
+      by-ranges : c < cells D → (rs : List Range) → D .ranges ≡ rs → markFrom rs (rangeNumber D c) < localMark
+      by-ranges h [] e = omega arith
+      by-ranges h (r ∷ rs) e = omega (arith, number-below c h (omega (arith, ap length e)), many-few)
+
+      by-cell : (b : Bool) → ltb c (cells D) ≡ b → pick b (markFrom (D .ranges) (rangeNumber D c)) 0 < localMark
+      by-cell true e = by-ranges (ltb-true c (cells D) e) (D .ranges) refl
+      by-cell false e = omega arith
+
+  mark-allows : (w : Words) → duesAt ≤ length w → (c : ℕ) → c < cells D → (v : ℤ) → T (in32 v) →
+      allows (laidRanges D 0 (D .ranges) w) (markOf D c) (biased v) ≡ inRange D c v
   unfolding markOf inRange rangeOf contains
-  ranges-held w long c h v t = rw (lt-ltb c (cells D) h) (by-ranges (D .ranges) refl)
+  mark-allows w long c h v t = rw (lt-ltb c (cells D) h) (by-ranges (D .ranges) refl)
     where
       in-v : in32 v ≡ true
       in-v = T-true (in32 v) t
@@ -286,3 +299,10 @@ module _ (D : Declared) (f : Fitting D) where
           let zero-m : 0 + m ≡ m = omega arith in
           allows-range _ (biased v) m (omega (arith, n, many-few, ap length e)) ∙
           rw (rw zero-m at (at .0), rw zero-m at (at .1), biased-le (x .low) v low t, biased-le v (x .high) t high, in-v)
+
+  pub ranges-held : (w : Words) → duesAt ≤ length w → RangesAt (laidRanges D 0 (D .ranges) w) D
+  ranges-held w long = record { low = mark-low; allowed = mark-allows w long }
+
+-- and so do words with the same ranges
+pub ranges-keep : {w w' : Words} {D : Declared} → SameRanges w w' → RangesAt w D → RangesAt w' D
+ranges-keep {D = D} s h = record { low = h .low; allowed = λ c l v t. allows-same s (markOf D c) (biased v) ∙ h .allowed c l v t }

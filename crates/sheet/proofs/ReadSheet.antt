@@ -27,7 +27,7 @@ use Rattle.sheet.proofs.Numbered.{renumbered, formula-counts}
 use Rattle.sheet.proofs.Shallow.{formula-shallow}
 use Rattle.sheet.proofs.Procs.{firstToken, few-parameters}
 use Rattle.sheet.proofs.Bodies.{Bodies, Read, bodies-at, procedures-read}
-use Rattle.sheet.proofs.Tables.{held, body-inside, body-held, first-held, arrays-held, start-held, start-marked, ranges-held-in}
+use Rattle.sheet.proofs.Tables.{held, body-inside, body-held, first-held, arrays-held, start-held, start-marked, ranges-at}
 
 -- ---- the tokens of a sheet
 
@@ -114,6 +114,6 @@ read-ready b s r n e h =
       procedures = bodies-held s n h c ok;
       values = start-held s n h (c .few) ok;
       marked = start-marked s n h (c .few) ok;
-      ranges = ranges-held-in s n h (c .few) ok;
+      ranges = ranges-at s n h (c .few) ok;
       arrays = arrays-held s n h (c .few) ok;
     }

@@ -17,9 +17,8 @@ use Rattle.specification.specs.WellFormed.{WellFormed}
 use Rattle.specification.specs.Outcome.{start}
 use Rattle.specification.proofs.Laws.Lists.{each-map}
 use Rattle.specification.proofs.Laws.Start.{start-local}
-use Rattle.values.specs.Word.{biased}
 use Rattle.tables.specs.Layout.{maxTokens, maxCells, maxArrays, maxProcs, maxRanges, cellSlot, localSlot, firstSlot, procSlot, rangeSlot, tokenSlot, cellsAt, localsAt, firstsAt, rangesAt, duesAt, pathAt}
-use Rattle.tables.proofs.Laws.Ranges.{SameRanges, allows-same}
+use Rattle.tables.proofs.Laws.Ranges.{SameRanges}
 use Rattle.sheet.specs.declared.Token.{Token}
 use Rattle.sheet.specs.Codes.{formulaTokens, proceduresTokens}
 use Rattle.sheet.specs.Tables.{Words, laidArrays, laidCells, markOf, laidGiven, laidTokens, declaredTables, tablesOf, sheetTokens, formulaStart, tables}
@@ -28,7 +27,7 @@ use Rattle.sheet.specs.Numbered.{Numbered}
 use Rattle.sheet.proofs.Laid.{tokens-other, ends-other, tokens-length, ends-length, Along, Entry, laid, skip}
 use Rattle.sheet.proofs.Held.{formula-at}
 use Rattle.sheet.proofs.Regions.{zeros, firsts-length, firsts-other, firsts-at, given-length, given-other, isFull, wordOf, CellWords, given-at}
-use Rattle.sheet.proofs.Marks.{span-limit, ranges-length, ranges-other, Fitting, many-few, marks-held, ranges-held}
+use Rattle.sheet.proofs.Marks.{span-limit, ranges-length, ranges-other, Fitting, many-few, marks-held, ranges-held, ranges-keep}
 use Rattle.sheet.proofs.Procs.{none, firstToken, tokens-split, procs-length, procs-other, procs-at}
 
 -- arrays, ranges and given values, without tokens
@@ -200,9 +199,8 @@ module _ (s : Sheet) (n : ℕ) (enough : pathAt ≤ n) (few : length (sheetToken
           above (cellSlot c + 1) (omega arith) ∙ beside-procs (cellSlot c + 1) (λ m x. (omega arith, omega arith)) ∙ g .1,
         )
 
-    pub ranges-held-in : RangesAt (tables s n) (s .declared)
-    ranges-held-in c h v t =
-        allows-same same (markOf (s .declared) c) (biased v) ∙ ranges-held (s .declared) fits first (omega (arith, arrayed-length (s .declared) n)) c h v t
+    pub ranges-at : RangesAt (tables s n) (s .declared)
+    ranges-at = ranges-keep same (ranges-held (s .declared) fits first (omega (arith, arrayed-length (s .declared) n)))
       where
         still : (j : ℕ) → rangesAt ≤ j → j < duesAt → getD (tables s n) j 0 ≡ getD under j 0
         still j x y =

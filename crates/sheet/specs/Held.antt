@@ -16,7 +16,7 @@ use Rattle.specification.specs.Value.{Slot, empty, full, Valuation}
 use Rattle.values.specs.Word.{biased}
 use Rattle.tables.specs.Layout.{maxTokens, maxCells, maxLocals, maxArrays, maxNesting, maxParameters, cellSlot, localSlot, firstSlot}
 pub use Rattle.tables.specs.Layout.{codeAt, operandAt, endAt, procAt}
-use Rattle.tables.specs.Ranges.{allows}
+use Rattle.tables.specs.Ranges.{localMark, allows}
 use Rattle.tables.specs.Codes.{trueCode, andCode, orCode, impCode, notCode, eqCode, exCode, someCode, allCode, callCode, constantCode, scalarCode, localCode, arrayCode, parameterCode, procedureCode}
 use Rattle.sheet.specs.Codes.{relCode, opCode}
 use Rattle.sheet.specs.Tables.{Words, markOf}
@@ -137,9 +137,10 @@ pub record Marked (w : Words) (D : Declared) (α : Valuation) : Type 0 where
   pub cells : (c : ℕ) → c < maxCells → α (cell c) ≡ empty → getD w (suc (cellSlot c)) 0 ≡ markOf D c
   pub locals : (l : ℕ) → l < maxLocals → α (local l) ≡ empty → getD w (suc (localSlot l)) 0 ≡ 0
 
--- the words hold the ranges: a cell's mark allows the values of its range
-abbrev pub RangesAt : Words → Declared → Type 0
-RangesAt w D = (c : ℕ) → c < cells D → (v : ℤ) → T (in32 v) → allows w (markOf D c) (biased v) ≡ inRange D c v
+-- the words hold the ranges: the marks of cells are below those of locals, and a cell's allows the values of its range
+pub record RangesAt (w : Words) (D : Declared) : Type 0 where
+  pub low : (c : ℕ) → markOf D c < localMark
+  pub allowed : (c : ℕ) → c < cells D → (v : ℤ) → T (in32 v) → allows w (markOf D c) (biased v) ≡ inRange D c v
 
 -- the words hold the arrays' first cells, and the end of the cells after them
 abbrev pub ArraysAt : Words → Declared → Type 0

@@ -109,7 +109,8 @@ module _ (b : Bytes) (S : Setting) (n : ℕ) (limit : S .path ≤ longestPath) (
           shallow = held .shallow;
           procedures = held .procedures;
           holds = held .values;
-          unmarked = held .unmarked;
+          marked = held .marked;
+          ranges = held .ranges;
           firsts = held .arrays;
           scalar-count = p;
           array-count = q;

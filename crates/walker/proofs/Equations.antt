@@ -10,11 +10,10 @@ use Rattle.specification.specs.Lines.{Declared, cells}
 use Rattle.specification.specs.Ast.{Term}
 use Rattle.specification.specs.Fill.{fillTerm, fill}
 use Rattle.specification.specs.Arithmetic.{eqZ, noValue}
-use Rattle.specification.specs.Place.{Place, cell, local, put}
-use Rattle.specification.specs.Value.{full, Valuation, Side, val, bare, err, side}
+use Rattle.specification.specs.Place.{Place, cell, local}
+use Rattle.specification.specs.Value.{Valuation, Side, val, bare, err, side}
 use Rattle.specification.specs.WellFormed as scopes
 use Rattle.specification.specs.Tree.{errorLeaf, step}
-use Rattle.specification.proofs.Laws.Allowed.{in32-allowed}
 use Rattle.specification.proofs.Laws.Scope as places
 use Rattle.specification.proofs.Laws.Value.{sane-val, sane-bare}
 use Rattle.values.proofs.Laws.Word.{signed-eq}
@@ -30,8 +29,8 @@ use Rattle.terms.proofs.Laws.Here.{end-here}
 use Rattle.walker.specs.declared.Regs.{Regs}
 use Rattle.walker.specs.Frame as frames
 use Rattle.walker.specs.Frame.{Item, treeItems, siteIn}
-use Rattle.walker.specs.Site.{Site, givenSite, RestAt, equateAt, growAt}
-use Rattle.walker.specs.Path.{World, Pend, InTable}
+use Rattle.walker.specs.Site.{Site, RestAt, assignAt, equateAt, growAt}
+use Rattle.walker.specs.Path.{World, Pend, Known}
 use Rattle.walker.specs.Sim.{tree, In}
 use Rattle.walker.specs.Steps.{Visited, Entered, OneLeaf, Assigns, Tested}
 use Rattle.walker.specs.Registers.{errorDue}
@@ -39,10 +38,10 @@ use Rattle.walker.proofs.Keep.{pend-keep}
 use Rattle.walker.proofs.Heads.{at-form, form-tree, in-spare, visited-spare}
 use Rattle.walker.proofs.Sided.{Terms, Has, Bare, back, forth, left-side, right-side, ltag-is, left-is, rtag-is, right-is, left-place, right-place, left-value, right-value, left-signed, right-signed}
 
--- a bare place that a term names has a slot in the tables
-in-table : (D : Declared) (S : scopes.Scope) → cells D ≤ maxCells → ((l : ℕ) → T (S l) → l < maxLocals) → (p : Place) → places.In D S p → InTable p
-in-table D S few small (cell c) h = omega arith
-in-table D S few small (local l) h = small l h
+-- a bare place that a term names is declared, and has a slot in the tables
+known : (D : Declared) (S : scopes.Scope) → cells D ≤ maxCells → ((l : ℕ) → T (S l) → l < maxLocals) → (p : Place) → places.In D S p → Known D p
+known D S few small (cell c) h = (h, omega arith)
+known D S few small (local l) h = small l h
 
 module _ {w : Words} {r : Regs} (x : Entered w r eqCode) where
   unfoldable pub eq-terms : Terms w r (r .due .head + 1) (endAt w (r .due .head))
@@ -73,7 +72,7 @@ module _ {w : Words} {r : Regs} (x : Entered w r eqCode) where
     -- the tree by the two sides
     equated : (c : World) (o : Bytes) (i : In c o w' r) →
         tree c (i .fr) (i .x) (i .α) ≡
-        step (equateAt (r .due .head) (lefts c o i) (rights c o i) (λ t β. treeItems (c .declared) (items c o i) t β) (siteIn (i .fr)) (i .α))
+        step (equateAt (c .declared) (r .due .head) (lefts c o i) (rights c o i) (λ t β. treeItems (c .declared) (items c o i) t β) (siteIn (i .fr)) (i .α))
     unfolding eq-terms back in-spare growAt fill
     equated c o i =
         let j = back eq-terms v i in
@@ -90,15 +89,15 @@ module _ {w : Words} {r : Regs} (x : Entered w r eqCode) where
 
     -- an error leaf by the two sides
     leaf-by : (k : ℕ) →
-        ((tok : ℕ) (p q : Side) (rest : RestAt) (u : Site) (α : Valuation) →
-        s .ltag ≡ tagOf p → s .left ≡ wordOf p → s .rtag ≡ tagOf q → s .right ≡ wordOf q → equateAt tok p q rest u α ≡ errorLeaf k tok α) →
+        ((D : Declared) (tok : ℕ) (p q : Side) (rest : RestAt) (u : Site) (α : Valuation) →
+        s .ltag ≡ tagOf p → s .left ≡ wordOf p → s .rtag ≡ tagOf q → s .right ≡ wordOf q → equateAt D tok p q rest u α ≡ errorLeaf k tok α) →
         OneLeaf w' r (errorDue k (r .due .head))
     leaf-by k f = record {
       at = visited;
       son = λ c o i. (
         frames.error k (r .due .head),
         equated c o i ∙
-            ap step (f (r .due .head) (lefts c o i) (rights c o i) (λ t β. treeItems (c .declared) (items c o i) t β) (siteIn (i .fr)) (i .α)
+            ap step (f (c .declared) (r .due .head) (lefts c o i) (rights c o i) (λ t β. treeItems (c .declared) (items c o i) t β) (siteIn (i .fr)) (i .α)
             (ltag-is eq-terms v c o i) (left-is eq-terms v c o i) (rtag-is eq-terms v c o i) (right-is eq-terms v c o i)),
         (refl, refl, refl),
         omega arith,
@@ -109,35 +108,35 @@ module _ {w : Words} {r : Regs} (x : Entered w r eqCode) where
     unfolding equateAt
     eq-left-error e = leaf-by (s .left) go
       where
-        go : (tok : ℕ) (p q : Side) (rest : RestAt) (u : Site) (α : Valuation) →
-            s .ltag ≡ tagOf p → s .left ≡ wordOf p → s .rtag ≡ tagOf q → s .right ≡ wordOf q → equateAt tok p q rest u α ≡ errorLeaf (s .left) tok α
-        go tok (val z) q rest u α a b c d = absurd (omega arith)
-        go tok (bare z) q rest u α a b c d = absurd (omega arith)
-        go tok (err κ) q rest u α a b c d = ap (λ k. errorLeaf k tok α) (sym b)
+        go : (D : Declared) (tok : ℕ) (p q : Side) (rest : RestAt) (u : Site) (α : Valuation) →
+            s .ltag ≡ tagOf p → s .left ≡ wordOf p → s .rtag ≡ tagOf q → s .right ≡ wordOf q → equateAt D tok p q rest u α ≡ errorLeaf (s .left) tok α
+        go D tok (val z) q rest u α a b c d = absurd (omega arith)
+        go D tok (bare z) q rest u α a b c d = absurd (omega arith)
+        go D tok (err κ) q rest u α a b c d = ap (λ k. errorLeaf k tok α) (sym b)
 
     pub eq-right-error : ¬ (s .ltag ≡ errorTag) → s .rtag ≡ errorTag → OneLeaf w' r (errorDue (s .right) (r .due .head))
     unfolding equateAt
     eq-right-error n e = leaf-by (s .right) go
       where
-        go : (tok : ℕ) (p q : Side) (rest : RestAt) (u : Site) (α : Valuation) →
-            s .ltag ≡ tagOf p → s .left ≡ wordOf p → s .rtag ≡ tagOf q → s .right ≡ wordOf q → equateAt tok p q rest u α ≡ errorLeaf (s .right) tok α
-        go tok p (val z) rest u α a b c d = absurd (omega arith)
-        go tok p (bare z) rest u α a b c d = absurd (omega arith)
-        go tok (val y) (err κ) rest u α a b c d = ap (λ k. errorLeaf k tok α) (sym d)
-        go tok (bare y) (err κ) rest u α a b c d = ap (λ k. errorLeaf k tok α) (sym d)
-        go tok (err y) (err κ) rest u α a b c d = absurd (n a)
+        go : (D : Declared) (tok : ℕ) (p q : Side) (rest : RestAt) (u : Site) (α : Valuation) →
+            s .ltag ≡ tagOf p → s .left ≡ wordOf p → s .rtag ≡ tagOf q → s .right ≡ wordOf q → equateAt D tok p q rest u α ≡ errorLeaf (s .right) tok α
+        go D tok p (val z) rest u α a b c d = absurd (omega arith)
+        go D tok p (bare z) rest u α a b c d = absurd (omega arith)
+        go D tok (val y) (err κ) rest u α a b c d = ap (λ k. errorLeaf k tok α) (sym d)
+        go D tok (bare y) (err κ) rest u α a b c d = ap (λ k. errorLeaf k tok α) (sym d)
+        go D tok (err y) (err κ) rest u α a b c d = absurd (n a)
 
     pub eq-both-bare : s .ltag ≡ bareTag → s .rtag ≡ bareTag → OneLeaf w' r (errorDue noValue (r .due .head))
     unfolding equateAt
     eq-both-bare e f = leaf-by 1 go
       where
-        go : (tok : ℕ) (p q : Side) (rest : RestAt) (u : Site) (α : Valuation) →
-            s .ltag ≡ tagOf p → s .left ≡ wordOf p → s .rtag ≡ tagOf q → s .right ≡ wordOf q → equateAt tok p q rest u α ≡ errorLeaf noValue tok α
-        go tok (val y) q rest u α a b c d = absurd (omega arith)
-        go tok (err y) q rest u α a b c d = absurd (omega arith)
-        go tok (bare y) (val z) rest u α a b c d = absurd (omega arith)
-        go tok (bare y) (err z) rest u α a b c d = absurd (omega arith)
-        go tok (bare y) (bare z) rest u α a b c d = refl
+        go : (D : Declared) (tok : ℕ) (p q : Side) (rest : RestAt) (u : Site) (α : Valuation) →
+            s .ltag ≡ tagOf p → s .left ≡ wordOf p → s .rtag ≡ tagOf q → s .right ≡ wordOf q → equateAt D tok p q rest u α ≡ errorLeaf noValue tok α
+        go D tok (val y) q rest u α a b c d = absurd (omega arith)
+        go D tok (err y) q rest u α a b c d = absurd (omega arith)
+        go D tok (bare y) (val z) rest u α a b c d = absurd (omega arith)
+        go D tok (bare y) (err z) rest u α a b c d = absurd (omega arith)
+        go D tok (bare y) (bare z) rest u α a b c d = refl
 
     -- one side bare, the other with a value
     abbrev Crossed : (c : World) (o : Bytes) (i : In c o w' r) → ℕ → ℕ → Type 0
@@ -147,7 +146,7 @@ module _ {w : Words} {r : Regs} (x : Entered w r eqCode) where
         × (other : Term) × scopes.OkTerm (c .declared) S other
         × (p : Bare (side (c .declared) (i .α) one) slot) × (q : Has (side (c .declared) (i .α) other) value)
         × ((rest : RestAt) (u : Site) →
-        equateAt (r .due .head) (lefts c o i) (rights c o i) rest u (i .α) ≡ rest (givenSite (p .place) u) (put (i .α) (p .place) (full (q .z))))
+        equateAt (c .declared) (r .due .head) (lefts c o i) (rights c o i) rest u (i .α) ≡ assignAt (c .declared) (p .place) (q .z) rest u (i .α))
 
     assigns : (slot value : ℕ) → ((c : World) (o : Bytes) (i : In c o w' r) → Crossed c o i slot value) → Assigns w' r slot value
     assigns slot value f = record {
@@ -162,9 +161,9 @@ module _ {w : Words} {r : Regs} (x : Entered w r eqCode) where
             rests c o i,
             p .word,
             q .word,
-            in-table (c .declared) S (i .path .cells) small (p .place) (b .0),
+            known (c .declared) S (i .path .cells) small (p .place) (b .0),
             b .1,
-            in32-allowed (c .declared) (p .place) (q .z) (sane-val (c .declared) S (i .α) (i .path .valid) other other-ok (q .z) (q .is)),
+            sane-val (c .declared) S (i .α) (i .path .valid) other other-ok (q .z) (q .is),
           );
     }
 

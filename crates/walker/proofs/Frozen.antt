@@ -12,14 +12,14 @@ use Rattle.specification.specs.Ast.{Term, constant, scalarAt, localAt, paramete
 use Rattle.specification.specs.Fill.{fillTerm, fill}
 use Rattle.specification.specs.Arithmetic.{eqZ, count}
 use Rattle.specification.specs.Place.{Place, local, put}
-use Rattle.specification.specs.Value.{Slot, empty, full, Valuation, Side, val, bare, err, pairOf, operate, elementSide, side}
+use Rattle.specification.specs.Value.{Slot, empty, full, Valuation, Side, val, bare, err, pairOf, operate, elementSide, side, allowed}
 use Rattle.specification.specs.WellFormed.{Scope, enter, OkTerm, Ok}
 use Rattle.specification.specs.Tree.{step, fork, compared, bounded, sons, denied, implied}
 use Rattle.specification.proofs.Laws.Scope.{Ext}
 use Rattle.specification.proofs.Laws.Place.{put-other, ext-trans, ext-put, in-fresh}
 use Rattle.specification.proofs.Laws.Fill.{Larger, larger-more}
 use Rattle.specification.proofs.Laws.Value.{sane-bare}
-use Rattle.walker.specs.Site.{Site, RestAt, sonSite, boundSite, innerSite, givenSite, equateAt, roundsAt, doneAt, growAt}
+use Rattle.walker.specs.Site.{Site, RestAt, sonSite, boundSite, innerSite, givenSite, assignAt, equateAt, roundsAt, doneAt, growAt}
 use Rattle.walker.proofs.Alike.{check-same, compared-same, bounded-same, enquire-same, denied-same, implied-same}
 
 module _ (D : Declared) (S : Scope) (α : Valuation) where
@@ -46,13 +46,18 @@ module _ (D : Declared) (S : Scope) (α : Valuation) where
   -- ---- nodes whose rest is alike
 
   module _ (k k′ : RestAt) (go : Alike k k′) where
+    assign-alike : (p : Place) (v : ℤ) (s : Site) (β : Valuation) → β p ≡ empty → Ext D S α β → assignAt D p v k s β ≡ assignAt D p v k′ s β
+    assign-alike p v s β none e =
+        check-same (allowed D p v) (λ γ. k (givenSite p s) (put γ p (full v))) (λ γ. k′ (givenSite p s) (put γ p (full v))) β
+        (go (givenSite p s) (put β p (full v)) (ext-given β p v none e))
+
     equate-alike :
         (tok : ℕ) (x y : Side) (s : Site) (β : Valuation) → ((p : Place) → x ≡ bare p → β p ≡ empty) → ((p : Place) → y ≡ bare p → β p ≡ empty) →
-        Ext D S α β → equateAt tok x y k s β ≡ equateAt tok x y k′ s β
+        Ext D S α β → equateAt D tok x y k s β ≡ equateAt D tok x y k′ s β
     unfolding equateAt
     equate-alike tok (val x) (val y) s β f g e = check-same (eqZ x y) (k (sonSite s)) (k′ (sonSite s)) β (go (sonSite s) β e)
-    equate-alike tok (val x) (bare q) s β f g e = go (givenSite q s) (put β q (full x)) (ext-given β q x (g q refl) e)
-    equate-alike tok (bare p) (val y) s β f g e = go (givenSite p s) (put β p (full y)) (ext-given β p y (f p refl) e)
+    equate-alike tok (val x) (bare q) s β f g e = assign-alike q x s β (g q refl) e
+    equate-alike tok (bare p) (val y) s β f g e = assign-alike p y s β (f p refl) e
     equate-alike tok (bare p) (bare q) s β f g e = refl
     equate-alike tok (bare p) (err κ) s β f g e = refl
     equate-alike tok (val x) (err κ) s β f g e = refl
@@ -103,7 +108,7 @@ module _ (D : Declared) (S : Scope) (α : Valuation) where
     fill-same (eq tok a b) S′ w o k k′ go s β e =
         ap step
         (equate-alike k k′ go tok (side D β (fillTerm ts a)) (side D β (fillTerm ts b)) s β (bare-place S′ a (o .0) β) (bare-place S′ b (o .1) β) e ∙
-        ap₂ (λ x y. equateAt tok x y k′ s β) (term-same a β e) (term-same b β e))
+        ap₂ (λ x y. equateAt D tok x y k′ s β) (term-same a β e) (term-same b β e))
     fill-same (compare tok r a b) S′ w o k k′ go s β e =
         ap step
         (compared-same tok r (pairOf (side D β (fillTerm ts a)) (side D β (fillTerm ts b))) (k (sonSite s)) (k′ (sonSite s)) β (go (sonSite s) β e) ∙

@@ -20,8 +20,8 @@ use Rattle.walker.specs.Site.{Site}
 use Rattle.walker.specs.Path.{World, Pend, Job, Changed, Asks, FrameAt, Stack}
 
 -- a node whose words for a slot and a register are the same keeps what it kept
-pub changed-words : {w w' : Words} {i : ℕ} {p : Place} {v : Site} {α : Valuation} → slotAt w' i ≡ slotAt w i → hadAt w' i ≡ hadAt w i →
-    oldAt w' i ≡ oldAt w i → innerAt w' i ≡ innerAt w i → Changed w i p v α → Changed w' i p v α
+pub changed-words : {D : Declared} {w w' : Words} {i : ℕ} {p : Place} {v : Site} {α : Valuation} → slotAt w' i ≡ slotAt w i → hadAt w' i ≡ hadAt w i →
+    oldAt w' i ≡ oldAt w i → innerAt w' i ≡ innerAt w i → Changed D w i p v α → Changed D w' i p v α
 changed-words slot had old inner q = record {
   slot = slot ∙ q .slot;
   inside = q .inside;
@@ -42,7 +42,7 @@ module _ {w w' : Words} (i : ℕ) (u : Kept (suc i) w w') where
   same-head : headAt w' i ≡ headAt w i
   same-head = u .nodes .same (nodeSlot i) (omega arith) (omega arith)
 
-  changed-keep : {p : Place} {v : Site} {α : Valuation} → Changed w i p v α → Changed w' i p v α
+  changed-keep : {D : Declared} {p : Place} {v : Site} {α : Valuation} → Changed D w i p v α → Changed D w' i p v α
   changed-keep =
       changed-words (same-word (slotWord i) (omega arith) (omega arith)) (same-word (hadWord i) (omega arith) (omega arith))
       (same-word (oldWord i) (omega arith) (omega arith)) (same-word (innerWord i) (omega arith) (omega arith))

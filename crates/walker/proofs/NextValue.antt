@@ -30,7 +30,7 @@ use Rattle.walker.specs.declared.Regs.{Regs}
 use Rattle.walker.specs.Walk.{sonsFrom}
 use Rattle.walker.specs.Frame.{Item, form, the, Frame, range, len, siteIn}
 use Rattle.walker.specs.Site.{boundSite}
-use Rattle.walker.specs.Path.{World, FrameAt, Path}
+use Rattle.walker.specs.Path.{World, FrameAt, Path, marksIn}
 use Rattle.walker.specs.Stands.{bodyOf, LeftAfter}
 use Rattle.walker.specs.Sim.{no, Down, Up}
 use Rattle.walker.specs.Registers.{formulaDue, dueRegs}
@@ -174,8 +174,8 @@ module _ {c : World} {w w' : Words} {r : Regs} {h p v : ℕ} (g : Follows w w' r
       let same = word-slots (currentWord (len fr)) (g .v) (omega arith) current-is in
       path-top P next-kept (range l x (suc i) m E F is β) refl next-frame
       (holds-again altered (a .1 .inside) β (full (x +ℤ pos i)) (holds-keep same (subst (Holds w) (P .chain .0) (P .holds))))
-      (altered-marks altered (a .1 .inside) (put β (local l) (full (x +ℤ pos i))) (put β (local l) (full (x +ℤ pos (suc i)))) (boundSite l (siteIn fr) .marks)
-      (boundSite l (siteIn fr) .marks) (marks-keep same (rw (P .chain .0) at (P .marks)))
+      (altered-marks altered (a .1 .inside) (put β (local l) (full (x +ℤ pos i))) (put β (local l) (full (x +ℤ pos (suc i))))
+      (marksIn (c .declared) (boundSite l (siteIn fr) .marks)) (marksIn (c .declared) (boundSite l (siteIn fr) .marks)) (marks-keep same (rw (P .chain .0) at (P .marks)))
       (λ q n. put-other β (local l) (full (x +ℤ pos (suc i))) q n ∙ sym (put-other β (local l) (full (x +ℤ pos i)) q n)) (λ q n. refl)
       (λ none. let z = sym (put-same β (local l) (full (x +ℤ pos (suc i)))) ∙ none in contradiction cc))
       (valid-put (c .declared) β (local l) (full (x +ℤ pos (suc i))) (P .chain .1) (next-in x i (a .3) more-here))

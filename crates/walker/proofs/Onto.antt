@@ -3,7 +3,7 @@
 use Prim.Native.Nat.{ℕ, suc, _+_, _<_}
 use native.Mathlib.Omega.{arith}
 use native.Mathlib.Numerals.{add-one}
-use mathlib.Core.Path.{_≡_, refl, sym, _∙_, ap}
+use mathlib.Core.Path.{_≡_, refl, sym, _∙_, ap, subst}
 use mathlib.Core.Bool.{Bool, false}
 use mathlib.Core.List.{List, [], _∷_}
 use lib.ListN.{getD}
@@ -28,8 +28,8 @@ use Rattle.walker.specs.declared.Due.{Due}
 use Rattle.walker.specs.declared.Regs.{Regs}
 use Rattle.walker.specs.Walk.{sonsFrom, within, walk}
 use Rattle.walker.specs.Frame.{Item, form, What, the, treeItems, treeWhat, Question, sonOf, Frame, pass, other, bound, given, range, asks, here, below, innerIn, siteIn}
-use Rattle.walker.specs.Site.{sonSite, boundSite, innerSite, givenSite}
-use Rattle.walker.specs.Path.{World, conditionsOf, Pend, Job, bit, Changed, Asks, FrameAt, Path}
+use Rattle.walker.specs.Site.{sonSite, boundMark, boundSite, innerSite, givenSite}
+use Rattle.walker.specs.Path.{World, conditionsOf, Pend, Job, bit, marksIn, Marks, Changed, Asks, FrameAt, Path}
 use Rattle.walker.specs.Stands.{Stands, Binds, LeftAfter}
 use Rattle.walker.specs.Sim.{tree, son, yes, no, Down, In, down}
 use Rattle.walker.specs.Steps.{Stepped}
@@ -39,7 +39,7 @@ use Rattle.walker.specs.States.{innerRoot, noTodo, otherTodo, undoTodo, 
 use Rattle.walker.proofs.Walk.{within-ask}
 use Rattle.walker.proofs.Registered.{site-depth, bound-other}
 use Rattle.walker.proofs.Keep.{frame-keep}
-use Rattle.walker.proofs.Slots.{holds-keep, holds-put, marks-keep, altered-marks}
+use Rattle.walker.proofs.Slots.{holds-keep, holds-put, marks-keep, marks-off, altered-marks}
 use Rattle.walker.proofs.Whole.{altered-kept, path-onto}
 use Rattle.walker.proofs.Pushes.{Replaces, replaces-kept, rest-onto, env-there}
 
@@ -90,20 +90,20 @@ module _ {c : World} {o : Bytes} {w : Words} {r : Regs} (i : In c o w r) where
   -- a frame that changes no slot
   plain : {w' : Words} → Kept (r .depth) w w' → SameSlots w w' → (f : Frame) → below f ≡ i .α → here f ≡ i .α → siteIn (f ∷ i .fr) .marks ≡ siteIn (i .fr) .marks →
       FrameAt c w' (r .depth) (siteIn (i .fr)) f → Path c w' (r .depth + 1) (below f) (f ∷ i .fr)
-  plain k u f e e′ m q =
-      path-onto (i .path) f (i .room) k e′ q (rw e (holds-keep u (i .path .holds))) (rw (e, m) (marks-keep u (i .path .marks))) (rw e (i .path .valid))
+  plain {w'} k u f e e′ m q =
+      path-onto (i .path) f (i .room) k e′ q (rw e (holds-keep u (i .path .holds))) (rw e (subst (Marks w' (i .α)) (ap (marksIn (c .declared)) (sym m)) (marks-keep u (i .path .marks)))) (rw e (i .path .valid))
 
   -- a frame that changes one
   changed : {w' : Words} {n : Node} (p : Place) (s : Slot) (a : Replaces (c .declared) w w' (r .depth) n (i .α) p s) → n .inner ≡ r .inner → (f : Frame) →
       below f ≡ put (i .α) p s → here f ≡ i .α → ((q : Place) → ¬ (q ≡ p) → siteIn (f ∷ i .fr) .marks q ≡ siteIn (i .fr) .marks q) →
-      (s ≡ empty → getD w' (slotOf p + 1) 0 ≡ siteIn (f ∷ i .fr) .marks p) →
-      (Changed (a .mid) (r .depth) p (siteIn (i .fr)) (i .α) → FrameAt c (a .mid) (r .depth) (siteIn (i .fr)) f) →
+      (s ≡ empty → getD w' (slotOf p + 1) 0 ≡ marksIn (c .declared) (siteIn (f ∷ i .fr) .marks) p) →
+      (Changed (c .declared) (a .mid) (r .depth) p (siteIn (i .fr)) (i .α) → FrameAt c (a .mid) (r .depth) (siteIn (i .fr)) f) →
       Path c w' (r .depth + 1) (below f) (f ∷ i .fr)
   changed {w'} p s a kept f e e′ off mark q =
       let g = a .pushed in
       let k = altered-kept (suc (r .depth)) (a .inside) (a .altered) in
       let same = marked-slots (g .linked .marked) in
-      let ch : Changed (a .mid) (r .depth) p (siteIn (i .fr)) (i .α) = record {
+      let ch : Changed (c .declared) (a .mid) (r .depth) p (siteIn (i .fr)) (i .α) = record {
         slot = g .place ∙ a .place;
         inside = a .inside;
         saved = rw (g .saved, g .value) (a .saved);
@@ -113,16 +113,17 @@ module _ {c : World} {o : Bytes} {w : Words} {r : Regs} (i : In c o w r) where
       path-onto (i .path) f (i .room) (replaces-kept a) e′ (frame-keep c (a .mid) w' (r .depth) (siteIn (i .fr)) f k (q ch))
       (rw e (holds-put (a .altered) (a .inside) (holds-keep same (i .path .holds))))
       (rw e
-      (altered-marks (a .altered) (a .inside) (i .α) (put (i .α) p s) (siteIn (i .fr) .marks) (siteIn (f ∷ i .fr) .marks) (marks-keep same (i .path .marks))
-      (put-other (i .α) p s) off (λ none. mark (sym (put-same (i .α) p s) ∙ none))))
+      (altered-marks (a .altered) (a .inside) (i .α) (put (i .α) p s) (marksIn (c .declared) (siteIn (i .fr) .marks))
+      (marksIn (c .declared) (siteIn (f ∷ i .fr) .marks)) (marks-keep same (i .path .marks))
+      (put-other (i .α) p s) (marks-off (c .declared) p off) (λ none. mark (sym (put-same (i .α) p s) ∙ none))))
       (rw e (valid-put (c .declared) (i .α) p s (i .path .valid) (a .good)))
 
   at-depth : siteIn (i .fr) .depth ≡ r .depth
   at-depth = site-depth (i .fr) ∙ sym (i .path .deep)
 
-  bound-mark : (l : ℕ) (s : Slot) {v : ℕ} → (s ≡ empty → v ≡ suc (r .depth)) → s ≡ empty → v ≡ boundSite l (siteIn (i .fr)) .marks (local l)
+  bound-mark : (l : ℕ) (s : Slot) {v : ℕ} → (s ≡ empty → v ≡ boundMark (r .depth)) → s ≡ empty → v ≡ boundSite l (siteIn (i .fr)) .marks (local l)
   bound-mark l s mark none =
-      mark none ∙ ap suc (sym at-depth) ∙ sym (put-same (siteIn (i .fr) .marks) (local l) (suc (siteIn (i .fr) .depth)))
+      mark none ∙ ap boundMark (sym at-depth) ∙ sym (put-same (siteIn (i .fr) .marks) (local l) (boundMark (siteIn (i .fr) .depth)))
 
   inner-number : r .depth + innerRoot ≡ innerSite (siteIn (i .fr)) .inner
   inner-number = ap (_+ innerRoot) (sym at-depth)
@@ -142,7 +143,7 @@ module _ {c : World} {o : Bytes} {w : Words} {r : Regs} (i : In c o w r) where
 
   -- a local that is bound
   pub down-bound : {w' : Words} {n : Node} (l : ℕ) (s : Slot) → Replaces (c .declared) w w' (r .depth) n (i .α) (local l) s → n .todo ≡ undoTodo →
-      n .inner ≡ r .inner → (s ≡ empty → getD w' (slotOf (local l) + 1) 0 ≡ suc (r .depth)) → (x : What) →
+      n .inner ≡ r .inner → (s ≡ empty → getD w' (slotOf (local l) + 1) 0 ≡ boundMark (r .depth)) → (x : What) →
       tree c (i .fr) (i .x) (i .α) ≡ step (treeWhat (c .declared) x (boundSite l (siteIn (i .fr))) (put (i .α) (local l) s)) → {d : Due} → Job c w' (r .depth + 1) d x →
       Down c o w' (dueRegs r (r .depth + 1) d (r .inner) (r .bad))
   unfolding within

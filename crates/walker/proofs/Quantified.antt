@@ -27,7 +27,7 @@ use Rattle.terms.proofs.Laws.Here.{code-here, operand-here, end-here}
 use Rattle.walker.specs.declared.Due.{Due}
 use Rattle.walker.specs.declared.Regs.{Regs}
 use Rattle.walker.specs.Frame.{form, again, the, treeItems}
-use Rattle.walker.specs.Site.{growAt}
+use Rattle.walker.specs.Site.{boundMark, growAt}
 use Rattle.walker.specs.Path.{World, Saved}
 use Rattle.walker.specs.Stands.{Binds, bodyOf}
 use Rattle.walker.specs.Sim.{In, Down}
@@ -60,7 +60,7 @@ module _ {c : World} {o : Bytes} {w : Words} {r : Regs} (i : In c o w r) (h l : 
 
 -- `ex`: the local starts without a value
 pub ex-down : {w w' : Words} {r : Regs} {d : Due} {n : Node} → Entered w r exCode → n ≡ binderNode w r (r .due .head) undoTodo 0 0 →
-    Alters w w' (r .depth) n 0 (r .depth + 1) → d ≡ formulaDue w' (r .due .head + 2) (r .due .rest) (r .due .env) →
+    Alters w w' (r .depth) n 0 (boundMark (r .depth)) → d ≡ formulaDue w' (r .due .head + 2) (r .due .rest) (r .due .env) →
     (c : World) (o : Bytes) → In c o w r → Down c o w' (dueRegs r (r .depth + 1) d (r .inner) (r .bad))
 unfolding growAt treeItems fill
 ex-down {w} {w'} {r} {d} {n} x e g k c o i =
@@ -73,7 +73,7 @@ ex-down {w} {w'} {r} {d} {n} x e g k c o i =
     let two : r .due .head + 2 ≡ suc (suc (r .due .head)) = omega arith in
     let place : n .slot ≡ slotOf (local (b .l)) = ap (λ (z : Node). z .slot) e ∙ slot-is i (r .due .head) (b .l) (b .small) is in
     let mark = alters-word (local (b .l)) g place (b .small) (omega (arith, i .path .size)) in
-    down-bound i (b .l) empty m refl refl (λ _. mark ∙ add-one (r .depth)) (the (form (a .E) (b .body) ∷ a .is)) (form-tree i a ∙ rw (b .is))
+    down-bound i (b .l) empty m refl refl (λ _. mark) (the (form (a .E) (b .body) ∷ a .is)) (form-tree i a ∙ rw (b .is))
     (rw (k, two)
     (formula-job c w' (r .depth + 1) (suc (suc (r .due .head))) (r .due .rest) (r .due .env) (a .E) (b .body) (a .is) (λ j z. a′ .tokens j z ∙ i .path .tokens j z)
     near (b .under) (env-there i (a .E) (r .depth + 1) a′ (omega arith) (a .env))

@@ -22,13 +22,13 @@ use Rattle.terms.specs.Environment.{Environment}
 use Rattle.walker.specs.declared.Regs.{Regs}
 use Rattle.walker.specs.Walk.{sonsFrom}
 use Rattle.walker.specs.Frame.{Item, Frame, pass, other, bound, given, range, asks, here, len, siteIn}
-use Rattle.walker.specs.Path.{World, Saved, Marks, Path}
+use Rattle.walker.specs.Path.{World, Saved, marksIn, Marks, Path}
 use Rattle.walker.specs.Sim.{yes, no, Up, Yes, Sim, over, up, won}
 use Rattle.walker.specs.Registers.{popRegs, stopRegs}
 use Rattle.walker.specs.Loop.{Topped, Rising, Rose, Exhausted, Untouched, Leaves, Undoable, Restores}
 use Rattle.walker.specs.States.{upMode, wonMode, otherTodo, undoTodo, nextTodo, judgeTodo, doneEnd}
 use Rattle.walker.proofs.Registered.{bound-other}
-use Rattle.walker.proofs.Slots.{in-table, Altered, second-word, alter, holds-back, altered-marks}
+use Rattle.walker.proofs.Slots.{in-table, Altered, second-word, alter, holds-back, marks-off, altered-marks}
 use Rattle.walker.proofs.Whole.{altered-kept, path-pop}
 use Rattle.walker.proofs.Tops.{top-index, top-undo, top-range}
 
@@ -126,7 +126,7 @@ record Leavable (c : World) (w w' : Words) (r : Regs) (fr : List Frame) (inner :
   gone : Exhausted c r fr
   kept : Kept (len (gone .under)) w w'
   holds : Holds w' (here (gone .top))
-  marks : Marks w' (here (gone .top)) (siteIn (gone .under) .marks)
+  marks : Marks w' (here (gone .top)) (marksIn (c .declared) (siteIn (gone .under) .marks))
   register : r .inner ≡ siteIn fr .inner → inner ≡ siteIn (gone .under) .inner
 
 module _ {c : World} {o : Bytes} {w w' : Words} {r : Regs} {inner : ℕ} where
@@ -214,8 +214,9 @@ module _ {w : Words} {r : Regs} (x : Restores w r) where
         gone = s .0;
         kept = altered-kept (len (s .0 .under)) (h .inside) a;
         holds = holds-back a (h .inside) β (s .2) refl (subst (Holds w) under (P .holds));
-        marks = altered-marks a (h .inside) (put β p (s .2)) β (siteIn fr .marks) (siteIn (s .0 .under) .marks)
-            (subst (λ γ. Marks w γ (siteIn fr .marks)) under (P .marks)) (λ q n. sym (put-other β p (s .2) q n)) (λ q n. sym (s .5 q n))
+        marks = altered-marks a (h .inside) (put β p (s .2)) β (marksIn (c .declared) (siteIn fr .marks)) (marksIn (c .declared) (siteIn (s .0 .under) .marks))
+            (subst (λ γ. Marks w γ (marksIn (c .declared) (siteIn fr .marks))) under (P .marks)) (λ q n. sym (put-other β p (s .2) q n))
+            (marks-off (c .declared) p (λ q n. sym (s .5 q n)))
             (λ none. word ∙ rw e at eo ∙ h .mark none);
         register = λ _. rw e at en ∙ h .inner;
       })

@@ -9,14 +9,14 @@ use Rattle.specification.specs.Lines.{Declared}
 use Rattle.specification.specs.Ast.{Term, Formula, truth, and, or, imp, neg, eq, compare, ex, some, all, call}
 use Rattle.specification.specs.Arithmetic.{eqZ, count}
 use Rattle.specification.specs.Place.{Place, local, put}
-use Rattle.specification.specs.Value.{Slot, empty, full, Valuation, Side, val, bare, err, pairOf, side}
+use Rattle.specification.specs.Value.{Slot, empty, full, Valuation, allowed, Side, val, bare, err, pairOf, side}
 use Rattle.specification.specs.WellFormed.{Scope, nowhere, enter, OkTerm, Ok}
 use Rattle.specification.specs.Outside.{binds}
-use Rattle.specification.specs.Tree.{step, fork, Rest, equate, sons, rounds, denied, implied, doneInside, grow, treeOf}
+use Rattle.specification.specs.Tree.{step, fork, Rest, assign, equate, sons, rounds, denied, implied, doneInside, grow, treeOf}
 use Rattle.specification.proofs.Laws.Value.{sane-bare}
 use Rattle.specification.proofs.Laws.Outside.{and-within, or-within, imp-within, ex-within, some-within, all-within, Covers, covers-nowhere, covers-enter}
 use Rattle.walker.specs.States.{innerRoot}
-use Rattle.walker.specs.Site.{Site, RestAt, rootSite, sonSite, boundSite, innerSite, givenSite, equateAt, roundsAt, doneAt, growAt}
+use Rattle.walker.specs.Site.{Site, RestAt, rootSite, sonSite, boundSite, innerSite, givenSite, assignAt, equateAt, roundsAt, doneAt, growAt}
 use Rattle.walker.specs.Frame.{form, treeItems}
 use Rattle.walker.proofs.Alike.{check-same, compared-same, bounded-same, enquire-same, denied-same, implied-same, fill-none}
 use Rattle.walker.proofs.Tracks.{Home, main, inner, Bound, Tracks, tracks-root, tracks-inner, tracks-son, tracks-bound, tracks-leave, tracks-given, done-main, done-inner}
@@ -67,14 +67,15 @@ module _ (D : Declared) where
       -- the bare place that a term names gets a value
       given-sited :
           (a : Term) → OkTerm D S a → (p : Place) (v : ℤ) → side D α a ≡ bare p →
-          k (givenSite p s) (put α p (full v)) ≡ k′ (put α p (full v))
+          assignAt D p v k s α ≡ assign D p v k′ α
       given-sited a o p v e =
           let b = sane-bare D S α a o p e in
-          go (givenSite p s) (put α p (full v)) (tracks-given D S c p v (b .0) s α (b .1) t)
+          check-same (allowed D p v) (λ β. k (givenSite p s) (put β p (full v))) (λ β. k′ (put β p (full v))) α
+          (go (givenSite p s) (put α p (full v)) (tracks-given D S c p v (b .0) s α (b .1) t))
 
       equate-sited :
           (tok : ℕ) (a b : Term) → OkTerm D S a → OkTerm D S b → (x y : Side) → side D α a ≡ x → side D α b ≡ y →
-          equateAt tok x y k s α ≡ equate tok x y k′ α
+          equateAt D tok x y k s α ≡ equate D tok x y k′ α
       unfolding equateAt equate
       equate-sited tok a b oa ob (val x) (val y) e f = check-same (eqZ x y) (k (sonSite s)) k′ α (son-sited s α t)
       equate-sited tok a b oa ob (val x) (bare q) e f = given-sited b ob q x f

@@ -2,9 +2,10 @@
 use Prim.Native.Nat.{ℕ, suc, _+_, _≤_, _<_}
 use native.Mathlib.Omega.{arith}
 use native.Mathlib.Numerals.{add-one}
-use mathlib.Core.Path.{_≡_, sym, _∙_, ap}
+use mathlib.Core.Path.{_≡_, refl, sym, _∙_, ap}
 use lib.ListN.{length, getD, set, length-set}
 use lib.Seq.{getD-set-same, getD-set-other}
+use Rattle.specification.specs.Lines.{Declared}
 use Rattle.specification.specs.Place.{Place, cell, local, put}
 use Rattle.specification.specs.Value.{Slot, empty, full, Valuation}
 use Rattle.specification.proofs.Laws.Place.{place-dec, put-same, put-other}
@@ -12,7 +13,7 @@ use Rattle.tables.specs.Layout.{cellsAt, firstsAt, pathAt}
 use Rattle.tables.specs.Kept.{SameSlots}
 use Rattle.sheet.specs.Tables.{Words}
 use Rattle.sheet.specs.Held.{SlotAt, slotOf, Holds}
-use Rattle.walker.specs.Path.{Saved, InTable, Marks}
+use Rattle.walker.specs.Path.{Saved, InTable, marksIn, Marks}
 
 -- ---- a slot for each place
 
@@ -64,6 +65,12 @@ pub marks-keep : {w w' : Words} {α : Valuation} {m : Place → ℕ} → SameSlo
 marks-keep u h p q e =
     let z = in-table p q in
     u .same (slotOf p + 1) (omega (arith, z .low)) (omega (arith, z .high)) ∙ h p q e
+
+-- marks of sites that are the same elsewhere are the same in the words
+pub marks-off : (D : Declared) (p : Place) {m n : Place → ℕ} → ((q : Place) → ¬ (q ≡ p) → n q ≡ m q) →
+    (q : Place) → ¬ (q ≡ p) → marksIn D n q ≡ marksIn D m q
+marks-off D p off (cell c) x = refl
+marks-off D p off (local l) x = off (local l) x
 
 -- ---- words with the slot s at p, and every other word as it was
 

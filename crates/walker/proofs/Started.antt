@@ -23,7 +23,7 @@ use Rattle.walker.specs.declared.Task.{Task}
 use Rattle.walker.specs.Walk.{walk}
 use Rattle.walker.specs.Frame.{form, the}
 use Rattle.walker.specs.Stands.{Good}
-use Rattle.walker.specs.Path.{World, Marks}
+use Rattle.walker.specs.Path.{World, marksIn, Marks}
 use Rattle.walker.specs.Sim.{Down, Sim}
 use Rattle.walker.specs.Loop.{Fixed}
 use Rattle.walker.specs.Walked.{Ready, startRegs, Finished, Walked}
@@ -60,6 +60,7 @@ module _ {w : Words} {o : Bytes} {t : Task} (s : Sheet) (a : Ready w t s) where
       limit = a .limit;
       tokens = λ j h. refl;
       arrays = a .firsts;
+      ranges = a .ranges;
       cells = a .well .limits .cells;
       few = a .well .limits .arrays;
       procedures = record {
@@ -74,7 +75,7 @@ module _ {w : Words} {o : Bytes} {t : Task} (s : Sheet) (a : Ready w t s) where
       stack = tt;
       chain = tt;
       holds = a .holds;
-      marks = unmarked;
+      marks = marked;
       valid = start-valid (s .declared) (s .given) (a .well .values);
     };
     inner = refl;
@@ -90,9 +91,9 @@ module _ {w : Words} {o : Bytes} {t : Task} (s : Sheet) (a : Ready w t s) where
       start-good =
           record { scope = nowhere; locals = λ l h. absurd h; ok = rw (fill-none (s .formula)) (a .well .formula); shallow = a .shallow }
 
-      unmarked : Marks w (start (s .given)) (λ p. 0)
-      unmarked (cell c) h e = rw add-one (a .unmarked .cells c h e)
-      unmarked (local l) h e = rw add-one (a .unmarked .locals l h e)
+      marked : Marks w (start (s .given)) (marksIn (s .declared) (λ p. 0))
+      marked (cell c) h e = rw add-one (a .marked .cells c h e)
+      marked (local l) h e = rw add-one (a .marked .locals l h e)
 
 -- ---- the end
 

@@ -23,7 +23,7 @@ use Rattle.specification.proofs.Laws.Scope.{In}
 use Rattle.specification.proofs.Laws.Place.{in-enter}
 use Rattle.specification.proofs.Laws.Outside.{Covers, in-declares, in-outside}
 use Rattle.walker.specs.States.{mainTree, innerRoot}
-use Rattle.walker.specs.Site.{Site, site, rootSite, sonSite, boundSite, innerSite, givenSite, doneAt}
+use Rattle.walker.specs.Site.{Site, site, rootSite, sonSite, boundMark, boundSite, innerSite, givenSite, doneAt}
 use Rattle.walker.proofs.Told.{Told, apart, told-put, told-given, told-gave}
 
 -- ---- homes
@@ -44,7 +44,7 @@ Bound (inner F α n) l = T (binds F l)
 -- in an inner tree: its root has the number n
 record Inside (D : Declared) (S : Scope) (F : Formula) (α : Valuation) (n : ℕ) (s : Site) (β : Valuation) : Type 0 where
   least : innerRoot ≤ n
-  root : n ≤ suc (s .depth)
+  root : n ≤ boundMark (s .depth)
   -- a place in scope has a mark below the number if and only if it is outside F
   around : (p : Place) → In D S p → T (outside F p) → s .marks p < n
   within : (p : Place) → In D S p → ¬ (T (outside F p)) → n ≤ s .marks p
@@ -57,7 +57,7 @@ Stands D S (inner F α n) s β = Inside D S F α n s β
 
 -- what is in scope was bound above
 pub record Tracks (D : Declared) (S : Scope) (h : Home) (s : Site) (β : Valuation) : Type 0 where
-  low : (p : Place) → In D S p → s .marks p ≤ s .depth
+  low : (p : Place) → In D S p → s .marks p < boundMark (s .depth)
   stands : Stands D S h s β
 
 -- ---- at the roots
@@ -116,7 +116,7 @@ module _ (D : Declared) (S : Scope) (l : ℕ) where
       Tracks D (enter S l) h (boundSite l s) (put β (local l) x)
   tracks-bound {h} {s} {β} x b t =
       record {
-        low = λ q i. bound-cases (s .marks) (suc (s .depth)) (_≤ suc (s .depth)) q i (λ e. omega arith) (λ j. let a = t .low q j in omega arith);
+        low = λ q i. bound-cases (s .marks) (boundMark (s .depth)) (_< boundMark (suc (s .depth))) q i (λ e. omega arith) (λ j. let a = t .low q j in omega arith);
         stands = go h b (t .stands);
       }
     where
@@ -127,8 +127,8 @@ module _ (D : Declared) (S : Scope) (l : ℕ) where
           record {
             least = w .least;
             root = let r = w .root in omega arith;
-            around = λ q i u. bound-cases (s .marks) (suc (s .depth)) (_< n) q i (λ e. absurd (apart F q (local l) u z e)) (λ j. w .around q j u);
-            within = λ q i u. bound-cases (s .marks) (suc (s .depth)) (n ≤_) q i (λ e. w .root) (λ j. w .within q j u);
+            around = λ q i u. bound-cases (s .marks) (boundMark (s .depth)) (_< n) q i (λ e. absurd (apart F q (local l) u z e)) (λ j. w .around q j u);
+            within = λ q i u. bound-cases (s .marks) (boundMark (s .depth)) (n ≤_) q i (λ e. w .root) (λ j. w .within q j u);
             told = told-put D F α n β (s .inner) (local l) x z (w .told);
           }
 

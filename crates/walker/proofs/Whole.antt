@@ -6,12 +6,14 @@ use mathlib.Core.List.{List, _∷_}
 use Rattle.specification.specs.Place.{Place}
 use Rattle.specification.specs.Value.{Slot, Valuation}
 use Rattle.specification.specs.WellFormed.{Valid}
-use Rattle.tables.specs.Layout.{firstSlot, procSlot}
+use Rattle.tables.specs.Layout.{firstSlot, procSlot, rangeSlot}
 use Rattle.tables.specs.Kept.{Kept}
+use Rattle.tables.proofs.Laws.Ranges.{SameRanges}
 use Rattle.sheet.specs.Tables.{Words}
 use Rattle.sheet.specs.Held.{Holds}
+use Rattle.sheet.proofs.Marks.{ranges-keep}
 use Rattle.walker.specs.Frame.{Frame, here, below, len, siteIn}
-use Rattle.walker.specs.Path.{World, InTable, Marks, FrameAt, Stack, Chain, Procedures, Path}
+use Rattle.walker.specs.Path.{World, InTable, marksIn, Marks, FrameAt, Stack, Chain, Procedures, Path}
 use Rattle.walker.proofs.Keep.{stack-keep}
 use Rattle.walker.proofs.Slots.{in-table, Altered}
 
@@ -28,6 +30,13 @@ altered-kept {w} {w'} {p} n h a =
 
 -- ---- the path
 
+-- the words of the ranges stay
+ranges-kept : {w w' : Words} {n : ℕ} → Kept n w w' → SameRanges w w'
+ranges-kept k = record {
+  lowest = λ j h. k .firsts (rangeSlot j) (omega arith) (omega arith);
+  highest = λ j h. k .firsts (rangeSlot j + 1) (omega arith) (omega arith);
+}
+
 pub procedures-kept : {c : World} {w w' : Words} {n : ℕ} → Kept n w w' → Procedures c w → Procedures c w'
 procedures-kept k p =
     record {
@@ -41,12 +50,13 @@ procedures-kept k p =
 module _ {c : World} {w w' : Words} {d : ℕ} {α : Valuation} {fr : List Frame} (P : Path c w d α fr) where
   -- other frames in the words w'
   with-frames : {n d' : ℕ} (β : Valuation) (fr′ : List Frame) → Kept n w w' → d' ≡ len fr′ → d' ≤ c .setting .path → Stack c w' fr′ → Chain (c .declared) β fr′ →
-      Holds w' β → Marks w' β (siteIn fr′ .marks) → Valid (c .declared) β → Path c w' d' β fr′
+      Holds w' β → Marks w' β (marksIn (c .declared) (siteIn fr′ .marks)) → Valid (c .declared) β → Path c w' d' β fr′
   with-frames β fr′ k e i s q h m v = record {
     size = rw (k .size) (P .size);
     limit = P .limit;
     tokens = λ j a. k .tokens j a ∙ P .tokens j a;
     arrays = λ a b. k .firsts (firstSlot a) (omega arith) (omega arith) ∙ P .arrays a b;
+    ranges = ranges-keep (ranges-kept k) (P .ranges);
     cells = P .cells;
     few = P .few;
     procedures = procedures-kept k (P .procedures);
@@ -60,13 +70,13 @@ module _ {c : World} {w w' : Words} {d : ℕ} {α : Valuation} {fr : List Frame}
   }
 
   -- the same path
-  pub path-kept : Kept d w w' → Holds w' α → Marks w' α (siteIn fr .marks) → Path c w' d α fr
+  pub path-kept : Kept d w w' → Holds w' α → Marks w' α (marksIn (c .declared) (siteIn fr .marks)) → Path c w' d α fr
   path-kept k h m =
       with-frames α fr k (P .deep) (P .inside) (stack-keep c w w' fr (rw (P .deep) at k) (P .stack)) (P .chain) h m (P .valid)
 
   -- a frame more
   pub path-onto : (f : Frame) → d < c .setting .path → Kept d w w' → here f ≡ α → FrameAt c w' d (siteIn fr) f → Holds w' (below f) →
-      Marks w' (below f) (siteIn (f ∷ fr) .marks) → Valid (c .declared) (below f) → Path c w' (d + 1) (below f) (f ∷ fr)
+      Marks w' (below f) (marksIn (c .declared) (siteIn (f ∷ fr) .marks)) → Valid (c .declared) (below f) → Path c w' (d + 1) (below f) (f ∷ fr)
   path-onto f room k e q h m v =
       let deep = P .deep in
       with-frames (below f) (f ∷ fr) k (omega arith) (omega arith)
@@ -75,14 +85,14 @@ module _ {c : World} {w w' : Words} {d : ℕ} {α : Valuation} {fr : List Frame}
 
 module _ {c : World} {w w' : Words} {d : ℕ} {α : Valuation} {f : Frame} {fr : List Frame} (P : Path c w d α (f ∷ fr)) (k : Kept (len fr) w w') where
   -- another frame on top
-  pub path-top : (g : Frame) → here g ≡ here f → FrameAt c w' (len fr) (siteIn fr) g → Holds w' (below g) → Marks w' (below g) (siteIn (g ∷ fr) .marks) →
+  pub path-top : (g : Frame) → here g ≡ here f → FrameAt c w' (len fr) (siteIn fr) g → Holds w' (below g) → Marks w' (below g) (marksIn (c .declared) (siteIn (g ∷ fr) .marks)) →
       Valid (c .declared) (below g) → Path c w' d (below g) (g ∷ fr)
   path-top g e q h m v =
       with-frames P (below g) (g ∷ fr) k (P .deep) (P .inside) (q, stack-keep c w w' fr k (P .stack .1))
       (refl, rw e (P .chain .1), rw e (P .chain .2)) h m v
 
   -- the topmost frame is left
-  pub path-pop : Holds w' (here f) → Marks w' (here f) (siteIn fr .marks) → Path c w' (d - 1) (here f) fr
+  pub path-pop : Holds w' (here f) → Marks w' (here f) (marksIn (c .declared) (siteIn fr .marks)) → Path c w' (d - 1) (here f) fr
   path-pop h m =
       with-frames P (here f) fr k (omega (arith, P .deep)) (omega (arith, P .inside)) (stack-keep c w w' fr k (P .stack .1)) (P .chain .2) h m
       (P .chain .1)

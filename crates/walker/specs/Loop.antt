@@ -77,7 +77,7 @@ abbrev pub Undoable : World → Words → Regs → List Frame → Type 0
 Undoable c w r fr =
     (s : Exhausted c r fr) × (p : Place) × (v : Slot)
     × (below (s .top) ≡ put (here (s .top)) p v)
-    × Changed w (len (s .under)) p (siteIn (s .under)) (here (s .top))
+    × Changed (c .declared) w (len (s .under)) p (siteIn (s .under)) (here (s .top))
     × ((q : Place) → ¬ (q ≡ p) → siteIn fr .marks q ≡ siteIn (s .under) .marks q)
 
 pub record Restores (w : Words) (r : Regs) : Type 0 where

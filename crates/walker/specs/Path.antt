@@ -18,8 +18,8 @@ use Rattle.tables.specs.Layout.{nodeSlot, procAt, maxTokens, maxLocals, maxCell
 use Rattle.tables.specs.Kept.{SameTokens}
 use Rattle.tables.specs.Node.{headAt, restAt, todoAt, envAt, slotAt, hadAt, oldAt, currentAt, lastAt, innerAt, badAt}
 use Rattle.tables.specs.Codes.{andCode, impCode, notCode, allCode}
-use Rattle.sheet.specs.Tables.{Words}
-use Rattle.sheet.specs.Held.{codeAt, endAt, slotOf, Holds, ArraysAt, ProceduresAt}
+use Rattle.sheet.specs.Tables.{Words, markOf}
+use Rattle.sheet.specs.Held.{codeAt, endAt, slotOf, Holds, ArraysAt, RangesAt, ProceduresAt}
 use Rattle.terms.specs.Environment.{EnvAt}
 use Rattle.walker.specs.declared.Due.{Due}
 use Rattle.walker.specs.Stands.{Stands, Binds, LeftAfter}
@@ -103,16 +103,26 @@ abbrev pub InTable : Place → Type 0
 InTable (cell c) = c < maxCells
 InTable (local l) = l < maxLocals
 
+-- a cell that is declared, or a local
+abbrev pub Known : Declared → Place → Type 0
+Known D (cell c) = (c < cells D) × (c < maxCells)
+Known D (local l) = l < maxLocals
+
+-- the marks in the words: a cell's tells its range, a local's where it was bound
+abbrev pub marksIn : Declared → (Place → ℕ) → Place → ℕ
+marksIn D m (cell c) = markOf D c
+marksIn D m (local l) = m (local l)
+
 -- the second word of each slot without a value is the place's mark
 abbrev pub Marks : Words → Valuation → (Place → ℕ) → Type 0
 Marks w α m = (p : Place) → InTable p → α p ≡ empty → getD w (slotOf p + 1) 0 ≡ m p
 
 -- node i at a site changed p, and keeps what α had there, the mark with it, and the register
-pub record Changed (w : Words) (i : ℕ) (p : Place) (u : Site) (α : Valuation) : Type 0 where
+pub record Changed (D : Declared) (w : Words) (i : ℕ) (p : Place) (u : Site) (α : Valuation) : Type 0 where
   pub slot : slotAt w i ≡ slotOf p
   pub inside : InTable p
   pub saved : Saved (hadAt w i) (oldAt w i) (α p)
-  pub mark : α p ≡ empty → oldAt w i ≡ u .marks p
+  pub mark : α p ≡ empty → oldAt w i ≡ marksIn D (u .marks) p
   pub inner : innerAt w i ≡ u .inner
 
 -- the question of the node i whose token is h
@@ -135,11 +145,11 @@ FrameAt c w i u (other E G is α) =
     × Stands (c .declared) (c .tables) E (endAt (c .tables) (suc (headAt w i))) G
     × EnvAt (c .declared) w i (envAt w i) E
     × Pend c w i (restAt w i) is
-FrameAt c w i u (bound l s α) = (todoAt w i ≡ undoTodo) × Changed w i (local l) u α
-FrameAt c w i u (given p v α) = (todoAt w i ≡ undoTodo) × Changed w i p u α
+FrameAt c w i u (bound l s α) = (todoAt w i ≡ undoTodo) × Changed (c .declared) w i (local l) u α
+FrameAt c w i u (given p v α) = (todoAt w i ≡ undoTodo) × Changed (c .declared) w i p u α
 FrameAt c w i u (range l x j n E F is α) =
     (todoAt w i ≡ nextTodo)
-    × Changed w i (local l) u α
+    × Changed (c .declared) w i (local l) u α
     × Binds (c .declared) (c .tables) E (headAt w i) l F
     × LeftAfter (currentAt w i) (lastAt w i) n (x +ℤ pos (suc j))
     × (signed (currentAt w i) ≡ x +ℤ pos j)
@@ -179,6 +189,7 @@ pub record Path (c : World) (w : Words) (d : ℕ) (α : Valuation) (fr : List Fr
   pub limit : c .setting .path ≤ maxPath
   pub tokens : SameTokens (c .tables) w
   pub arrays : ArraysAt w (c .declared)
+  pub ranges : RangesAt w (c .declared)
   pub cells : cells (c .declared) ≤ maxCells
   pub few : length (c .declared .arrays) ≤ maxArrays
   pub procedures : Procedures c w
@@ -187,5 +198,5 @@ pub record Path (c : World) (w : Words) (d : ℕ) (α : Valuation) (fr : List Fr
   pub stack : Stack c w fr
   pub chain : Chain (c .declared) α fr
   pub holds : Holds w α
-  pub marks : Marks w α (siteIn fr .marks)
+  pub marks : Marks w α (marksIn (c .declared) (siteIn fr .marks))
   pub valid : Valid (c .declared) α

@@ -9,14 +9,15 @@ use Rattle.specification.specs.Lines.{Declared}
 use Rattle.specification.specs.Ast.{Formula, truth, and, or, imp, neg, eq, compare, ex, some, all, call}
 use Rattle.specification.specs.Arithmetic.{noValue, undecidedInside, eqZ, count}
 use Rattle.specification.specs.Place.{Place, local, put}
-use Rattle.specification.specs.Value.{empty, full, Side, val, bare, err, pairOf, side}
+use Rattle.specification.specs.Value.{empty, full, allowed, Side, val, bare, err, pairOf, side}
 use Rattle.specification.specs.Tree.{successLeaf, errorLeaf, step, fork, Rest, check, compared, bounded, sons, denied, implied, enquire}
+use Rattle.tables.specs.Ranges.{localMark}
 use Rattle.walker.specs.States.{mainTree, givenTree, innerRoot}
 
 -- ---- sites
 
--- `depth`: how many nodes are above; `inner`: the register of that name; `marks`: one more than the depth of the node that bound a local, and
--- 0 for a cell
+-- `depth`: how many nodes are above; `inner`: the register of that name; `marks`: for a local by the depth of the node that bound it, and 0 for
+-- a cell, whose mark in the words tells its range
 pub record Site : Type 0 where
   pub depth : ℕ
   pub inner : ℕ
@@ -33,9 +34,13 @@ rootSite = site 0 mainTree (λ p. 0)
 abbrev pub sonSite : Site → Site
 sonSite s = site (suc (s .depth)) (s .inner) (s .marks)
 
+-- the mark of a local that a node of this depth binds
+abbrev pub boundMark : ℕ → ℕ
+boundMark depth = localMark + depth
+
 -- below a binder of the local
 abbrev pub boundSite : ℕ → Site → Site
-boundSite l s = site (suc (s .depth)) (s .inner) (put (s .marks) (local l) (suc (s .depth)))
+boundSite l s = site (suc (s .depth)) (s .inner) (put (s .marks) (local l) (boundMark (s .depth)))
 
 -- the root of an inner tree: what is bound above it has a mark below its number
 abbrev pub innerSite : Site → Site
@@ -55,14 +60,17 @@ givenSite p s = site (suc (s .depth)) (afterGiven (s .marks p) (s .inner)) (s .m
 abbrev pub RestAt : Type 0
 RestAt = Site → Rest
 
-unfoldable pub equateAt : ℕ → Side → Side → RestAt → RestAt
-equateAt tok (val x) (val y) k s α = check (eqZ x y) (k (sonSite s)) α
-equateAt tok (val x) (bare q) k s α = k (givenSite q s) (put α q (full x))
-equateAt tok (bare p) (val y) k s α = k (givenSite p s) (put α p (full y))
-equateAt tok (bare p) (bare q) k s α = errorLeaf noValue tok α
-equateAt tok (bare p) (err κ) k s α = errorLeaf κ tok α
-equateAt tok (val x) (err κ) k s α = errorLeaf κ tok α
-equateAt tok (err κ) y k s α = errorLeaf κ tok α
+abbrev pub assignAt : Declared → Place → ℤ → RestAt → RestAt
+assignAt D p v k s α = check (allowed D p v) (λ β. k (givenSite p s) (put β p (full v))) α
+
+unfoldable pub equateAt : Declared → ℕ → Side → Side → RestAt → RestAt
+equateAt D tok (val x) (val y) k s α = check (eqZ x y) (k (sonSite s)) α
+equateAt D tok (val x) (bare q) k s α = assignAt D q x k s α
+equateAt D tok (bare p) (val y) k s α = assignAt D p y k s α
+equateAt D tok (bare p) (bare q) k s α = errorLeaf noValue tok α
+equateAt D tok (bare p) (err κ) k s α = errorLeaf κ tok α
+equateAt D tok (val x) (err κ) k s α = errorLeaf κ tok α
+equateAt D tok (err κ) y k s α = errorLeaf κ tok α
 
 unfoldable pub roundsAt : (RestAt → RestAt) → ℕ → RestAt → ℕ → ℤ → RestAt
 roundsAt F l k zero v s α = step (k (sonSite s) α)
@@ -75,7 +83,7 @@ doneAt s α = step (pick (eqb (s .inner) givenTree) (errorLeaf undecidedInside 0
 module _ (D : Declared) where
   unfoldable pub growAt : Formula → RestAt → RestAt
   growAt truth k s α = step (k (sonSite s) α)
-  growAt (eq tok a b) k s α = step (equateAt tok (side D α a) (side D α b) k s α)
+  growAt (eq tok a b) k s α = step (equateAt D tok (side D α a) (side D α b) k s α)
   growAt (compare tok r a b) k s α = step (compared tok r (pairOf (side D α a) (side D α b)) (k (sonSite s)) α)
   growAt (or F G) k s α = fork (growAt F k (sonSite s) α) (growAt G k (sonSite s) α)
   growAt (and F G) k s α = step (growAt F (λ t β. growAt G k t β) (sonSite s) α)

@@ -4,6 +4,7 @@ use Prim.Native.Nat.{ℕ, _+_}
 use Rattle.specification.specs.declared.End.the-variants.{Done, Spent, Path, Output}
 use Rattle.specification.specs.Report.{endNumber}
 use Rattle.tables.specs.Codes.{lastCode}
+use Rattle.tables.specs.Ranges.{localMark}
 
 -- ---- modes: a visit is due, a son is finished, an inner tree has succeeded, a block is due; below these the walk is over, and the mode is the
 -- number of its end
@@ -64,7 +65,7 @@ abbrev pub givenTree : ℕ
 givenTree = 1
 
 abbrev pub innerRoot : ℕ
-innerRoot = 2
+innerRoot = localMark + 1
 
 -- ---- which tally grows
 

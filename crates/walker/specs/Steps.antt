@@ -8,6 +8,7 @@ use lib.ListN.{length}
 use lib.Dec.{T}
 use lib.IntN.{ℤ, pos, _+ℤ_}
 use Rattle.specification.specs.Bytes.{Bytes}
+use Rattle.specification.specs.Number.{in32}
 use Rattle.specification.specs.Ast.{Rel, Formula}
 use Rattle.specification.specs.Arithmetic.{test, noValue}
 use Rattle.specification.specs.Place.{Place, local, put}
@@ -26,8 +27,8 @@ use Rattle.terms.specs.Environment.{Environment, EnvAt}
 use Rattle.walker.specs.declared.Due.{Due}
 use Rattle.walker.specs.declared.Regs.{Regs}
 use Rattle.walker.specs.Frame.{Item, form, again, What, the, treeItems, siteIn}
-use Rattle.walker.specs.Site.{boundSite, givenSite}
-use Rattle.walker.specs.Path.{World, Pend, Job, InTable}
+use Rattle.walker.specs.Site.{boundSite, givenSite, assignAt}
+use Rattle.walker.specs.Path.{World, Pend, Job, InTable, Known}
 use Rattle.walker.specs.Stands.{Binds, LeftAfter}
 use Rattle.walker.specs.Sim.{tree, son, In, Sim}
 use Rattle.walker.specs.Registers.{level}
@@ -82,8 +83,22 @@ pub record OneLeaf (w : Words) (r : Regs) (d : Due) : Type 0 where
       (c : World) (o : Bytes) (i : In c o w r) →
       (x : What) × (tree c (i .fr) (i .x) (i .α) ≡ step (son c (i .fr) x (i .α))) × Job c w (suc (r .depth)) d x × (successJob ≤ d .job)
 
--- the node's one son is the rest, with the value for the place whose slot begins with the word `slot`
+-- the node's one son is the rest, with the value for the place whose slot begins with the word `slot`, or a failure leaf where it may not have it
 pub record Assigns (w : Words) (r : Regs) (slot value : ℕ) : Type 0 where
+  pub at : Visited w r
+  pub son :
+      (c : World) (o : Bytes) (i : In c o w r) →
+      (is : List Item) × (p : Place) × (v : ℤ)
+      × (tree c (i .fr) (i .x) (i .α) ≡ step (assignAt (c .declared) p v (λ s β. treeItems (c .declared) is s β) (siteIn (i .fr)) (i .α)))
+      × Pend c w (r .depth) (r .due .rest) is
+      × (slot ≡ slotOf p)
+      × (value ≡ biased v)
+      × Known (c .declared) p
+      × (i .α p ≡ empty)
+      × T (in32 v)
+
+-- and it may have it
+pub record Gives (w : Words) (r : Regs) (slot value : ℕ) : Type 0 where
   pub at : Visited w r
   pub son :
       (c : World) (o : Bytes) (i : In c o w r) →

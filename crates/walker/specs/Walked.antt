@@ -12,7 +12,7 @@ use Rattle.specification.specs.Outcome.{ran, resultOf, start, runOf, outcome, o
 use Rattle.specification.specs.Report.{endFrom}
 use Rattle.tables.specs.Layout.{nodeSlot, maxProcs, maxPath}
 use Rattle.sheet.specs.Tables.{Words}
-use Rattle.sheet.specs.Held.{FormulaAt, Shallow, Holds, Unmarked, ArraysAt, ProceduresAt}
+use Rattle.sheet.specs.Held.{FormulaAt, Shallow, Holds, Marked, ArraysAt, RangesAt, ProceduresAt}
 use Rattle.walker.specs.declared.Regs.{Regs}
 use Rattle.walker.specs.declared.Task.{Task}
 use Rattle.walker.specs.Registers.{formulaDue}
@@ -25,8 +25,9 @@ pub record Ready (w : Words) (t : Task) (s : Sheet) : Type 0 where
   pub shallow : Shallow maxProcs (s .formula)
   pub procedures : ProceduresAt w (s .declared)
   pub holds : Holds w (start (s .given))
-  pub unmarked : Unmarked w (start (s .given))
+  pub marked : Marked w (s .declared) (start (s .given))
   pub firsts : ArraysAt w (s .declared)
+  pub ranges : RangesAt w (s .declared)
   pub scalar-count : t .scalars ≡ s .declared .scalars
   pub array-count : t .arrays ≡ length (s .declared .arrays)
   pub limit : t .setting .path ≤ maxPath

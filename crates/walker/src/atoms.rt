@@ -15,12 +15,16 @@ use terms::Sides;
 use terms::kinds;
 use terms::tags;
 
-// An `eq` with a bare side: the value goes into the empty slot, whose mark the node keeps (inner.rt); then the rest.
+// An `eq` with a bare side: a failure leaf if the place may not have the value, by its mark; else the value goes into the empty slot, whose mark
+// the node keeps (inner.rt), and then comes the rest.
 fn assign(w: &mut [u32], r: Regs, slot: u32, value: u32) -> Regs
     requires { ⌜ Assigns (now w) r slot value ⌝ }
     ensures { λ q. ⌜ Stepped (now (w .entry)) (now (w .exit)) r q ⌝ }
 {
     let mark = tables::word(w, slot + 1);
+    if !tables::ranges::allows(w, mark, value) {
+        return sons::fail(w, r);
+    }
     let n = Node {
         head: r.due.head,
         rest: r.due.rest,

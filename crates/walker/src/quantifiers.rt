@@ -16,6 +16,7 @@ use crate::sons;
 use crate::todos;
 use tables::nodes;
 use tables::nodes::Node;
+use tables::ranges::LOCAL_MARK;
 use tables::slots;
 use terms::Sides;
 
@@ -63,13 +64,13 @@ fn bounds(w: &mut [u32], h: u32, env: u32) -> Sides
     terms::evaluation::sides(w, h + AFTER_LOCAL, e, env)
 }
 
-// `ex`: its formula, the local without a value, then the rest. Its mark (inner.rt) is one more than this node's depth.
+// `ex`: its formula, the local without a value, then the rest. Its mark (inner.rt) tells this node's depth.
 pub(crate) fn enter_ex(w: &mut [u32], r: Regs) -> Regs
     requires { ⌜ Entered (now w) r exCode ⌝ }
     ensures { λ q. ⌜ Stepped (now (w .entry)) (now (w .exit)) r q ⌝ }
 {
     let n = binder(w, r, r.due.head, todos::UNDO, 0, 0);
-    changes::alter(w, r.depth, n, 0, r.depth + 1);
+    changes::alter(w, r.depth, n, 0, LOCAL_MARK + r.depth);
     let d = dues::formula(w, r.due.head + AFTER_LOCAL, r.due.rest, r.due.env);
     registers::due(r, r.depth + 1, d, r.inner, r.bad)
 }

@@ -15,7 +15,7 @@ use Rattle.specification.specs.WellFormed.{Scope}
 use Rattle.specification.proofs.Laws.Scope.{In, Fits}
 
 module _ (D : Declared) where
-  inRange-in32 : (c : ℕ) (v : ℤ) → T (inRange D c v) → T (in32 v)
+  pub inRange-in32 : (c : ℕ) (v : ℤ) → T (inRange D c v) → T (in32 v)
   unfolding inRange contains
   inRange-in32 c v t = let r = rangeOf D c in (and-yes (in32 v) (within (r .low) (r .high) v) t) .0
 
