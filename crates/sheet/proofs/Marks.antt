@@ -162,9 +162,9 @@ module _ (D : Declared) where
       let e : k + 0 ≡ k = omega arith in
       rw e (
         later (rangeSlot k) (omega arith) (omega arith) ∙ getD-set-other v (rangeSlot k + 1) (rangeSlot k) (biased (r .high)) 0 (omega arith)
-        ∙ getD-set-same w (rangeSlot k) (biased (r .low)) 0 (omega arith),
+            ∙ getD-set-same w (rangeSlot k) (biased (r .low)) 0 (omega arith),
         later (rangeSlot k + 1) (omega arith) (omega arith)
-        ∙ getD-set-same v (rangeSlot k + 1) (biased (r .high)) 0 (rw (length-set w (rangeSlot k) (biased (r .low))) (omega arith)),
+            ∙ getD-set-same v (rangeSlot k + 1) (biased (r .high)) 0 (rw (length-set w (rangeSlot k) (biased (r .low))) (omega arith)),
       )
     where
       u : Words

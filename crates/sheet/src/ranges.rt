@@ -147,7 +147,14 @@ fn ranges_at(s: &[u8], from: usize, scalars: u32, arrays: u32, w: &mut [u32]) ->
 }
 
 // The line of ranges, where the words have the arrays of a sheet of this edition.
-pub(crate) fn ranges_line(s: &[u8], at: usize, edition: u32, scalars: u32, arrays: u32, w: &mut [u32]) -> Ranges
+pub(crate) fn ranges_line(
+    s: &[u8],
+    at: usize,
+    edition: u32,
+    scalars: u32,
+    arrays: u32,
+    w: &mut [u32],
+) -> Ranges
     requires { ⌜ (Arranged scalars arrays (now w)) × (scalars ≤ maxScalars) × (pathAt ≤ length (now w)) ⌝ }
     ensures { λ r. ⌜ RangesDone edition scalars arrays (now (s .entry)) at (now (w .entry)) (now (w .exit)) r ⌝ }
 {

@@ -5,4 +5,5 @@ pub mod Case
 pub mod Marked
 pub mod Decided
 pub mod Calls
+pub mod Ranged
 pub mod WrongBoxes
