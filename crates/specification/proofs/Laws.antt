@@ -65,6 +65,7 @@ pub mod Printed
 pub mod Report
 -- the third demand
 pub mod Agreement
+pub mod InRanges
 pub mod NoPattern
 pub mod Demand3
 pub mod Listed

@@ -27,3 +27,4 @@ pub mod Listed
 pub mod Demand2
 pub mod Plain
 pub mod Demand3
+pub mod InRanges

@@ -20,7 +20,7 @@ use Rattle.specification.proofs.Laws.CutShort.{shorter-refused}
 use Rattle.specification.proofs.Laws.Whole.{whole-blocks}
 use Rattle.vodlasim.specs.Lent.{Lent}
 use Rattle.vodlasim.specs.Answered.{Answered}
-use Rattle.vodlasim.specs.Demands.{Memory, Lists, Agrees, CutShort}
+use Rattle.vodlasim.specs.Demands.{Memory, Lists, Agrees, KeepsRanges, CutShort}
 
 -- a result by its outcome
 ran-of : (x : Result) (e : End) (t : Tallies) (n : ℕ) → outcome x ≡ Ran e t n → (w : Bytes) × (x ≡ ran e t w) × (length w ≡ n)
@@ -83,6 +83,9 @@ module _ (sheet : Bytes) (S : Setting) (work output : Lent) (r : Outcome) (a : A
     none = λ t n h z. let x = ran-told Done t n h in (x .listed, x .none refl z .0, x .none refl z .1);
     right = λ e t n h. let x = ran-told e t n h in (x .listed, x .right);
   }
+
+  pub keeps-ranges : KeepsRanges sheet (output .after) r
+  keeps-ranges = record { ran = λ e t n h. let x = ran-told e t n h in (x .listed, x .in-ranges) }
 
   pub cut-short : CutShort sheet r
   cut-short = record {

@@ -24,6 +24,7 @@ use Rattle.specification.specs.Report.{reportOf}
 use Rattle.specification.specs.Listed.{Listed}
 use Rattle.specification.specs.Demand2.{ReadLeftToRight}
 use Rattle.specification.specs.Demand3.{NoPattern, Right, Demand3}
+use Rattle.specification.specs.InRanges.{InRanges}
 use Rattle.vodlasim.specs.Lent.{Lent}
 
 -- demand 1: lent memory is accounted for
@@ -62,6 +63,12 @@ pub record Agrees (sheet : Bytes) (S : Setting) (output' : Bytes) (r : Outcome) 
   pub right :
       (end : End) (t : Tallies) (n : ℕ) → r ≡ Ran end t n →
       (l : Listed sheet (take n output')) × Right (l .what) (l .blocks)
+
+-- no block that a run listed, of an answer or of an error, names a value outside its cell's range, whatever was skipped and however it ended
+pub record KeepsRanges (sheet output' : Bytes) (r : Outcome) : Type 0 where
+  pub ran :
+      (end : End) (t : Tallies) (n : ℕ) → r ≡ Ran end t n →
+      (l : Listed sheet (take n output')) × InRanges (l .what .declared) (l .blocks)
 
 -- a sheet that is cut short, as where a read fails, is refused and never runs as another pattern
 pub record CutShort (sheet : Bytes) (r : Outcome) : Type 0 where

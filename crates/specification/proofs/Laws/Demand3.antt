@@ -1,5 +1,5 @@
--- What a call that ran has told (the second and the third demand, and that listed answers are right whatever ended the run), for every sheet of
--- whatever bytes and every setting. And truth of a filling is two-valued. Assumes nothing.
+-- What a call that ran has told (the second and the third demand, that listed answers are right and no listed value is outside its range,
+-- whatever ended the run), for every sheet of whatever bytes and every setting. And truth of a filling is two-valued. Assumes nothing.
 use Prim.Native.Nat.{ℕ}
 use mathlib.Core.Path.{_≡_, refl, sym, _∙_, ap, subst}
 use mathlib.Core.List.{[], append-nil}
@@ -19,6 +19,7 @@ use Rattle.specification.specs.Listed.{Listed}
 use Rattle.specification.specs.Demand2.{leafCount, past, leavesBefore, listedBefore, Ends, ReadLeftToRight}
 use Rattle.specification.specs.Plain.{Filling, env, True}
 use Rattle.specification.specs.Demand3.{NoPattern, Right, Agreement, Demand3}
+use Rattle.specification.specs.InRanges.{InRanges}
 use Rattle.specification.proofs.Laws.Past.{each-past}
 use Rattle.specification.proofs.Laws.Blocks.{listing-injective}
 use Rattle.specification.proofs.Laws.ReadSheet.{read-well-formed}
@@ -27,20 +28,21 @@ use Rattle.specification.proofs.Laws.Leaves.{leavesIn-visits, each-firs
 use Rattle.specification.proofs.Laws.CallRan.{call-ran}
 use Rattle.specification.proofs.Laws.Demand2.{leavesBefore-is, Holds, read-left-to-right}
 use Rattle.specification.proofs.Laws.Agreement.{allBlocks, right, agreement}
+use Rattle.specification.proofs.Laws.InRanges.{in-ranges}
 use Rattle.specification.proofs.Laws.NoPattern.{no-pattern}
 
 -- ---- the blocks up to a place
 
 -- the blocks of the first leaves, past the skipped ones, are among all
-right-before : (s : Sheet) → WellFormed s → (skip n : ℕ) → Right s (listedBefore s skip n)
+among : (s : Sheet) (wf : WellFormed s) (skip n : ℕ) (P : Block → Type 0) → Each P (allBlocks s wf) → Each P (listedBefore s skip n)
 unfolding listedBefore leavesBefore
-right-before s wf skip n =
-    let among : (P : Block → Type 0) → Each P (allBlocks s wf) → Each P (past skip (blocks (s .declared) 0 0 (take (leafCount (take n (visitsOf s))) (leaves (rootOf s))))) =
-    λ P h. each-past P skip _ (each-first-blocks (s .declared) P (leafCount (take n (visitsOf s))) (leaves (rootOf s)) 0 0 h) in
-    record {
-      names-given = among _ (right s wf .names-given);
-      sound = λ φ such. among _ (right s wf .sound φ such);
-    }
+among s wf skip n P h = each-past P skip _ (each-first-blocks (s .declared) P (leafCount (take n (visitsOf s))) (leaves (rootOf s)) 0 0 h)
+
+right-before : (s : Sheet) → WellFormed s → (skip n : ℕ) → Right s (listedBefore s skip n)
+right-before s wf skip n = record {
+  names-given = among s wf skip n _ (right s wf .names-given);
+  sound = λ φ such. among s wf skip n _ (right s wf .sound φ such);
+}
 
 -- with nothing skipped, and all visited, they are all
 all-before : (s : Sheet) (wf : WellFormed s) (skip n : ℕ) → skip ≡ 0 → n ≡ length (visitsOf s) → listedBefore s skip n ≡ allBlocks s wf
@@ -53,11 +55,12 @@ all-before s wf skip n z e =
 -- ---- of a call
 
 -- what a call that ran has told: the sheet and the blocks that stand in the bytes written, of which the second demand holds, whose answers are
--- right, and which agree with the plain reading where all was visited and nothing skipped; and what the tallies say of patterns
+-- right, which name values of the ranges only, and which agree with the plain reading where all was visited and nothing skipped; and what the tallies say of patterns
 pub record Told (sheet written : Bytes) (S : Setting) (size : ℕ) (end : End) (t : Tallies) : Type 0 where
   pub listed : Listed sheet written
   pub tree : ReadLeftToRight (listed .what) S size end t (listed .blocks)
   pub right : Right (listed .what) (listed .blocks)
+  pub in-ranges : InRanges (listed .what .declared) (listed .blocks)
   pub agrees : S .skip ≡ 0 → end ≡ Done → Agreement (listed .what) (listed .blocks)
   pub none : end ≡ Done → t .errors ≡ 0 → (t .answers ≡ 0 → NoPattern (listed .what)) × (NoPattern (listed .what) → t .answers ≡ 0)
 
@@ -78,6 +81,7 @@ told sheet S words size end t w h =
       };
       tree = tree;
       right = rw (tree .blocks) (right-before s wf (S .skip) (tree .place));
+      in-ranges = rw (tree .blocks) (among s wf (S .skip) (tree .place) _ (in-ranges s wf));
       agrees = λ skip done.
           let all : tree .place ≡ length (visitsOf s) = subst (λ e. Ends s S size e (tree .place)) done (tree .ends) in
           rw (tree .blocks, all-before s wf (S .skip) (tree .place) skip all) (agreement s wf);

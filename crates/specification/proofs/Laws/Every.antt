@@ -12,7 +12,7 @@ use Rattle.specification.specs.Tree.{Tree, Verdict, verdict, Rest, check
 use Rattle.specification.proofs.Laws.Scope.{Every, Any}
 
 -- two values come from sides with values
-pair-values : (s t : Side) (x y : ℤ) → pairOf s t ≡ values x y → (s ≡ val x) × (t ≡ val y)
+pub pair-values : (s t : Side) (x y : ℤ) → pairOf s t ≡ values x y → (s ≡ val x) × (t ≡ val y)
 unfolding pairOf
 pair-values (val a) (val b) x y e = (cc, cc)
 pair-values (val a) (bare q) x y e = (cc, cc)
