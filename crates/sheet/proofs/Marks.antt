@@ -3,7 +3,7 @@
 use Prim.Native.Nat.{ℕ, zero, suc, _+_, _-_, _≤_, _<_}
 use native.Mathlib.Omega.{arith}
 use mathlib.Core.Path.{_≡_, refl, sym, _∙_, ap}
-use mathlib.Core.Bool.{Bool, true, false, _&&_}
+use mathlib.Core.Bool.{Bool, true, false}
 use mathlib.Core.Logic.{_≢_}
 use mathlib.Core.List.{List, [], _∷_}
 use lib.ListN.{length, getD, set, length-set}
@@ -20,7 +20,7 @@ use Rattle.specification.specs.Lines.{Range, Declared, contains, everything, ce
 use Rattle.specification.specs.WellFormed.{Ordered}
 use Rattle.specification.proofs.Laws.Lists.{each-getD}
 use Rattle.specification.proofs.Laws.Elements.{first-next, first-limit}
-use Rattle.specification.proofs.Laws.Ranges.{Own, scalar-number, element-number, cell-own}
+use Rattle.specification.proofs.Laws.Ranges.{scalar-number, element-number, cell-own}
 use Rattle.values.specs.Word.{biased}
 use Rattle.values.proofs.Laws.Word.{signed-biased, signed-le}
 use Rattle.tables.specs.Layout.{maxCells, maxRanges, cellSlot, rangeSlot, localsAt, rangesAt, duesAt}
@@ -129,7 +129,7 @@ module _ (D : Declared) where
     pub high : j ≢ rangeSlot k + 1
     pub marks : (c : ℕ) → Spans D k c → j ≢ cellSlot c + 1
 
-  pub range-length : (k : ℕ) (r : Range) (w : Words) → length (laidRange D k r w) ≡ length w
+  range-length : (k : ℕ) (r : Range) (w : Words) → length (laidRange D k r w) ≡ length w
   range-length k r w = marks-length (rangeMark k) (rangeFirst D k) (rangeWidth D k) _ ∙ simp length-set
 
   pub range-other : (j k : ℕ) (r : Range) (w : Words) → Apart j k → getD (laidRange D k r w) j 0 ≡ getD w j 0

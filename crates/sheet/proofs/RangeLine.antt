@@ -1,24 +1,23 @@
 -- Laws of the line of ranges: one range, the words that it makes, one turn of the reading of ranges, for every sheet whose arrays the words
 -- have, and the line's answer. Assumes nothing.
-use Prim.Native.Nat.{ℕ, zero, suc, _+_, _-_, _<_, _≤_}
+use Prim.Native.Nat.{ℕ, suc, _+_, _-_, _<_, _≤_}
 use native.Mathlib.Numerals.{add-one}
 use native.Mathlib.Omega.{arith}
 use mathlib.Core.Path.{_≡_, refl, sym, ap, subst, _∙_}
 use mathlib.Core.Bool.{Bool, true, false}
 use mathlib.Core.List.{List, [], _∷_}
 use lib.ListN.{length, drop, set, length-set}
-use lib.Seq.{getD-set-other}
 use lib.Dec.{leb, ltb}
 use lib.Signed.{leZ}
-use borrow.Author.Tests.{ltb-true, ltb-false, lt-ltb, le-ltb, le-leb, lt-leb, eq-eqb, ne-eqb}
+use borrow.Author.Tests.{ltb-false, lt-ltb, le-ltb, le-leb, lt-leb, eq-eqb, ne-eqb}
 use Rattle.specification.specs.Bytes.{Bytes, bytes, pick, feed, comma, colon, classNumber, begins}
 use Rattle.specification.specs.Parser.{Reader, Read, refused, found, Parser, require, andThen, _>>=_, _>>_, give, mark}
-use Rattle.specification.specs.Lines.{value, Range, Declared, range, ranges, rangesLine, cells, firstOf, lengthOf}
+use Rattle.specification.specs.Lines.{value, Range, Declared, range, ranges, rangesLine, firstOf, lengthOf}
 use Rattle.specification.proofs.Laws.Elements.{first-next}
 use Rattle.text.specs.Class.{classAt}
 use Rattle.values.specs.Word.{signed}
 use Rattle.values.proofs.Laws.Word.{biased-signed, signed-le}
-use Rattle.tables.specs.Layout.{maxCells, maxArrays, cellSlot, firstSlot, rangeSlot, firstAt}
+use Rattle.tables.specs.Layout.{maxCells, cellSlot, firstSlot, rangeSlot, firstAt}
 use Rattle.tables.specs.Ranges.{rangeMark}
 use Rattle.sheet.specs.declared.lines.Integer.{Integer}
 use Rattle.sheet.specs.declared.lines.Integer.the-variants as integer
@@ -33,7 +32,7 @@ use Rattle.sheet.specs.Items.{Declares, Arranged}
 use Rattle.sheet.specs.RangeLine.{between, upTo, rangeRead, leadOf, firstIn, endIn, laidIn, laidBy, rangesRead, RangesFound}
 use Rattle.sheet.proofs.Answers.{Origin, mapped-refused, mapped-found}
 use Rattle.sheet.proofs.Keys.{exactly-yes, exactly-no, mark-yes, mark-no, closed, closed-yes, closed-no}
-use Rattle.sheet.proofs.Marks.{marks-length, span-limit, range-length, range-other}
+use Rattle.sheet.proofs.Marks.{marks-length, span-limit, range-other}
 
 -- ---- one range
 

@@ -3,7 +3,7 @@
 -- specs/Site.antt). Assumes nothing.
 use Prim.Native.Nat.{ℕ, suc, _-_}
 use mathlib.Core.Bool.{Bool, _&&_, _||_}
-use lib.Dec.{leb, ltb, eqb}
+use lib.Dec.{leb, eqb}
 use Rattle.tables.specs.Layout.{Words, maxRanges, lowestAt, highestAt}
 
 -- of a cell that may have every value

@@ -15,7 +15,7 @@ use Rattle.specification.specs.Tree.{treeOf}
 use Rattle.specification.specs.Listing.{Named, Block}
 use Rattle.specification.specs.Leaves.{leaves, blocks}
 use Rattle.specification.specs.Outcome.{start, rootOf}
-use Rattle.specification.specs.Plain.{Filling, Fills, Keeps, True}
+use Rattle.specification.specs.Plain.{Filling, Fills, True}
 use Rattle.specification.specs.Demand3.{headsAnswer, IsAnswer, IsError, Names, Agrees, Such, Right, Agreement}
 use Rattle.specification.proofs.Laws.Lists.{each-getD, each-map, each-both, each-some, some-map, some-and-each}
 use Rattle.specification.proofs.Laws.Cells.{agrees-matches, matches-agrees, names-valued}

@@ -2,7 +2,7 @@
 -- Assumes nothing.
 use Prim.Native.Nat.{ℕ, zero, suc, _+_, _<_}
 use native.Mathlib.Omega.{arith}
-use mathlib.Core.Path.{_≡_, refl, sym, subst}
+use mathlib.Core.Path.{_≡_, refl}
 use mathlib.Core.Bool.{Bool, true, false}
 use mathlib.Core.List.{List, [], _∷_}
 use lib.Dec.{T}
@@ -10,14 +10,14 @@ use lib.IntN.{ℤ, pos, _+ℤ_}
 use Rattle.specification.specs.Lists.{Each}
 use Rattle.specification.specs.Number.{in32}
 use Rattle.specification.specs.Lines.{Declared, cellOf, inRange}
-use Rattle.specification.specs.Ast.{Term, Formula, truth, and, or, imp, neg, eq, compare, ex, some, all, call}
+use Rattle.specification.specs.Ast.{Formula, truth, and, or, imp, neg, eq, compare, ex, some, all, call}
 use Rattle.specification.specs.Arithmetic.{eqZ, test, count}
 use Rattle.specification.specs.Sheet.{Sheet}
 use Rattle.specification.specs.Place.{Place, cell, local, put}
 use Rattle.specification.specs.Value.{empty, full, Valuation, allowed, Side, val, bare, err, Pair, values, faulty, pairOf, side}
-use Rattle.specification.specs.WellFormed.{Scope, enter, nowhere, OkTerm, Ok, Valid, WellFormed}
+use Rattle.specification.specs.WellFormed.{Scope, enter, nowhere, Ok, Valid, WellFormed}
 use Rattle.specification.specs.Tree.{Tree, successLeaf, failureLeaf, errorLeaf, step, fork, fan, ask, Rest, check, assign, equate, compared, bounded, sons, rounds, Verdict, succeeds, fails, undecided, verdict, denied, implied, enquire, doneInside, grow, treeOf}
-use Rattle.specification.specs.Listing.{Named, Block, cellNames, valued, blockOf}
+use Rattle.specification.specs.Listing.{cellNames, valued, blockOf}
 use Rattle.specification.specs.Leaves.{Leaf, answer, error, fail, leaves, sonLeaves, blocks}
 use Rattle.specification.specs.Outcome.{start, rootOf}
 use Rattle.specification.specs.InRanges.{InRanges}
