@@ -8,7 +8,7 @@ use lib.ListN.{length, getD, replicate, length-replicate}
 use lib.Dec.{ltb, eqb}
 use Rattle.specification.specs.Bytes.{Bytes, bytes, pick, feed}
 use Rattle.specification.specs.Parser.{Reader, Read, found, andThen}
-use Rattle.specification.specs.Lines.{line, Range, Declared, rangesLine}
+use Rattle.specification.specs.Lines.{line, Range, Declared, firstRanged, rangesLine}
 use Rattle.specification.specs.Sheet.{Sheet, sheet}
 use Rattle.specification.proofs.Laws.Parser.{of-found}
 use Rattle.specification.proofs.Laws.ReadLines.{line-post, ranges-line-post}
@@ -32,7 +32,8 @@ use Rattle.sheet.specs.RangeLine.{RangesFound, RangesDone}
 use Rattle.sheet.specs.Rest.{fromGiven, declaring, fromRanges, fromArrays, fromLocals, fromScalars, numberOf, limits, withNumber}
 use Rattle.sheet.specs.Whole.{NumberRead, Headed, Arrayed, Ranged, Went, reached, unread}
 use Rattle.sheet.proofs.Regions.{zeros, firsts-length, firsts-other}
-use Rattle.sheet.proofs.Marks.{span-limit, ranges-length, ranges-other, Fitting, marks-held, ranges-held}
+use Rattle.sheet.proofs.Marks.{span-limit, ranges-length, ranges-other}
+use Rattle.sheet.proofs.Ranged.{Fitting, marks-held, ranges-held}
 use Rattle.sheet.proofs.Declares.{arrays-few, found-declares}
 
 -- before the first line
@@ -187,7 +188,7 @@ module _ (s : Bytes) (n : ℕ) (d : Limits) (at : ℕ) (w : Words) (h : Arrayed 
     fits =
         let post = of-found (ranges-line-post (d .edition) (d .scalars + d .arrays) (lineAt s at)) (f .read) in
         record {
-          many = post .many ∙ ap (λ k. pick (ltb (d .edition) 3) 0 (d .scalars + k)) (sym (h .counts rs .arrays));
+          many = post .many ∙ ap (λ k. pick (ltb (d .edition) firstRanged) 0 (d .scalars + k)) (sym (h .counts rs .arrays));
           ordered = post .ordered;
           few = omega (arith, h .small .scalars, h .small .arrays, h .counts rs .arrays);
           small = h .declares rs .small;

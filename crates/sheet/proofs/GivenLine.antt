@@ -26,7 +26,7 @@ use Rattle.sheet.specs.Reader.{lineAt}
 use Rattle.sheet.specs.Tables.{Words, laidGiven}
 use Rattle.sheet.specs.Items.{itemOf, entryRead, Arranged, Vacant, Furnished, laidItems, givenRead, givenValue, GivenFound}
 use Rattle.sheet.proofs.Answers.{Origin, mapped-refused, mapped-found}
-use Rattle.sheet.proofs.Marks.{ranges-keep}
+use Rattle.sheet.proofs.Ranged.{ranges-keep}
 use Rattle.sheet.proofs.Keys.{exactly-yes, exactly-no, mark-yes, closed, closed-yes, closed-no}
 use Rattle.sheet.proofs.GivenItems.{item-cell}
 

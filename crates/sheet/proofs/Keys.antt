@@ -1,4 +1,4 @@
--- Laws of the readers of keys and marks that the first five lines share: parts of the sheet, keys byte by byte, a reader that goes on after
+-- Laws of the readers of keys and marks that the lines before the formula share: parts of the sheet, keys byte by byte, a reader that goes on after
 -- a key or a mark, and a line's end. Assumes nothing.
 use Prim.Native.Nat.{ℕ, suc, _+_, _-_, _<_, _≤_}
 use mathlib.Core.Path.{_≡_, refl, sym, ap, _∙_}

@@ -17,18 +17,20 @@ pub mod Laid
 pub mod Held
 pub mod Regions
 pub mod Marks
+pub mod Ranged
 pub mod Procs
 pub mod Tables
 pub mod Shallow
 pub mod Stays
 pub mod Bodies
 pub mod ReadSheet
--- the first five lines
+-- the lines before the formula
 pub mod Keys
 pub mod Answers
 pub mod NumberLines
 pub mod ArrayLine
 pub mod CellNames
+pub mod RangeRead
 pub mod RangeLine
 pub mod GivenItems
 pub mod GivenLine

@@ -1,5 +1,5 @@
--- The words that hold the ranges and the marks of cells, and the words beside them: a cell's mark is that of its range, and allows the values
--- of that range. Assumes nothing.
+-- The words that hold the ranges and the marks of cells, and the words beside them: which cells have a range, its words, and their marks.
+-- Assumes nothing.
 use Prim.Native.Nat.{ℕ, zero, suc, _+_, _-_, _≤_, _<_}
 use native.Mathlib.Omega.{arith}
 use mathlib.Core.Path.{_≡_, refl, sym, _∙_, ap}
@@ -8,26 +8,16 @@ use mathlib.Core.Logic.{_≢_}
 use mathlib.Core.List.{List, [], _∷_}
 use lib.ListN.{length, getD, set, length-set}
 use lib.Seq.{getD-set-same, getD-set-other}
-use lib.Dec.{T, leb, ltb, eqb}
-use lib.IntN.{ℤ}
-use lib.Signed.{leZ}
-use borrow.Author.Tests.{ltb-true, ltb-false, lt-ltb, le-ltb, eqb-true, eqb-false}
-use mir.Facts.{and-yes}
+use lib.Dec.{ltb, eqb}
+use borrow.Author.Tests.{ltb-true, ltb-false, le-ltb, eqb-true, eqb-false}
 use Rattle.specification.specs.Bytes.{pick}
-use Rattle.specification.specs.Lists.{Each}
-use Rattle.specification.specs.Number.{within, in32}
-use Rattle.specification.specs.Lines.{Range, Declared, contains, everything, cells, firstOf, lengthOf, rangeNumber, rangeOf, inRange}
-use Rattle.specification.specs.WellFormed.{Ordered}
-use Rattle.specification.proofs.Laws.Lists.{each-getD}
+use Rattle.specification.specs.Lines.{Range, Declared, everything, cells, firstOf, lengthOf, rangeNumber}
 use Rattle.specification.proofs.Laws.Elements.{first-next, first-limit}
 use Rattle.specification.proofs.Laws.Ranges.{scalar-number, element-number, cell-own}
 use Rattle.values.specs.Word.{biased}
-use Rattle.values.proofs.Laws.Word.{signed-biased, signed-le}
 use Rattle.tables.specs.Layout.{maxCells, maxRanges, cellSlot, rangeSlot, localsAt, rangesAt, duesAt}
-use Rattle.tables.specs.Ranges.{rangeMark, localMark, allows}
-use Rattle.tables.proofs.Laws.Ranges.{allows-every, allows-range, SameRanges, allows-same}
-use Rattle.sheet.specs.Tables.{Words, rangeFirst, rangeWidth, laidMarks, laidRange, laidRanges, markFrom, markOf}
-use Rattle.sheet.specs.Held.{RangesAt}
+use Rattle.tables.specs.Ranges.{rangeMark}
+use Rattle.sheet.specs.Tables.{Words, rangeFirst, rangeWidth, laidMarks, laidRange, laidRanges}
 
 -- ---- marks
 
@@ -152,7 +142,7 @@ module _ (D : Declared) where
       ranges-other j (suc k) rs (laidRange D k r w) (λ i x y. h i (omega arith) (omega arith)) ∙ range-other j k r w (h k (omega arith) (omega arith))
 
   -- the words of range k + i
-  ranges-at : (rs : List Range) (k i : ℕ) (w : Words) → i < length rs → k + length rs ≤ maxRanges → cells D ≤ maxCells → duesAt ≤ length w →
+  pub ranges-at : (rs : List Range) (k i : ℕ) (w : Words) → i < length rs → k + length rs ≤ maxRanges → cells D ≤ maxCells → duesAt ≤ length w →
       (getD (laidRanges D k rs w) (rangeSlot (k + i)) 0 ≡ biased (getD rs i everything .low)) ×
       (getD (laidRanges D k rs w) (rangeSlot (k + i) + 1) 0 ≡ biased (getD rs i everything .high))
   unfolding laidRanges
@@ -179,7 +169,7 @@ module _ (D : Declared) where
       rw e (ranges-at rs (suc k) i (laidRange D k r w) (omega arith) (omega arith) small (rw (range-length k r w) long))
 
   -- the mark of a cell of one of them
-  ranges-mark : (c : ℕ) → c < cells D → (rs : List Range) (k : ℕ) (w : Words) → k ≤ rangeNumber D c → rangeNumber D c < k + length rs →
+  pub ranges-mark : (c : ℕ) → c < cells D → (rs : List Range) (k : ℕ) (w : Words) → k ≤ rangeNumber D c → rangeNumber D c < k + length rs →
       cells D ≤ maxCells → localsAt ≤ length w → getD (laidRanges D k rs w) (cellSlot c + 1) 0 ≡ rangeMark (rangeNumber D c)
   unfolding laidRanges
   ranges-mark c h [] k w x y small long = absurd (omega arith)
@@ -209,100 +199,3 @@ module _ (D : Declared) where
       go false e ih =
           let d = eqb-false k m e in
           ih (omega arith) (omega arith) small (rw (range-length k r w) long)
-
--- ---- what they hold
-
--- words compare as their values do
-biased-le : (x y : ℤ) → T (in32 x) → T (in32 y) → leb (biased x) (biased y) ≡ leZ x y
-biased-le x y s t = sym (signed-le (biased x) (biased y)) ∙ rw (signed-biased x s, signed-biased y t)
-
-T-true : (b : Bool) → T b → b ≡ true
-T-true true t = refl
-T-true false t = absurd t
-
--- ranges for no cell or for all, within the limits
-pub record Fitting (D : Declared) : Type 0 where
-  pub many : length (D .ranges) ≡ pick (ltb (D .edition) 3) 0 (D .scalars + length (D .arrays))
-  pub ordered : Each Ordered (D .ranges)
-  pub few : D .scalars + length (D .arrays) ≤ maxRanges
-  pub small : cells D ≤ maxCells
-
-module _ (D : Declared) (f : Fitting D) where
-  -- where there are some, a cell's is among them
-  number-below : (c : ℕ) → c < cells D → 0 < length (D .ranges) → rangeNumber D c < length (D .ranges)
-  number-below c h some = go (ltb (D .edition) 3) (f .many)
-    where
-      go : (b : Bool) → length (D .ranges) ≡ pick b 0 (D .scalars + length (D .arrays)) → rangeNumber D c < length (D .ranges)
-      go true e = absurd (omega arith)
-      go false e = omega (arith, e, cell-ranged D c h .number)
-
-  pub many-few : length (D .ranges) ≤ maxRanges
-  many-few = go (ltb (D .edition) 3) (f .many)
-    where
-      go : (b : Bool) → length (D .ranges) ≡ pick b 0 (D .scalars + length (D .arrays)) → length (D .ranges) ≤ maxRanges
-      go true e = omega arith
-      go false e = omega (arith, e, f .few)
-
-  pub marks-held : (w : Words) → localsAt ≤ length w → (c : ℕ) → getD w (cellSlot c + 1) 0 ≡ 0 → c < maxCells →
-      getD (laidRanges D 0 (D .ranges) w) (cellSlot c + 1) 0 ≡ markOf D c
-  unfolding markOf laidRanges
-  marks-held w long c z l = by-cell (ltb c (cells D)) refl
-    where
-      by-ranges : c < cells D → (rs : List Range) → D .ranges ≡ rs → getD (laidRanges D 0 rs w) (cellSlot c + 1) 0 ≡ markFrom rs (rangeNumber D c)
-      by-ranges h [] e = z
-      by-ranges h (r ∷ rs) e =
-          let n = number-below c h (omega (arith, ap length e)) in
-          ranges-mark D c h (r ∷ rs) 0 w (omega arith) (omega (arith, n, ap length e)) (f .small) long
-
-      by-cell : (b : Bool) → ltb c (cells D) ≡ b →
-          getD (laidRanges D 0 (D .ranges) w) (cellSlot c + 1) 0 ≡ pick b (markFrom (D .ranges) (rangeNumber D c)) 0
-      by-cell true e = by-ranges (ltb-true c (cells D) e) (D .ranges) refl
-      by-cell false e =
-          let far = ltb-false c (cells D) e in
-          ranges-other D (cellSlot c + 1) 0 (D .ranges) w (λ i p q. record {
-            low = omega arith;
-            high = omega arith;
-            marks = λ d t. omega (arith, t .ends, span-limit D i);
-          }) ∙ z
-
-  mark-low : (c : ℕ) → markOf D c < localMark
-  unfolding markOf
-  mark-low c = by-cell (ltb c (cells D)) refl
-    where
-      by-ranges : c < cells D → (rs : List Range) → D .ranges ≡ rs → markFrom rs (rangeNumber D c) < localMark
-      by-ranges h [] e = omega arith
-      by-ranges h (r ∷ rs) e = omega (arith, number-below c h (omega (arith, ap length e)), many-few)
-
-      by-cell : (b : Bool) → ltb c (cells D) ≡ b → pick b (markFrom (D .ranges) (rangeNumber D c)) 0 < localMark
-      by-cell true e = by-ranges (ltb-true c (cells D) e) (D .ranges) refl
-      by-cell false e = omega arith
-
-  mark-allows : (w : Words) → duesAt ≤ length w → (c : ℕ) → c < cells D → (v : ℤ) → T (in32 v) →
-      allows (laidRanges D 0 (D .ranges) w) (markOf D c) (biased v) ≡ inRange D c v
-  unfolding markOf inRange rangeOf contains
-  mark-allows w long c h v t = rw (lt-ltb c (cells D) h) (by-ranges (D .ranges) refl)
-    where
-      in-v : in32 v ≡ true
-      in-v = T-true (in32 v) t
-
-      by-ranges : (rs : List Range) → D .ranges ≡ rs →
-          allows (laidRanges D 0 rs w) (markFrom rs (rangeNumber D c)) (biased v) ≡ contains (getD rs (rangeNumber D c) everything) v
-      by-ranges [] e = allows-every _ (biased v) ∙ sym (rw in-v)
-      by-ranges (r ∷ rs) e =
-          let m = rangeNumber D c in
-          let n : m < length (r ∷ rs) = omega (arith, number-below c h (omega (arith, ap length e)), ap length e) in
-          let x = getD (r ∷ rs) m everything in
-          let o = each-getD Ordered (r ∷ rs) m everything (rw e at (f .ordered)) (tt, tt) in
-          let low = (and-yes (in32 (x .low)) (within (x .low) (x .high) (x .low)) (o .0)) .0 in
-          let high = (and-yes (in32 (x .high)) (within (x .low) (x .high) (x .high)) (o .1)) .0 in
-          let at = ranges-at D (r ∷ rs) 0 m w n (omega (arith, many-few, ap length e)) (f .small) long in
-          let zero-m : 0 + m ≡ m = omega arith in
-          allows-range _ (biased v) m (omega (arith, n, many-few, ap length e)) ∙
-          rw (rw zero-m at (at .0), rw zero-m at (at .1), biased-le (x .low) v low t, biased-le v (x .high) t high, in-v)
-
-  pub ranges-held : (w : Words) → duesAt ≤ length w → RangesAt (laidRanges D 0 (D .ranges) w) D
-  ranges-held w long = record { low = mark-low; allowed = mark-allows w long }
-
--- and so do words with the same ranges
-pub ranges-keep : {w w' : Words} {D : Declared} → SameRanges w w' → RangesAt w D → RangesAt w' D
-ranges-keep {D = D} s h = record { low = h .low; allowed = λ c l v t. allows-same s (markOf D c) (biased v) ∙ h .allowed c l v t }

@@ -1,4 +1,4 @@
--- Laws of the lines with one number and of the numbers that the first five lines share: numerals, indices, values, counts. Assumes nothing.
+-- Laws of the lines with one number and of the numbers that the lines before the formula share: numerals, indices, values, counts. Assumes nothing.
 use Prim.Native.Nat.{ℕ, _+_, _-_, _<_, _≤_, min}
 use mathlib.Core.Path.{_≡_, refl, sym, ap, _∙_}
 use mathlib.Core.Bool.{Bool, true, false, and-false}

@@ -1,5 +1,5 @@
--- Laws of the line of ranges: one range, the words that it makes, one turn of the reading of ranges, for every sheet whose arrays the words
--- have, and the line's answer. Assumes nothing.
+-- Laws of the line of ranges: the words that a range makes, one turn of the reading of ranges, for every sheet whose arrays the words have,
+-- and the line's answer. Assumes nothing.
 use Prim.Native.Nat.{ℕ, suc, _+_, _-_, _<_, _≤_}
 use native.Mathlib.Numerals.{add-one}
 use native.Mathlib.Omega.{arith}
@@ -7,19 +7,17 @@ use mathlib.Core.Path.{_≡_, refl, sym, ap, subst, _∙_}
 use mathlib.Core.Bool.{Bool, true, false}
 use mathlib.Core.List.{List, [], _∷_}
 use lib.ListN.{length, drop, set, length-set}
-use lib.Dec.{leb, ltb}
-use lib.Signed.{leZ}
-use borrow.Author.Tests.{ltb-false, lt-ltb, le-ltb, le-leb, lt-leb, eq-eqb, ne-eqb}
-use Rattle.specification.specs.Bytes.{Bytes, bytes, pick, feed, comma, colon, classNumber, begins}
-use Rattle.specification.specs.Parser.{Reader, Read, refused, found, Parser, require, andThen, _>>=_, _>>_, give, mark}
-use Rattle.specification.specs.Lines.{value, Range, Declared, range, ranges, rangesLine, firstOf, lengthOf}
+use lib.Dec.{ltb}
+use borrow.Author.Tests.{ltb-false, lt-ltb, le-ltb, ne-eqb}
+use Rattle.specification.specs.Bytes.{Bytes, bytes, pick, feed, comma, classNumber, begins}
+use Rattle.specification.specs.Parser.{Reader, Read, refused, found, Parser, andThen, _>>=_, _>>_, give, mark}
+use Rattle.specification.specs.Lines.{Range, Declared, range, ranges, firstRanged, rangesLine, firstOf, lengthOf}
 use Rattle.specification.proofs.Laws.Elements.{first-next}
 use Rattle.text.specs.Class.{classAt}
 use Rattle.values.specs.Word.{signed}
-use Rattle.values.proofs.Laws.Word.{biased-signed, signed-le}
+use Rattle.values.proofs.Laws.Word.{biased-signed}
 use Rattle.tables.specs.Layout.{maxCells, cellSlot, firstSlot, rangeSlot, firstAt}
 use Rattle.tables.specs.Ranges.{rangeMark}
-use Rattle.sheet.specs.declared.lines.Integer.{Integer}
 use Rattle.sheet.specs.declared.lines.Integer.the-variants as integer
 use Rattle.sheet.specs.declared.ranges.Range as code
 use Rattle.sheet.specs.declared.ranges.Range.the-variants as one
@@ -27,65 +25,12 @@ use Rattle.sheet.specs.declared.ranges.Ranges.{Ranges}
 use Rattle.sheet.specs.declared.ranges.Ranges.the-variants as line
 use Rattle.sheet.specs.Reader.{lineAt}
 use Rattle.sheet.specs.Tables.{Words, rangeFirst, rangeWidth, laidMarks, laidRange, laidRanges}
-use Rattle.sheet.specs.Answers.{mapped, integerRead}
+use Rattle.sheet.specs.Answers.{mapped}
 use Rattle.sheet.specs.Items.{Declares, Arranged}
-use Rattle.sheet.specs.RangeLine.{between, upTo, rangeRead, leadOf, firstIn, endIn, laidIn, laidBy, rangesRead, RangesFound}
+use Rattle.sheet.specs.RangeLine.{between, rangeRead, leadOf, firstIn, endIn, laidIn, laidBy, rangesRead, RangesFound}
 use Rattle.sheet.proofs.Answers.{Origin, mapped-refused, mapped-found}
-use Rattle.sheet.proofs.Keys.{exactly-yes, exactly-no, mark-yes, mark-no, closed, closed-yes, closed-no}
+use Rattle.sheet.proofs.Keys.{exactly-yes, exactly-no, closed, closed-yes, closed-no}
 use Rattle.sheet.proofs.Marks.{marks-length, span-limit, range-other}
-
--- ---- one range
-
--- after its lowest value, which begins at p and ends at e
-module _ (s : Bytes) (p e lo : ℕ) where
-  pub up-no : (classAt s e ≡ classNumber colon → ⊥) → refused 5 e ≡ upTo p (signed lo) (lineAt s e)
-  unfolding upTo
-  up-no h = sym (mark-no s e colon _ h)
-
-  module _ (h : classAt s e ≡ classNumber colon) (x : Integer) (is : integerRead s x ≡ value (lineAt s (e + 1))) where
-    up-read : (y : Integer) → x ≡ y →
-        andThen (λ hi. require (leZ (signed lo) hi) 14 p (give (between (signed lo) hi))) (integerRead s y) ≡ upTo p (signed lo) (lineAt s e)
-    unfolding upTo
-    up-read y told =
-        ap (andThen (λ hi. require (leZ (signed lo) hi) 14 p (give (between (signed lo) hi)))) (ap (integerRead s) (sym told) ∙ is) ∙
-        sym (mark-yes s e colon _ h)
-
-    pub up-refused : (k q : ℕ) → x ≡ integer.Refused k q → refused k q ≡ upTo p (signed lo) (lineAt s e)
-    up-refused k q told = up-read (integer.Refused k q) told
-
-    module _ (hi q : ℕ) (told : x ≡ integer.Is hi q) where
-      up-judged : require (leb lo hi) 14 p (give (between (signed lo) (signed hi))) (lineAt s q) ≡ upTo p (signed lo) (lineAt s e)
-      up-judged =
-          ap (λ (b : Bool). require b 14 p (give (between (signed lo) (signed hi))) (lineAt s q)) (sym (signed-le lo hi)) ∙ up-read (integer.Is hi q) told
-
-      pub up-empty : hi < lo → refused 14 p ≡ upTo p (signed lo) (lineAt s e)
-      up-empty l = rw (lt-leb lo hi l) at up-judged
-
-      pub up-found : lo ≤ hi → found (between (signed lo) (signed hi)) (lineAt s q) ≡ upTo p (signed lo) (lineAt s e)
-      up-found l = rw (le-leb lo hi l) at up-judged
-
--- from its lowest value on
-module _ (s : Bytes) (at : ℕ) (x : Integer) (is : integerRead s x ≡ value (lineAt s at)) where
-  range-read : range (lineAt s at) ≡ andThen (λ lo. upTo at lo) (integerRead s x)
-  unfolding range upTo
-  range-read = ap (andThen (λ lo. mark colon >> (value >>= λ hi. require (leZ lo hi) 14 at (give (between lo hi))))) (sym is)
-
-  pub range-refused : (k q : ℕ) → x ≡ integer.Refused k q → refused k q ≡ range (lineAt s at)
-  range-refused k q told = sym (rw told at range-read)
-
-  pub range-found : (lo e : ℕ) → x ≡ integer.Is lo e → (y : Read Range) → y ≡ upTo at (signed lo) (lineAt s e) → y ≡ range (lineAt s at)
-  range-found lo e told y rest = rest ∙ sym (rw told at range-read)
-
--- with what comes before it
-module _ (s : Bytes) (at k : ℕ) where
-  pub lead-first : k ≡ 0 → (y : Read Range) → y ≡ range (lineAt s at) → y ≡ (leadOf k >> range) (lineAt s at)
-  lead-first e y h = rw (eq-eqb k 0 e) h
-
-  pub lead-no : (k ≡ 0 → ⊥) → (classAt s at ≡ classNumber comma → ⊥) → refused 5 at ≡ (leadOf k >> range) (lineAt s at)
-  lead-no n h = rw (ne-eqb k 0 n) (sym (mark-no s at comma range h))
-
-  pub lead-yes : (k ≡ 0 → ⊥) → classAt s at ≡ classNumber comma → (y : Read Range) → y ≡ range (lineAt s (at + 1)) → y ≡ (leadOf k >> range) (lineAt s at)
-  lead-yes n h y is = rw (ne-eqb k 0 n) (is ∙ sym (mark-yes s at comma range h))
 
 -- ---- its words
 
@@ -269,14 +214,14 @@ module _ {s : Bytes} {from scalars arrays : ℕ} {w₀ w : Words} {at k : ℕ} (
 
 module _ (edition scalars arrays : ℕ) (s : Bytes) (at : ℕ) where
   -- before edition 3 there is none
-  pub line-none : (w : Words) → edition < 3 → RangesFound edition scalars arrays s at w w at
+  pub line-none : (w : Words) → edition < firstRanged → RangesFound edition scalars arrays s at w w at
   unfolding rangesLine laidRanges
-  line-none w h = record { ranges = []; read = rw (lt-ltb edition 3 h); laid = λ D d. refl }
+  line-none w h = record { ranges = []; read = rw (lt-ltb edition firstRanged h); laid = λ D d. refl }
 
-  module _ (h : 3 ≤ edition) where
+  module _ (h : firstRanged ≤ edition) where
     pub line-no : begins (bytes "ranges=") (drop at s) ≡ false → rangesLine edition (scalars + arrays) (lineAt s at) ≡ refused 3 at
     unfolding rangesLine
-    line-no b = rw (le-ltb edition 3 h) (exactly-no s at (bytes "ranges=") 3 _ b)
+    line-no b = rw (le-ltb edition firstRanged h) (exactly-no s at (bytes "ranges=") 3 _ b)
 
     -- with x what is read of the value, over the words w, which it leaves as w′
     module _ (key : begins (bytes "ranges=") (drop at s) ≡ true) (w w′ : Words) (x : Ranges) (a : Arranged scalars arrays w)
@@ -286,7 +231,7 @@ module _ (edition scalars arrays : ℕ) (s : Bytes) (at : ℕ) where
 
       lined : rangesLine edition (scalars + arrays) (lineAt s at) ≡ closed contents
       unfolding rangesLine
-      lined = rw (le-ltb edition 3 h) (exactly-yes s at (bytes "ranges=") 3 _ key)
+      lined = rw (le-ltb edition firstRanged h) (exactly-yes s at (bytes "ranges=") 3 _ key)
 
       -- of some sheet
       once : rangesRead s x w′ ≡ laidBy (a .declared) w contents

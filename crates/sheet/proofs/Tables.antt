@@ -27,7 +27,8 @@ use Rattle.sheet.specs.Numbered.{Numbered}
 use Rattle.sheet.proofs.Laid.{tokens-other, ends-other, tokens-length, ends-length, Along, Entry, laid, skip}
 use Rattle.sheet.proofs.Held.{formula-at}
 use Rattle.sheet.proofs.Regions.{zeros, firsts-length, firsts-other, firsts-at, given-length, given-other, isFull, wordOf, CellWords, given-at}
-use Rattle.sheet.proofs.Marks.{span-limit, ranges-length, ranges-other, Fitting, many-few, marks-held, ranges-held, ranges-keep}
+use Rattle.sheet.proofs.Marks.{span-limit, ranges-length, ranges-other}
+use Rattle.sheet.proofs.Ranged.{Fitting, many-few, marks-held, ranges-held, ranges-keep}
 use Rattle.sheet.proofs.Procs.{none, firstToken, tokens-split, procs-length, procs-other, procs-at}
 
 -- arrays, ranges and given values, without tokens

@@ -104,9 +104,13 @@ ranges lead (suc k) = do
   rs ← ranges (mark comma) k
   give (r ∷ rs)
 
--- from edition 3 on, a line with k ranges
+-- the first edition with ranges
+abbrev pub firstRanged : ℕ
+firstRanged = 3
+
+-- from it on, a line with k ranges
 unfoldable pub rangesLine : ℕ → ℕ → Parser (List Range)
-rangesLine edition k = pick (ltb edition 3) (give []) (do
+rangesLine edition k = pick (ltb edition firstRanged) (give []) (do
   key (bytes "ranges=")
   rs ← ranges (give tt) k
   mark feed

@@ -10,7 +10,7 @@ use lib.IntN.{ℤ}
 use Rattle.specification.specs.Lists.{Each}
 use Rattle.specification.specs.Bytes.{pick}
 use Rattle.specification.specs.Number.{in32}
-use Rattle.specification.specs.Lines.{Range, Declared, contains, cells, inRange, procedureOf}
+use Rattle.specification.specs.Lines.{Range, Declared, firstRanged, contains, cells, inRange, procedureOf}
 use Rattle.specification.specs.Given.{Item}
 use Rattle.specification.specs.Ast.{Term, constant, scalarAt, localAt, parameter, elementAt, apply, Formula, truth, and, or, imp, neg, eq, compare, ex, some, all, call}
 use Rattle.specification.specs.Fill.{fill}
@@ -32,7 +32,7 @@ pub record Limits (D : Declared) : Type 0 where
   pub positive : Each (λ n. 1 ≤ n) (D .arrays)
   pub cells : cells D ≤ 512
   -- none before edition 3, then one for each scalar and each array
-  pub ranges : length (D .ranges) ≡ pick (ltb (D .edition) 3) 0 (D .scalars + length (D .arrays))
+  pub ranges : length (D .ranges) ≡ pick (ltb (D .edition) firstRanged) 0 (D .scalars + length (D .arrays))
   pub ordered : Each Ordered (D .ranges)
   pub procedures : length (D .procedures) ≤ 16
   -- the sheet's formula has no parameters

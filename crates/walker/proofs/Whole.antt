@@ -11,7 +11,7 @@ use Rattle.tables.specs.Kept.{Kept}
 use Rattle.tables.proofs.Laws.Ranges.{SameRanges}
 use Rattle.sheet.specs.Tables.{Words}
 use Rattle.sheet.specs.Held.{Holds}
-use Rattle.sheet.proofs.Marks.{ranges-keep}
+use Rattle.sheet.proofs.Ranged.{ranges-keep}
 use Rattle.walker.specs.Frame.{Frame, here, below, len, siteIn}
 use Rattle.walker.specs.Path.{World, InTable, marksIn, Marks, FrameAt, Stack, Chain, Procedures, Path}
 use Rattle.walker.proofs.Keep.{stack-keep}

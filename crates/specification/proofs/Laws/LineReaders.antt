@@ -11,7 +11,7 @@ use lib.Signed.{leZ}
 use Rattle.specification.specs.Bytes.{Bytes, bytes, pick, between, Class, feed, comma, colon, point, inNumber}
 use Rattle.specification.specs.Number.{natural, integer, in32}
 use Rattle.specification.specs.Parser.{Parser, give, refuse, require, present, _>>=_, _>>_, here, sees, spells, mark, exactly, taken}
-use Rattle.specification.specs.Lines.{index, count, value, line, Declared, lengths, arraysLine, Range, range, ranges, rangesLine, CellName, scalar, element, isDeclared, cellOf, inRange}
+use Rattle.specification.specs.Lines.{index, count, value, line, Range, Declared, lengths, arraysLine, range, ranges, firstRanged, rangesLine, CellName, scalar, element, isDeclared, cellOf, inRange}
 use Rattle.specification.proofs.Laws.Parser.{refuses}
 use Rattle.specification.specs.Given.{Item, scalarName, elementName, name, item, items, givenLine}
 
@@ -46,7 +46,7 @@ module _ {P : ℕ → Type 0} {Q : (A : Type 0) → Parser A → Type 0} (c : Co
     pick-by true h k = h
     pick-by false h k = k
 
-  -- ---- the first four lines
+  -- ---- the lines with one number, and that of arrays
 
   index-by : Q ℕ index
   unfolding index
@@ -111,7 +111,7 @@ module _ {P : ℕ → Type 0} {Q : (A : Type 0) → Parser A → Type 0} (c : Co
   pub ranges-by : (edition k : ℕ) → Q (List Range) (rangesLine edition k)
   unfolding rangesLine
   ranges-by edition k =
-      pick-by (ltb edition 3) (c .give (List Range) [])
+      pick-by (ltb edition firstRanged) (c .give (List Range) [])
       (then (c .exactly 3 (bytes "ranges=") refl) λ u.
       then (ranges-of (give tt) (c .give (Unit {0}) tt) k) λ rs. then (c .mark feed) λ u. c .give (List Range) rs)
 

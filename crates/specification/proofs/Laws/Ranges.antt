@@ -15,7 +15,7 @@ use mir.Facts.{and-yes, yes-and}
 use Rattle.specification.specs.Bytes.{Bytes, pick}
 use Rattle.specification.specs.Number.{within, in32}
 use Rattle.specification.specs.Parser.{Reader, found}
-use Rattle.specification.specs.Lines.{Declared, contains, everything, sum, arrayOf, scalar, element, cells, firstOf, lengthOf, cellOf, rangeNumber, rangeOf, inRange}
+use Rattle.specification.specs.Lines.{Declared, firstRanged, contains, everything, sum, arrayOf, scalar, element, cells, firstOf, lengthOf, cellOf, rangeNumber, rangeOf, inRange}
 use Rattle.specification.specs.Sheet.{Sheet, read}
 use Rattle.specification.specs.WellFormed.{Limits}
 use Rattle.specification.specs.Plain.{Filling, Fills}
@@ -100,15 +100,15 @@ module _ (D : Declared) where
 
 -- ---- before edition 3
 
-no-ranges : (D : Declared) → Limits D → D .edition < 3 → D .ranges ≡ []
-no-ranges D l h = go (D .ranges) (l .ranges ∙ rw (lt-ltb (D .edition) 3 h))
+no-ranges : (D : Declared) → Limits D → D .edition < firstRanged → D .ranges ≡ []
+no-ranges D l h = go (D .ranges) (l .ranges ∙ rw (lt-ltb (D .edition) firstRanged h))
   where
     go : {A : Type 0} (xs : List A) → length xs ≡ 0 → xs ≡ []
     go [] e = refl
     go (x ∷ xs) e = absurd (omega arith)
 
 -- the fillings of a sheet of edition 1 or 2 are those with all values of 32 bits
-pub fillings-of-32 : (b : Bytes) (s : Sheet) (r : Reader) → read b ≡ found s r → s .declared .edition < 3 → (φ : Filling) →
+pub fillings-of-32 : (b : Bytes) (s : Sheet) (r : Reader) → read b ≡ found s r → s .declared .edition < firstRanged → (φ : Filling) →
     Fills (s .declared) φ ↔ ((c : ℕ) → c < cells (s .declared) → T (in32 (φ c)))
 unfolding Fills
 fillings-of-32 b s r e h φ =

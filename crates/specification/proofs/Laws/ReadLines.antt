@@ -13,7 +13,7 @@ use mir.Facts.{yes-and}
 use Rattle.specification.specs.Bytes.{Bytes, bytes, pick, feed, comma, colon, inNumber}
 use Rattle.specification.specs.Number.{integer, within, in32}
 use Rattle.specification.specs.Parser.{Reader, Parser, give, present, _>>=_, _>>_, next, mark, taken, key}
-use Rattle.specification.specs.Lines.{index, count, value, line, Range, Declared, lengths, arraysLine, range, ranges, rangesLine, contains, sum, cells}
+use Rattle.specification.specs.Lines.{index, count, value, line, Range, Declared, lengths, arraysLine, range, ranges, firstRanged, rangesLine, contains, sum, cells}
 use Rattle.specification.specs.Lists.{Each}
 use Rattle.specification.specs.WellFormed.{Ordered, Limits}
 use Rattle.specification.proofs.Laws.Range.{le-self}
@@ -113,9 +113,9 @@ ranges-post lead (suc k) r =
     holds (record { many = ap suc (l .many); ordered = (h, l .ordered) })
 
 -- none before edition 3, and then k of them
-pub ranges-line-post : (edition k : ℕ) (r : Reader) → Post (λ rs r′. Ranges (pick (ltb edition 3) 0 k) rs) (rangesLine edition k r)
+pub ranges-line-post : (edition k : ℕ) (r : Reader) → Post (λ rs r′. Ranges (pick (ltb edition firstRanged) 0 k) rs) (rangesLine edition k r)
 unfolding rangesLine Each
-ranges-line-post edition k r = go (ltb edition 3)
+ranges-line-post edition k r = go (ltb edition firstRanged)
   where
     go : (b : Bool) →
         Post (λ rs r′. Ranges (pick b 0 k) rs) (pick b (give []) (key (bytes "ranges=") >> (ranges (give tt) k >>= λ rs. mark feed >> give rs)) r)
@@ -130,7 +130,7 @@ ranges-line-post edition k r = go (ltb edition 3)
 -- from what is known of these lines, and of the procedures
 module _ (D : Declared) where
   pub limits : (1 ≤ D .edition) × (D .edition ≤ 3) → D .scalars ≤ 64 → D .locals ≤ 32 → Lengths 16 (512 - D .scalars) (D .arrays) →
-      Ranges (pick (ltb (D .edition) 3) 0 (D .scalars + length (D .arrays))) (D .ranges) → length (D .procedures) ≤ 16 → D .parameters ≡ 0 → Limits D
+      Ranges (pick (ltb (D .edition) firstRanged) 0 (D .scalars + length (D .arrays))) (D .ranges) → length (D .procedures) ≤ 16 → D .parameters ≡ 0 → Limits D
   unfolding cells
   limits e v l a r p n = record {
     edition = e;

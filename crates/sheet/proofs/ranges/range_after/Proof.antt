@@ -3,7 +3,7 @@ use mathlib.Core.Path.{_∙_, sym}
 use native.Mathlib.Omega.{arith}
 use Rattle.specification.specs.Bytes.{comma, classNumber}
 use Rattle.text.proofs.Laws.Class.{class-inside}
-use Rattle.sheet.proofs.RangeLine.{lead-first, lead-no, lead-yes}
+use Rattle.sheet.proofs.RangeRead.{lead-first, lead-no, lead-yes}
 use borrow.Author.Needs.{needs}
 use Rattle.sheet.proofs.ranges.range_after.Statement.{statement}
 use Rattle.sheet.proofs.ranges.range_after.Tie as tie

@@ -1,5 +1,5 @@
 -- The lowest value, then the rest. Assumes nothing.
-use Rattle.sheet.proofs.RangeLine.{range-refused, range-found}
+use Rattle.sheet.proofs.RangeRead.{range-refused, range-found}
 use borrow.Author.Needs.{needs}
 use Rattle.sheet.proofs.ranges.range_at.Statement.{statement}
 use Rattle.sheet.proofs.ranges.range_at.Tie as tie

@@ -3,7 +3,7 @@ use mathlib.Core.Path.{_∙_, sym}
 use native.Mathlib.Omega.{arith}
 use Rattle.specification.specs.Bytes.{colon, classNumber}
 use Rattle.text.proofs.Laws.Class.{class-inside}
-use Rattle.sheet.proofs.RangeLine.{up-no, up-refused, up-empty, up-found}
+use Rattle.sheet.proofs.RangeRead.{up-no, up-refused, up-empty, up-found}
 use borrow.Author.Needs.{needs}
 use Rattle.sheet.proofs.ranges.up_to.Statement.{statement}
 use Rattle.sheet.proofs.ranges.up_to.Tie as tie
