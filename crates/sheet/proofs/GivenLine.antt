@@ -16,7 +16,8 @@ use Rattle.text.specs.Class.{classAt}
 use Rattle.text.proofs.Laws.Class.{class-next, class-not-next}
 use Rattle.values.specs.Word.{signed}
 use Rattle.values.proofs.Laws.Word.{biased-signed}
-use Rattle.tables.specs.Layout.{maxCells, cellSlot, firstSlot, rangeSlot}
+use Rattle.tables.specs.Layout.{maxCells, cellSlot, firstSlot}
+use Rattle.tables.specs.Ranges.{rangeSlot}
 use Rattle.tables.proofs.Laws.Ranges.{SameRanges}
 use Rattle.sheet.specs.declared.given.Entry.{Entry}
 use Rattle.sheet.specs.declared.given.Entry.the-variants as entry

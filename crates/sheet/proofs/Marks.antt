@@ -15,8 +15,8 @@ use Rattle.specification.specs.Lines.{Range, Declared, everything, cells, first
 use Rattle.specification.proofs.Laws.Elements.{first-next, first-limit}
 use Rattle.specification.proofs.Laws.Ranges.{scalar-number, element-number, cell-own}
 use Rattle.values.specs.Word.{biased}
-use Rattle.tables.specs.Layout.{maxCells, maxRanges, cellSlot, rangeSlot, localsAt, rangesAt, duesAt}
-use Rattle.tables.specs.Ranges.{rangeMark}
+use Rattle.tables.specs.Layout.{maxCells, maxRanges, cellSlot, localsAt, rangesAt, duesAt}
+use Rattle.tables.specs.Ranges.{rangeSlot, rangeMark}
 use Rattle.sheet.specs.Tables.{Words, rangeFirst, rangeWidth, laidMarks, laidRange, laidRanges}
 
 -- ---- marks

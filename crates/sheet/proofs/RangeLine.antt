@@ -16,8 +16,8 @@ use Rattle.specification.proofs.Laws.Elements.{first-next}
 use Rattle.text.specs.Class.{classAt}
 use Rattle.values.specs.Word.{signed}
 use Rattle.values.proofs.Laws.Word.{biased-signed}
-use Rattle.tables.specs.Layout.{maxCells, cellSlot, firstSlot, rangeSlot, firstAt}
-use Rattle.tables.specs.Ranges.{rangeMark}
+use Rattle.tables.specs.Layout.{maxCells, cellSlot, firstSlot, firstAt}
+use Rattle.tables.specs.Ranges.{rangeSlot, rangeMark}
 use Rattle.sheet.specs.declared.lines.Integer.the-variants as integer
 use Rattle.sheet.specs.declared.ranges.Range as code
 use Rattle.sheet.specs.declared.ranges.Range.the-variants as one

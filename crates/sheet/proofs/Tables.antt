@@ -17,7 +17,8 @@ use Rattle.specification.specs.WellFormed.{WellFormed}
 use Rattle.specification.specs.Outcome.{start}
 use Rattle.specification.proofs.Laws.Lists.{each-map}
 use Rattle.specification.proofs.Laws.Start.{start-local}
-use Rattle.tables.specs.Layout.{maxTokens, maxCells, maxArrays, maxProcs, maxRanges, cellSlot, localSlot, firstSlot, procSlot, rangeSlot, tokenSlot, cellsAt, localsAt, firstsAt, rangesAt, duesAt, pathAt}
+use Rattle.tables.specs.Layout.{maxTokens, maxCells, maxArrays, maxProcs, maxRanges, cellSlot, localSlot, firstSlot, procSlot, tokenSlot, cellsAt, localsAt, firstsAt, rangesAt, duesAt, pathAt}
+use Rattle.tables.specs.Ranges.{rangeSlot}
 use Rattle.tables.proofs.Laws.Ranges.{SameRanges}
 use Rattle.sheet.specs.declared.Token.{Token}
 use Rattle.sheet.specs.Codes.{formulaTokens, proceduresTokens}

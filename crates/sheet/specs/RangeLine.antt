@@ -11,8 +11,8 @@ use Rattle.specification.specs.Bytes.{Bytes, pick, comma, colon}
 use Rattle.specification.specs.Parser.{Read, refused, found, Parser, give, require, mark, _>>=_, _>>_}
 use Rattle.specification.specs.Lines.{value, Range, Declared, range, rangesLine}
 use Rattle.values.specs.Word.{signed}
-use Rattle.tables.specs.Layout.{rangeSlot, firstAt}
-use Rattle.tables.specs.Ranges.{rangeMark}
+use Rattle.tables.specs.Layout.{firstAt}
+use Rattle.tables.specs.Ranges.{rangeSlot, rangeMark}
 use Rattle.sheet.specs.declared.ranges.Range as code
 use Rattle.sheet.specs.declared.ranges.Range.the-variants as one
 use Rattle.sheet.specs.declared.ranges.Ranges.{Ranges}

@@ -11,9 +11,9 @@ use Rattle.specification.specs.Given.{Item}
 use Rattle.specification.specs.Ast.{Procedure}
 use Rattle.specification.specs.Sheet.{Sheet}
 use Rattle.values.specs.Word.{biased}
-use Rattle.tables.specs.Layout.{maxArrays, cellSlot, firstSlot, procSlot, rangeSlot, tokenSlot}
+use Rattle.tables.specs.Layout.{maxArrays, cellSlot, firstSlot, procSlot, tokenSlot}
 pub use Rattle.tables.specs.Layout.{Words}
-use Rattle.tables.specs.Ranges.{unranged, rangeMark}
+use Rattle.tables.specs.Ranges.{rangeSlot, unranged, rangeMark}
 use Rattle.sheet.specs.declared.Token.{Token}
 use Rattle.sheet.specs.Codes.{formulaTokens, proceduresTokens}
 use Rattle.sheet.specs.Sorts.{arity}

@@ -75,9 +75,6 @@ procWords = 2
 abbrev pub argumentWords : ℕ
 argumentWords = 2
 
-abbrev pub rangeWords : ℕ
-rangeWords = 2
-
 abbrev pub nodeWords : ℕ
 nodeWords = 12
 
@@ -141,9 +138,6 @@ firstSlot a = firstsAt + a
 abbrev pub procSlot : ℕ → ℕ
 procSlot k = procsAt + procWords * k
 
-abbrev pub rangeSlot : ℕ → ℕ
-rangeSlot k = rangesAt + rangeWords * k
-
 abbrev pub dueSlot : ℕ → ℕ
 dueSlot i = duesAt + dueWords * i
 
@@ -161,7 +155,7 @@ nodeSlot d = pathAt + nodeWords * d
 abbrev pub nodeEnd : ℕ → ℕ
 nodeEnd d = pathAt + nodeWords + nodeWords * d
 
--- ---- the words of tokens, cells, arrays, procedures, ranges and arguments
+-- ---- the words of tokens, cells, arrays, procedures and their arguments
 
 abbrev pub codeAt : Words → ℕ → ℕ
 codeAt w i = getD w (tokenSlot i) 0
@@ -193,14 +187,7 @@ procAt w k = getD w (procSlot k) 0
 abbrev pub parametersAt : Words → ℕ → ℕ
 parametersAt w k = getD w (procSlot k + 1) 0
 
--- the words of the lowest and the highest value of range k
-abbrev pub lowestAt : Words → ℕ → ℕ
-lowestAt w k = getD w (rangeSlot k) 0
-
-abbrev pub highestAt : Words → ℕ → ℕ
-highestAt w k = getD w (rangeSlot k + 1) 0
-
--- the tag and the word of the result of parameter n of procedure k
+-- the tag and the word of the result of its parameter n
 abbrev pub argumentTagAt : Words → ℕ → ℕ → ℕ
 argumentTagAt w k n = getD w (argumentSlot k n) 0
 

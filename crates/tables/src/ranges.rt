@@ -3,8 +3,8 @@
 ghost use mathlib.Core.Path.{_≡_};
 ghost use Prim.Native.Nat.{_+_, _<_, _≤_};
 ghost use lib.ListN.{length, set};
-ghost use Rattle.tables.specs.Layout.{cellSlot, rangeSlot, valueAt, lowestAt, highestAt, duesAt};
-ghost use Rattle.tables.specs.Ranges.{inside, allows};
+ghost use Rattle.tables.specs.Layout.{cellSlot, valueAt, duesAt};
+ghost use Rattle.tables.specs.Ranges.{rangeSlot, lowestAt, highestAt, inside, allows};
 
 pub const MAX_RANGES: u32 = crate::MAX_SCALARS + crate::MAX_ARRAYS;
 

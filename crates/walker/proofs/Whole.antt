@@ -6,7 +6,8 @@ use mathlib.Core.List.{List, _∷_}
 use Rattle.specification.specs.Place.{Place}
 use Rattle.specification.specs.Value.{Slot, Valuation}
 use Rattle.specification.specs.WellFormed.{Valid}
-use Rattle.tables.specs.Layout.{firstSlot, procSlot, rangeSlot}
+use Rattle.tables.specs.Layout.{firstSlot, procSlot}
+use Rattle.tables.specs.Ranges.{rangeSlot}
 use Rattle.tables.specs.Kept.{Kept}
 use Rattle.tables.proofs.Laws.Ranges.{SameRanges}
 use Rattle.sheet.specs.Tables.{Words}

@@ -4,6 +4,7 @@ pub mod Walk
 pub mod Site
 pub mod Stands
 pub mod Frame
+pub mod Marks
 pub mod Path
 pub mod Made
 pub mod Registers

@@ -1,30 +1,31 @@
 -- How the work words hold the path: frames, list pointers, what is due, and the environments of formulas. Meaning is given by recursion on
 -- the frames and items, never on memory. A frame at index i mentions only nodes below i. Assumes nothing.
-use Prim.Native.Nat.{ℕ, suc, _+_, _≤_, _<_}
+use Prim.Native.Nat.{ℕ, suc, _≤_, _<_}
 use mathlib.Core.Path.{_≡_}
 use mathlib.Core.Bool.{Bool, true, false}
 use mathlib.Core.List.{List, [], _∷_}
-use lib.ListN.{length, getD}
+use lib.ListN.{length}
 use lib.IntN.{pos, _+ℤ_}
 use Rattle.specification.specs.declared.Setting.{Setting}
 use Rattle.specification.specs.Bytes.{Bytes}
 use Rattle.specification.specs.Lines.{Declared, cells}
-use Rattle.specification.specs.Place.{Place, cell, local}
+use Rattle.specification.specs.Place.{Place, local}
 use Rattle.specification.specs.Value.{Slot, empty, full, Valuation}
 use Rattle.specification.specs.WellFormed.{OkProcedures, Valid}
 use Rattle.specification.specs.Run.{Conditions, conditions, Run}
 use Rattle.values.specs.Word.{biased, signed}
-use Rattle.tables.specs.Layout.{nodeSlot, procAt, maxTokens, maxLocals, maxCells, maxArrays, maxProcs, maxPath}
+use Rattle.tables.specs.Layout.{nodeSlot, procAt, maxTokens, maxCells, maxArrays, maxProcs, maxPath}
 use Rattle.tables.specs.Kept.{SameTokens}
 use Rattle.tables.specs.Node.{headAt, restAt, todoAt, envAt, slotAt, hadAt, oldAt, currentAt, lastAt, innerAt, badAt}
 use Rattle.tables.specs.Codes.{andCode, impCode, notCode, allCode}
-use Rattle.sheet.specs.Tables.{Words, markOf}
+use Rattle.sheet.specs.Tables.{Words}
 use Rattle.sheet.specs.Held.{codeAt, endAt, slotOf, Holds, ArraysAt, RangesAt, ProceduresAt}
 use Rattle.terms.specs.Environment.{EnvAt}
 use Rattle.walker.specs.declared.Due.{Due}
 use Rattle.walker.specs.Stands.{Stands, Binds, LeftAfter}
 use Rattle.walker.specs.Frame.{Item, form, again, What, the, success, failure, error, Question, denying, implying, Frame, pass, other, bound, given, range, asks, here, below, len, siteIn}
 use Rattle.walker.specs.Site.{Site}
+pub use Rattle.walker.specs.Marks.{InTable, Known, marksIn, Marks}
 use Rattle.walker.specs.States.{emptyJob, againJob, successJob, failureJob, errorJob, noTodo, otherTodo, undoTodo, nextTodo, judgeTodo}
 
 -- ---- what a run is about: the tables and the output at entry, the sheet's declarations, the setting, and the run's result
@@ -97,25 +98,6 @@ bit false = 0
 abbrev pub Saved : ℕ → ℕ → Slot → Type 0
 Saved had old empty = had ≡ 0
 Saved had old (full z) = (had ≡ 1) × (old ≡ biased z)
-
--- a place that has a slot in the tables
-abbrev pub InTable : Place → Type 0
-InTable (cell c) = c < maxCells
-InTable (local l) = l < maxLocals
-
--- a cell that is declared, or a local
-abbrev pub Known : Declared → Place → Type 0
-Known D (cell c) = (c < cells D) × (c < maxCells)
-Known D (local l) = l < maxLocals
-
--- the marks in the words: a cell's tells its range, a local's where it was bound
-abbrev pub marksIn : Declared → (Place → ℕ) → Place → ℕ
-marksIn D m (cell c) = markOf D c
-marksIn D m (local l) = m (local l)
-
--- the second word of each slot without a value is the place's mark
-abbrev pub Marks : Words → Valuation → (Place → ℕ) → Type 0
-Marks w α m = (p : Place) → InTable p → α p ≡ empty → getD w (slotOf p + 1) 0 ≡ m p
 
 -- node i at a site changed p, and keeps what α had there, the mark with it, and the register
 pub record Changed (D : Declared) (w : Words) (i : ℕ) (p : Place) (u : Site) (α : Valuation) : Type 0 where

@@ -4,7 +4,8 @@ use mathlib.Core.Path.{_≡_, refl}
 use native.Mathlib.Omega.{arith}
 use Rattle.tables.specs.Layout.{maxTokens, maxCells, maxLocals, maxArrays, maxProcs, maxRanges, maxDues}
 use Rattle.tables.specs.Layout.{cellsAt, localsAt, firstsAt, procsAt, rangesAt, duesAt, duesEnd, argumentsAt, chainAt, valuedEnd, spareAt, pathAt}
-use Rattle.tables.specs.Layout.{tokenSlot, cellSlot, localSlot, firstSlot, procSlot, rangeSlot, dueSlot, argumentSlot, chainSlot}
+use Rattle.tables.specs.Layout.{tokenSlot, cellSlot, localSlot, firstSlot, procSlot, dueSlot, argumentSlot, chainSlot}
+use Rattle.tables.specs.Ranges.{rangeSlot}
 
 pub record Joined : Type 0 where
   pub tokens : tokenSlot maxTokens ≡ cellsAt

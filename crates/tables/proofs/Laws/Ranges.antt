@@ -6,8 +6,8 @@ use mathlib.Core.Path.{_≡_, refl}
 use mathlib.Core.Bool.{Bool, true, false, _||_}
 use lib.Dec.{leb, eqb}
 use borrow.Author.Tests.{le-leb, lt-leb, ne-eqb, eqb-false, leb-false}
-use Rattle.tables.specs.Layout.{Words, maxRanges, lowestAt, highestAt}
-use Rattle.tables.specs.Ranges.{unranged, rangeMark, localMark, inside, allows}
+use Rattle.tables.specs.Layout.{Words, maxRanges}
+use Rattle.tables.specs.Ranges.{lowestAt, highestAt, unranged, rangeMark, localMark, inside, allows}
 
 module _ (w : Words) (v : ℕ) where
   pub allows-every : allows w unranged v ≡ true

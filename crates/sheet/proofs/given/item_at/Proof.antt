@@ -17,7 +17,9 @@ scalar-cell-requires : tie.Need-scalar-cell-requires
 scalar-cell-requires c κs = search needs
 
 valued-requires : tie.Need-valued-requires
-valued-requires c κs = (scalar-below (c .before .before .before .before .before .before .before .pre .0) _ _ (c .scalar-cell .ensures), search needs)
+valued-requires c κs =
+    let p = c .before .before .before .before .before in
+    (scalar-below (p .before .before .pre .0) _ _ (c .scalar-cell .ensures), search needs)
 
 enum-known-a : tie.Need-enum-known-a
 enum-known-a c = search needs
@@ -26,7 +28,9 @@ element-cell-requires : tie.Need-element-cell-requires
 element-cell-requires c κs = search needs
 
 valued-requires-2 : tie.Need-valued-requires-2
-valued-requires-2 c κs = (element-below (c .before .before .before .before .before .before .before .pre .0) _ _ _ (c .element-cell .ensures), search needs)
+valued-requires-2 c κs =
+    let p = c .before .before .before .before .before in
+    (element-below (p .before .before .pre .0) _ _ _ (c .element-cell .ensures), search needs)
 
 returns : tie.Need-returns
 returns c = λ D d. item-refused _ _ _ _ (c .before .before .before .name-at .ensures) d _ _ (c .before .k .given .1)

@@ -50,7 +50,8 @@ returns-3 c =
 mark-requires : tie.Need-mark-requires
 mark-requires c κs =
     let p = c .before .before .before .before .before in
-    let start = p .before .before .before .before .before .before .before in
+    let q = p .before .before .before .before .before in
+    let start = q .before .before in
     let below = rw (c .before .before .c .given .1) at (start .pre .0) in
     omega (arith, below, start .pre .1)
 

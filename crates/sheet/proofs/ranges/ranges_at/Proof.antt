@@ -45,7 +45,8 @@ lay-requires c κs =
 add-k : tie.Need-add-k Inv-loop μ-loop
 add-k c =
     let p = c .before .before .before .before .before in
-    let start = p .before .before .before .before .before .before .before in
+    let q = p .before .before .before .before .before in
+    let start = q .before .before in
     omega (arith, (p .before .before .before .loop-test .taken), (start .pre .0 .declares .few), start .pre .1)
 
 loop-less : tie.Need-loop-less Inv-loop μ-loop

@@ -21,7 +21,8 @@ returns-2 c = (line-no _ _ _ _ _ (c .before .before .before .before .if1 .left) 
 
 add-ranges-at : tie.Need-add-ranges-at
 add-ranges-at c =
-    let start = c .before .before .before .before .before .before .before in
+    let p = c .before .before .before .before .before in
+    let start = p .before .before in
     omega (arith, key-fits (start .args .s .now) (bytes "ranges=") (start .args .at) (sym (c .before .begins .ensures) ∙ not-false _ (c .if2 .left)))
 
 ranges-at-requires : tie.Need-ranges-at-requires
@@ -44,7 +45,8 @@ unfolding classNumber
 returns-3 c =
     let p = c .before .before .before .before .before in
     let q = p .before .before .before .before .before in
-    let start = q .before .before .before .before .before .before in
+    let r = q .before .before .before .before .before in
+    let start = r .before in
     (line-open _ _ _ _ _ (q .before .before .before .if1 .left) (sym (q .begins .ensures) ∙ not-false _ (p .before .before .before .before .if2 .left)) _ _ (p .before .before .ranges-at .result) (start .pre .0) (p .before .before .ranges-at .ensures) _ (c .before .before .before .e .given .1) (λ e. (c .if3 .taken) ((c .before .class-at .ensures) ∙ e)), search needs)
 
 add-t23 : tie.Need-add-t23
@@ -52,7 +54,8 @@ unfolding classNumber
 add-t23 c =
     let p = c .before .before .before .before .before in
     let q = p .before .before .before .before .before in
-    omega (arith, class-inside (q .before .before .before .before .before .before .args .s .now) _ feed (sym (c .before .class-at .ensures) ∙ (c .if3 .left)))
+    let r = q .before .before .before .before .before in
+    omega (arith, class-inside (r .before .args .s .now) _ feed (sym (c .before .class-at .ensures) ∙ (c .if3 .left)))
 
 same-length-2 : tie.Need-same-length-2
 same-length-2 c = search needs
@@ -72,7 +75,8 @@ unfolding classNumber
 returns-5 c =
     let p = c .before .before .before .before .before in
     let q = p .before .before .before .before .before in
-    let start = q .before .before .before .before .before .before in
+    let r = q .before .before .before .before .before in
+    let start = r .before in
     line-found _ _ _ _ _ (q .before .before .before .if1 .left) (sym (q .begins .ensures) ∙ not-false _ (p .before .before .before .before .if2 .left)) _ _ (p .before .before .ranges-at .result) (start .pre .0) (p .before .before .ranges-at .ensures) _ (c .before .before .before .e .given .1) (sym (c .before .class-at .ensures) ∙ (c .if3 .left))
 
 pub ranges-line-spec : {M : Type 1} → statement M

@@ -36,7 +36,9 @@ returns-2 c =
 
 returns-3 : tie.Need-returns-3
 unfolding classNumber
-returns-3 c = up-refused _ _ _ (c .before .before .before .before .before .before .before .args .lo) (sym (c .before .before .before .before .before .class-at .ensures) ∙ (c .before .before .before .before .if1 .left)) _ (c .before .before .before .integer-at .ensures) _ _ (c .before .k .given .1)
+returns-3 c =
+    let p = c .before .before .before .before .before in
+    up-refused _ _ _ (p .before .before .args .lo) (sym (p .class-at .ensures) ∙ (c .before .before .before .before .if1 .left)) _ (c .before .before .before .integer-at .ensures) _ _ (c .before .k .given .1)
 
 returns-4 : tie.Need-returns-4
 unfolding classNumber
