@@ -17,6 +17,7 @@ use Rattle.specification.specs.Number.{within, in32}
 use Rattle.specification.specs.Lines.{Range, Declared, firstRanged, contains, everything, cells, rangeNumber, rangeOf, inRange}
 use Rattle.specification.specs.WellFormed.{Ordered}
 use Rattle.specification.proofs.Laws.Lists.{each-getD}
+use Rattle.specification.proofs.Laws.Parser.{T-true}
 use Rattle.values.specs.Word.{biased}
 use Rattle.values.proofs.Laws.Word.{signed-biased, signed-le}
 use Rattle.tables.specs.Layout.{maxCells, maxRanges, cellSlot, localsAt, duesAt}
@@ -29,10 +30,6 @@ use Rattle.sheet.proofs.Marks.{span-limit, cell-ranged, ranges-other, r
 -- words compare as their values do
 biased-le : (x y : ℤ) → T (in32 x) → T (in32 y) → leb (biased x) (biased y) ≡ leZ x y
 biased-le x y s t = sym (signed-le (biased x) (biased y)) ∙ rw (signed-biased x s, signed-biased y t)
-
-T-true : (b : Bool) → T b → b ≡ true
-T-true true t = refl
-T-true false t = absurd t
 
 -- ranges for no cell or for all, within the limits
 pub record Fitting (D : Declared) : Type 0 where

@@ -6,14 +6,14 @@ ghost use lib.ListN.{length, set};
 ghost use Rattle.tables.specs.Layout.{cellSlot, valueAt, duesAt};
 ghost use Rattle.tables.specs.Ranges.{rangeSlot, lowestAt, highestAt, inside, allows};
 
-pub const MAX_RANGES: u32 = crate::MAX_SCALARS + crate::MAX_ARRAYS;
+const MAX_RANGES: u32 = crate::MAX_SCALARS + crate::MAX_ARRAYS;
 
 const RANGES: usize = 5233;
 
 const RANGE_WORDS: usize = 2;
 
 // The mark of a cell that may have every value.
-pub const UNRANGED: u32 = 0;
+const UNRANGED: u32 = 0;
 
 // That of a cell with the first range; the others follow.
 pub const FIRST_MARK: u32 = UNRANGED + 1;

@@ -13,6 +13,7 @@ use Rattle.specification.specs.Number.{in32}
 use Rattle.specification.specs.Lines.{Declared}
 use Rattle.specification.specs.Place.{Place, cell, local}
 use Rattle.specification.specs.Value.{empty, full, Valuation, allowed}
+use Rattle.specification.proofs.Laws.Parser.{T-true}
 use Rattle.values.specs.Word.{biased}
 use Rattle.tables.specs.Layout.{nodeEnd, pathAt}
 use Rattle.tables.specs.Ranges.{allows}
@@ -55,10 +56,6 @@ mark-allows {w = w} {fr = fr} P (local l) v k none t =
     ap (λ (m : ℕ). allows w m (biased v)) (P .marks (local l) k none) ∙
     ⊎-elim (λ e. ap (λ (m : ℕ). allows w m (biased v)) e ∙ allows-every w (biased v)) (λ h. allows-local w (biased v) (siteIn fr .marks (local l)) h) (site-local fr l) ∙
     sym (T-true (in32 v) t)
-  where
-    T-true : (b : Bool) → T b → b ≡ true
-    T-true true t = refl
-    T-true false t = absurd t
 
 known-in : (D : Declared) (p : Place) → Known D p → InTable p
 known-in D (cell c) k = k .1

@@ -18,6 +18,10 @@ pub true-T : (b : Bool) → b ≡ true → T b
 true-T true e = tt
 true-T false e = contradiction cc
 
+pub T-true : (b : Bool) → T b → b ≡ true
+T-true true t = refl
+T-true false t = absurd t
+
 pub false-T : (b : Bool) → b ≡ false → T (not b)
 false-T true e = contradiction cc
 false-T false e = tt

@@ -19,7 +19,7 @@ use Rattle.specification.specs.Formula.{Token, operand, Locals, has, bin
 use Rattle.specification.specs.Outside.{binds}
 use Rattle.specification.specs.WellFormed.{nowhere, enter, OkTerm, Ok, OkProcedures}
 use Rattle.specification.proofs.Laws.Contradiction.{contradiction}
-use Rattle.specification.proofs.Laws.Parser.{false-T, Post, refusal, holds, bind-post, require-post, pick-post}
+use Rattle.specification.proofs.Laws.Parser.{T-true, false-T, Post, refusal, holds, bind-post, require-post, pick-post}
 use Rattle.specification.proofs.Laws.Fill.{fill-binds, ok-fill}
 use Rattle.specification.proofs.Laws.ReadWords.{word-ok, number-ok}
 use Rattle.specification.proofs.Laws.ReadTerm.{scope, scope-enter, Sub, sub-less, sub-both, fresh, Scoped, token-post, operand-post, term-post}
@@ -87,10 +87,6 @@ module _ (D : Declared) (R : Locals) where
         holds ((ap suc (h₂ .0 .0), (h₁ .0, h₂ .0 .1)), h₂ .1)
 
 -- ---- what is known where a line begins
-
-true-of : (b : Bool) → T b → b ≡ true
-true-of true t = refl
-true-of false t = absurd t
 
 sub-trans : (A B C : Locals) → Sub A B → Sub B C → Sub A C
 sub-trans A B C f g j h = g j (f j h)
@@ -191,7 +187,7 @@ module _ (D : Declared) (B : Locals) (known : Known D B) where
           record { earlier = early; count = count; filled = refl },
           each,
           ok-fill D (known .scoped) J ts count (scope S) each nowhere (scope S) G (known .scoped J early) (λ l t. absurd t) (λ l t. t)
-              (λ l c t. let e = a .apart l (true-of (has l S) t) in let f = b l c in contradiction cc),
+              (λ l c t. let e = a .apart l (T-true (has l S) t) in let f = b l c in contradiction cc),
         );
         binders = λ l c. m l (a .before l (b l (subst T (fill-binds ts G l) c)));
         more = m;
