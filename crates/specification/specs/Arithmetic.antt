@@ -1,13 +1,13 @@
--- The arithmetic that both readings of a sheet share: mathematical integers, each operation exact and then held to 32 bits, division
--- toward zero. Assumes nothing.
-use Prim.Native.Nat.{ℕ, zero, suc, _+_, _-_}
+-- The arithmetic that both readings of a sheet share: mathematical integers, each operation exact and then held to 32 bits. Division is
+-- toward zero (`quotZ`) or rounds down (`floorZ`). Assumes nothing.
+use Prim.Native.Nat.{ℕ, zero, suc, _+_, _-_, _/_}
 use mathlib.Core.Bool.{Bool, false, not}
 use lib.Dec.{eqb}
 use lib.IntN.{ℤ, pos, negsuc, _+ℤ_, _-ℤ_, _*ℤ_}
 use lib.Signed.{ltZ, leZ, quotZ}
 use Rattle.specification.specs.Bytes.{pick}
 use Rattle.specification.specs.Number.{in32}
-use Rattle.specification.specs.Ast.{Op, add, sub, mul, div, modulo, Rel, ne, lt, le, gt, ge}
+use Rattle.specification.specs.Ast.{Op, add, sub, mul, quo, rem, div, modulo, Rel, ne, lt, le, gt, ge}
 
 -- ---- error kinds
 
@@ -42,13 +42,27 @@ divided (pos zero) c = fault zeroDivisor
 divided (pos (suc n)) c = c
 divided (negsuc n) c = c
 
+-- the quotient rounded down: -(n + 1) by b is -(n / b) - 1. Of the divisor 0 nothing is asked
+abbrev pub floorZ : ℤ → ℤ → ℤ
+floorZ (pos a) (pos b) = pos (a / b)
+floorZ (pos zero) (negsuc b) = pos zero
+floorZ (pos (suc a)) (negsuc b) = negsuc (a / suc b)
+floorZ (negsuc a) (pos b) = negsuc (a / b)
+floorZ (negsuc a) (negsuc b) = pos (suc a / suc b)
+
+-- what a quotient leaves of x by y
+abbrev pub remains : ℤ → ℤ → ℤ → ℤ
+remains x y q = x -ℤ y *ℤ q
+
 -- an operation; which word means it is the edition's to say (Words)
 unfoldable pub compute : Op → ℤ → ℤ → Computed
 compute add x y = fit (x +ℤ y)
 compute sub x y = fit (x -ℤ y)
 compute mul x y = fit (x *ℤ y)
-compute div x y = divided y (fit (quotZ x y))
-compute modulo x y = divided y (fit (x -ℤ y *ℤ quotZ x y))
+compute quo x y = divided y (fit (quotZ x y))
+compute rem x y = divided y (fit (remains x y (quotZ x y)))
+compute div x y = divided y (fit (floorZ x y))
+compute modulo x y = divided y (fit (remains x y (floorZ x y)))
 
 -- ---- comparisons
 

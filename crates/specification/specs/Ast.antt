@@ -4,9 +4,9 @@ use Prim.Native.Nat.{ℕ}
 use mathlib.Core.List.{List}
 use lib.IntN.{ℤ}
 
--- `add`, `sub`, `mul`, `div`, `mod`
+-- `quo` divides toward zero and `div` rounds down; `rem` and `modulo` are what these leave
 pub data Op : Type 0 where
-  add sub mul div modulo : Op
+  add sub mul quo rem div modulo : Op
 
 -- the atoms that compare and never assign
 pub data Rel : Type 0 where

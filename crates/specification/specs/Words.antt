@@ -1,13 +1,13 @@
 -- The token words, a closed set, and the word that a token's bytes spell. The edition chooses the words and the operation that each
 -- means: nothing after the reading asks for it. Assumes nothing.
 use Prim.Native.Nat.{ℕ}
-use mathlib.Core.List.{List, [], _∷_}
+use mathlib.Core.List.{List, [], _∷_, _++_}
 use mathlib.Core.Option.{Option, none, some as just}
-use lib.Dec.{eqb}
+use lib.Dec.{eqb, ltb}
 use lib.IntN.{ℤ}
 use Rattle.specification.specs.Bytes.{Bytes, bytes, pick, inNumber, same, begins}
 use Rattle.specification.specs.Number.{natural, integer, in32}
-use Rattle.specification.specs.Ast.{Op, add, sub, mul, div, modulo, Rel, ne, lt, le, gt, ge}
+use Rattle.specification.specs.Ast.{Op, add, sub, mul, quo, rem, div, modulo, Rel, ne, lt, le, gt, ge}
 
 pub data FormulaWord : Type 0 where
   trueWord andWord orWord impWord notWord eqWord exWord someWord allWord callWord : FormulaWord
@@ -33,9 +33,9 @@ infixr 70 _means_
 abbrev pub _means_ : Bytes → Word → Entry
 _means_ t w = record { text = t; word = w }
 
--- the words of edition 1, names and constants aside
-unfoldable pub firstWords : List Entry
-firstWords =
+-- the words that every edition has and that mean the same in each, names and constants aside
+unfoldable pub commonWords : List Entry
+commonWords =
     bytes "true" means formulaWord trueWord
     ∷ bytes "and" means formulaWord andWord
     ∷ bytes "or" means formulaWord orWord
@@ -53,13 +53,37 @@ firstWords =
     ∷ bytes "add" means termWord (opWord add)
     ∷ bytes "sub" means termWord (opWord sub)
     ∷ bytes "mul" means termWord (opWord mul)
-    ∷ bytes "div" means termWord (opWord div)
-    ∷ bytes "mod" means termWord (opWord modulo)
     ∷ []
 
--- those of an edition
+-- division toward zero, as editions 1 and 2 write it
+unfoldable pub olderDivision : List Entry
+olderDivision =
+    bytes "div" means termWord (opWord quo)
+    ∷ bytes "mod" means termWord (opWord rem)
+    ∷ []
+
+-- the first edition whose `div` and `mod` round down
+abbrev pub firstRounding : ℕ
+firstRounding = 3
+
+-- both divisions, as it writes them
+unfoldable pub division : List Entry
+division =
+    bytes "div" means termWord (opWord div)
+    ∷ bytes "mod" means termWord (opWord modulo)
+    ∷ bytes "quo" means termWord (opWord quo)
+    ∷ bytes "rem" means termWord (opWord rem)
+    ∷ []
+
+-- the words of an edition beside the common ones
+unfoldable pub ownWords : ℕ → List Entry
+ownWords edition =
+    pick (eqb edition 1) olderDivision
+    (bytes "call" means formulaWord callWord ∷ pick (ltb edition firstRounding) olderDivision division)
+
+-- all of an edition
 unfoldable pub words : ℕ → List Entry
-words edition = pick (eqb edition 1) firstWords (bytes "call" means formulaWord callWord ∷ firstWords)
+words edition = commonWords ++ ownWords edition
 
 -- vN, lN, aN or, from edition 2 on, pN, where N is in good form
 abbrev pub named : (ℕ → TermWord) → Option ℕ → Word

@@ -4,7 +4,7 @@ use Rattle.specification.specs.Number.{allDigits, decimal, wellFormed, n
 use Rattle.specification.specs.Parser.{mark, exactly, taken}
 use Rattle.specification.specs.Lines.{index, count, value, line, lengths, arraysLine, range, ranges, rangesLine, contains, sum, arrayOf, cells, firstOf, lengthOf, isDeclared, cellOf, rangeNumber, rangeOf, inRange}
 use Rattle.specification.specs.Given.{scalarName, elementName, name, item, items, givenLine}
-use Rattle.specification.specs.Words.{firstWords, words, nameOf, find, wordOf, numberOf}
+use Rattle.specification.specs.Words.{commonWords, olderDivision, division, ownWords, words, nameOf, find, wordOf, numberOf}
 use Rattle.specification.specs.Fill.{fillTerm, fillTerms, fill}
 use Rattle.specification.specs.Formula.{token, has, binder, procedure, term, arguments, formula}
 use Rattle.specification.specs.Sheet.{procedureLine, procedureLines, sheet, read}
@@ -20,7 +20,7 @@ use Rattle.specification.specs.Outcome.{start, rootOf, visitsOf, runOf, 
 use Rattle.specification.specs.Printed.{closing, printed, box}
 
 unfoldable pub read-defs : Type 0
-unfolding classOf classNumber isIn inNumber inToken run same begins allDigits decimal wellFormed natural integer mark exactly taken index count value line lengths arraysLine range ranges rangesLine contains sum arrayOf cells firstOf lengthOf isDeclared cellOf rangeNumber rangeOf inRange scalarName elementName name item items givenLine firstWords words nameOf find wordOf numberOf fillTerm fillTerms fill token has binder procedure term arguments formula procedureLine procedureLines sheet read
+unfolding classOf classNumber isIn inNumber inToken run same begins allDigits decimal wellFormed natural integer mark exactly taken index count value line lengths arraysLine range ranges rangesLine contains sum arrayOf cells firstOf lengthOf isDeclared cellOf rangeNumber rangeOf inRange scalarName elementName name item items givenLine commonWords olderDivision division ownWords words nameOf find wordOf numberOf fillTerm fillTerms fill token has binder procedure term arguments formula procedureLine procedureLines sheet read
 read-defs = Unit {0}
 
 unfoldable pub tree-defs : Type 0

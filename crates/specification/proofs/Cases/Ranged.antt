@@ -47,8 +47,6 @@ rangeCases =
     -- every element has its array's range
     ∷ both "0:4,7:9" "" "and eq v0 4 eq a0 1 7" "answer=1\nv0=4\na0.1=7\nend=done\nnodes=5\nanswers=1\nerrors=0\nfails=0\n"
     ∷ both "0:4,7:9" "" "or eq a0 0 6 eq a0 1 10" "end=done\nnodes=5\nanswers=0\nerrors=0\nfails=2\n"
-    -- division is still cut toward zero
-    ∷ ranged "-9:9" "eq v0 div -7 2" "answer=1\nv0=-3\nend=done\nnodes=3\nanswers=1\nerrors=0\nfails=0\n"
     -- given values: on the border; outside it, after 7 and 10, before a bad byte after it
     ∷ givenIn "0:4" "v0:4" "answer=1\nv0=4\nend=done\nnodes=3\nanswers=1\nerrors=0\nfails=0\n"
     ∷ givenIn "0:4" "v0:5x" "refused=13\nat=54\n"

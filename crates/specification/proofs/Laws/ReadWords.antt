@@ -4,13 +4,14 @@ use mathlib.Core.Path.{_≡_, refl, subst}
 use mathlib.Core.Bool.{Bool, true, false}
 use mathlib.Core.List.{List, [], _∷_}
 use mathlib.Core.Option.{Option, none, some as just}
-use lib.Dec.{T, eqb}
+use lib.Dec.{T, eqb, ltb}
 use lib.IntN.{ℤ}
 use Rattle.specification.specs.Bytes.{Bytes, bytes, pick, inNumber, same, begins}
 use Rattle.specification.specs.Number.{natural, integer, in32}
-use Rattle.specification.specs.Words.{callWord, TermWord, constantWord, scalarWord, localWord, arrayWord, parameterWord, opWord, Word, formulaWord, termWord, numberWord, unknown, Entry, _means_, firstWords, words, named, nameOf, find, constantOf, wordOf, numeral, numberOf}
+use Rattle.specification.specs.Words.{callWord, TermWord, constantWord, scalarWord, localWord, arrayWord, parameterWord, opWord, Word, formulaWord, termWord, numberWord, unknown, Entry, _means_, commonWords, olderDivision, firstRounding, division, ownWords, words, named, nameOf, find, constantOf, wordOf, numeral, numberOf}
 use Rattle.specification.specs.Lists.{Each}
 use Rattle.specification.proofs.Laws.Contradiction.{contradiction}
+use Rattle.specification.proofs.Laws.Lists.{each-++}
 use Rattle.specification.proofs.Laws.Parser.{true-T}
 
 -- a constant lies in 32 bits; of another word nothing is asked
@@ -58,17 +59,22 @@ unfolding find Each
 find-ok edition t [] h = name-ok edition t
 find-ok edition t (e ∷ es) h = either (same t (e .text)) (record { inBits = h .0 }) (find-ok edition t es (h .1))
 
-first-ok : Entries firstWords
-unfolding firstWords Each
-first-ok = (tt, (tt, (tt, (tt, (tt, (tt, (tt, (tt, (tt, (tt, (tt, (tt, (tt, (tt, (tt, (tt, (tt, (tt, (tt, tt)))))))))))))))))))
+common-ok : Entries commonWords
+unfolding commonWords Each
+common-ok = (tt, (tt, (tt, (tt, (tt, (tt, (tt, (tt, (tt, (tt, (tt, (tt, (tt, (tt, (tt, (tt, (tt, tt)))))))))))))))))
+
+own-ok : (edition : ℕ) → Entries (ownWords edition)
+unfolding ownWords olderDivision division Each
+own-ok edition = go (eqb edition 1) (ltb edition firstRounding)
+  where
+    go : (b c : Bool) → Entries (pick b olderDivision (bytes "call" means formulaWord callWord ∷ pick c olderDivision division))
+    go true c = (tt, (tt, tt))
+    go false true = (tt, (tt, (tt, tt)))
+    go false false = (tt, (tt, (tt, (tt, (tt, tt)))))
 
 words-ok : (edition : ℕ) → Entries (words edition)
-unfolding words Each
-words-ok edition = go (eqb edition 1)
-  where
-    go : (b : Bool) → Entries (pick b firstWords (bytes "call" means formulaWord callWord ∷ firstWords))
-    go true = first-ok
-    go false = (tt, first-ok)
+unfolding words
+words-ok edition = each-++ (λ e. InBits (e .word)) commonWords (ownWords edition) common-ok (own-ok edition)
 
 -- ---- constants and tokens
 

@@ -10,8 +10,8 @@ use lib.Signed.{quotZ}
 use Rattle.specification.specs.Bytes.{pick}
 use Rattle.specification.specs.Number.{in32}
 use Rattle.specification.specs.Lines.{Declared, cells, firstOf, lengthOf}
-use Rattle.specification.specs.Ast.{Op, add, sub, mul, div, modulo, Term, constant, scalarAt, localAt, parameter, elementAt, apply}
-use Rattle.specification.specs.Arithmetic.{noValue, outsideArray, outside32, Computed, value, fault, fit, divided, compute}
+use Rattle.specification.specs.Ast.{Op, add, sub, mul, quo, rem, div, modulo, Term, constant, scalarAt, localAt, parameter, elementAt, apply}
+use Rattle.specification.specs.Arithmetic.{noValue, outsideArray, outside32, Computed, value, fault, fit, divided, floorZ, remains, compute}
 use Rattle.specification.specs.Place.{Place, cell, local}
 use Rattle.specification.specs.Value.{Slot, empty, full, Valuation, Side, val, bare, err, look, Pair, values, faulty, pairOf, sideOf, operate, inArray, elementSide, side}
 use Rattle.specification.specs.WellFormed.{Scope, OkTerm, Valid}
@@ -100,13 +100,18 @@ divided-firm (pos zero) c h = tt
 divided-firm (pos (suc n)) c h = h
 divided-firm (negsuc n) c h = h
 
+quotient-firm : (y z : ℤ) → Firm (sideOf (divided y (fit z)))
+quotient-firm y z = divided-firm y (fit z) (fit-firm z)
+
 compute-firm : (o : Op) (x y : ℤ) → Firm (sideOf (compute o x y))
 unfolding compute
 compute-firm add x y = fit-firm (x +ℤ y)
 compute-firm sub x y = fit-firm (x -ℤ y)
 compute-firm mul x y = fit-firm (x *ℤ y)
-compute-firm div x y = divided-firm y (fit (quotZ x y)) (fit-firm (quotZ x y))
-compute-firm modulo x y = divided-firm y (fit (x -ℤ y *ℤ quotZ x y)) (fit-firm (x -ℤ y *ℤ quotZ x y))
+compute-firm quo x y = quotient-firm y (quotZ x y)
+compute-firm rem x y = quotient-firm y (remains x y (quotZ x y))
+compute-firm div x y = quotient-firm y (floorZ x y)
+compute-firm modulo x y = quotient-firm y (remains x y (floorZ x y))
 
 -- what holds of firm sides, and of the places in scope as they are looked at, holds of every side
 module _ (D : Declared) (S : Scope) (α : Valuation) (G : Side → Type 0) (firm : (s : Side) → Firm s → G s)
