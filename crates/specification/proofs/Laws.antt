@@ -2,6 +2,8 @@
 pub mod Contradiction
 -- of lists, numbers and blocks
 pub mod Lists
+pub mod Difference
+pub mod Rounding
 pub mod Print
 pub mod Text
 pub mod Blocks
@@ -32,6 +34,7 @@ pub mod ReadBounds
 pub mod Steady
 -- of the tree and the plain reading
 pub mod Place
+pub mod Division
 pub mod Value
 pub mod Lasting
 pub mod Inner

@@ -3,15 +3,16 @@
 use Prim.Native.Nat.{ℕ, zero, suc, _+_, _-_, _<_, _≤_}
 use native.Mathlib.Omega.{arith}
 use mathlib.Core.Path.{_≡_, refl, sym, _∙_, ap, subst}
-use mathlib.Core.Bool.{Bool, true, false, cond}
+use mathlib.Core.Bool.{Bool, true, false}
 use lib.Dec.{T, ltb, leb→le, le→leb, eqb→eq, eqb-refl}
-use borrow.Author.Tests.{ltb-true, ltb-false, lt-ltb, le-ltb}
+use borrow.Author.Tests.{ltb-true, ltb-false}
 use mir.Facts.{and-yes, yes-and}
-use lib.IntN.{ℤ, pos, negsuc, _+ℤ_, subℕ, +ℤ-assoc, +ℤ-idr}
+use lib.IntN.{ℤ, pos, negsuc, _+ℤ_, +ℤ-assoc, +ℤ-idr}
 use lib.Signed.{_≤ℤ_, leZ}
 use Rattle.specification.specs.Number.{least, greatest, in32}
 use Rattle.specification.specs.Arithmetic.{eqZ, count}
 use Rattle.specification.specs.Plain.{EachFrom}
+use Rattle.specification.proofs.Laws.Difference.{subℕ-ge, subℕ-lt}
 
 -- ---- equality
 
@@ -67,12 +68,6 @@ pub in32-between : (x y v : ℤ) → T (in32 x) → T (in32 y) → x ≤ℤ v �
 in32-between x y v s t h k = range-in32 v (le-trans least x v ((in32-range x s) .0) h) (le-trans v y greatest k ((in32-range y t) .1))
 
 -- ---- the count
-
-subℕ-ge : (a b : ℕ) → b ≤ a → subℕ a b ≡ pos (a - b)
-subℕ-ge a b h = ap (λ (t : Bool). cond t (negsuc (b - suc a)) (pos (a - b))) (le-ltb a b h)
-
-subℕ-lt : (a b : ℕ) → a < b → subℕ a b ≡ negsuc (b - suc a)
-subℕ-lt a b h = ap (λ (t : Bool). cond t (negsuc (b - suc a)) (pos (a - b))) (lt-ltb a b h)
 
 -- a value from x to y is x + i, for an i below their count
 pub range-at : (x y v : ℤ) → x ≤ℤ v → v ≤ℤ y → (i : ℕ) × (i < count x y) × (v ≡ x +ℤ pos i)
