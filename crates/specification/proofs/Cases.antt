@@ -6,4 +6,5 @@ pub mod Marked
 pub mod Decided
 pub mod Calls
 pub mod Ranged
+pub mod Divided
 pub mod WrongBoxes
