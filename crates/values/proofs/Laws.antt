@@ -1,7 +1,7 @@
--- Test: tests as facts. Difference: differences of naturals, and magnitudes. Word: words against their values, for every crate that keeps
--- values as words. Packed: what the result of an operation says. Exact: 64 bits hold what an operation on two values gives.
+-- Test: tests as facts. Word: words against their values, for every crate that keeps values as words. Packed: what the result of an operation
+-- says. Exact: 64 bits hold what an operation on two values gives. Floor: rounding down from division toward zero.
 pub mod Test
-pub mod Difference
 pub mod Word
 pub mod Packed
 pub mod Exact
+pub mod Floor

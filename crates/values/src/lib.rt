@@ -1,11 +1,12 @@
-// Signed 32-bit integers as words, and the five operations on them. The word w stands for w - 2^31 (specs/Word.antt), so that
+// Signed 32-bit integers as words, and the seven operations on them. The word w stands for w - 2^31 (specs/Word.antt), so that
 // words compare, count and step as their values do. An operation is exact on 64 bits and then held to 32.
 ghost use mathlib.Core.Path.{_≡_};
-ghost use lib.IntN.{_+ℤ_, _-ℤ_, _*ℤ_};
+ghost use lib.IntN.{pos, _+ℤ_, _-ℤ_, _*ℤ_};
 ghost use lib.Signed.{quotZ};
-ghost use Rattle.specification.specs.Arithmetic.{fit, divided};
+ghost use Rattle.specification.specs.Arithmetic.{fit, divided, floorZ, remains};
 ghost use Rattle.values.specs.Word.{signed};
 ghost use Rattle.values.specs.Packed.{packed};
+ghost use Rattle.values.specs.Rounded.{opposite, Narrow, roundedDown};
 
 // The ends of 32 bits.
 const LEAST: i64 = -2147483648;
@@ -78,10 +79,66 @@ pub fn quotient(x: u32, y: u32) -> Computed
 
 // What the quotient leaves, with the dividend's sign; for -2,147,483,648 by -1 that is 0.
 pub fn remainder(x: u32, y: u32) -> Computed
-    ensures { λ r. ⌜ r ≡ packed (divided (signed y) (fit (signed x -ℤ signed y *ℤ quotZ (signed x) (signed y)))) ⌝ }
+    ensures { λ r. ⌜ r ≡ packed (divided (signed y) (fit (remains (signed x) (signed y) (quotZ (signed x) (signed y))))) ⌝ }
 {
     if y == ZERO {
         return Computed::Fault(ZERO_DIVISOR);
     }
     pack(widen(x) % widen(y))
+}
+
+// Whether one is below 0 and the other above.
+fn opposite(x: i64, y: i64) -> bool
+    ensures { λ r. ⌜ r ≡ opposite x y ⌝ }
+{
+    if x < 0 {
+        return 0 < y;
+    }
+    if 0 < x {
+        return y < 0;
+    }
+    false
+}
+
+// A quotient rounded down, and what it leaves.
+struct Divided {
+    quotient: i64,
+    rest: i64,
+}
+
+// One less than toward zero where that leaves a rest on the other side of 0 than the divisor. With two callers this is compiled once and kept out of
+// the loop over a term's tokens; in it, other operations cost up to two instructions more.
+fn rounded(x: i64, y: i64) -> Divided
+    requires { ⌜ Narrow x × Narrow y × ¬ (y ≡ pos 0) ⌝ }
+    ensures { λ r. ⌜ r ≡ roundedDown x y ⌝ }
+{
+    let quotient = x / y;
+    let rest = x % y;
+    if opposite(rest, y) {
+        return Divided {
+            quotient: quotient - 1,
+            rest: rest + y,
+        };
+    }
+    Divided { quotient, rest }
+}
+
+// Rounding down. Only -2,147,483,648 by -1 is outside 32 bits.
+pub fn floor(x: u32, y: u32) -> Computed
+    ensures { λ r. ⌜ r ≡ packed (divided (signed y) (fit (floorZ (signed x) (signed y)))) ⌝ }
+{
+    if y == ZERO {
+        return Computed::Fault(ZERO_DIVISOR);
+    }
+    pack(rounded(widen(x), widen(y)).quotient)
+}
+
+// What rounding down leaves, with the divisor's sign.
+pub fn modulus(x: u32, y: u32) -> Computed
+    ensures { λ r. ⌜ r ≡ packed (divided (signed y) (fit (remains (signed x) (signed y) (floorZ (signed x) (signed y))))) ⌝ }
+{
+    if y == ZERO {
+        return Computed::Fault(ZERO_DIVISOR);
+    }
+    pack(rounded(widen(x), widen(y)).rest)
 }

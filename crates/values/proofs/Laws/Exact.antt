@@ -1,12 +1,12 @@
 -- The machine's 64 bits hold each operation on two values of 32 bits exactly, and what it reads back is the mathematical result.
 -- Assumes nothing.
-use Prim.Native.Nat.{ℕ, zero, suc, _+_, _-_, _*_, _/_, _%_, _<_, _≤_}
+use Prim.Native.Nat.{ℕ, zero, suc, _-_, _<_, _≤_}
 use native.Mathlib.Omega.{arith}
-use native.Mathlib.Nat.{mul-le-mul, div-add-mod}
+use native.Mathlib.Nat.{mul-le-mul}
 use mathlib.Core.Path.{_≡_, refl, _∙_, ap}
 use mathlib.Core.Bool.{true, false}
 use lib.Dec.{T}
-use lib.IntN.{ℤ, pos, negsuc, negℤ, natAbs, _+ℤ_, _-ℤ_, _*ℤ_, negℤ-negℤ, *ℤ-zero, *ℤ-negsuc}
+use lib.IntN.{ℤ, pos, negsuc, negℤ, natAbs, _+ℤ_, _-ℤ_, _*ℤ_}
 use lib.Signed.{ltZ, leZ, quotZ, remZ, leZ-yes, ltZ-yes, ltZ-no, clashℤ}
 use mir.Val.{SFits, toZ, ofZ}
 use mir.ValLaws.{toZ-ofZ}
@@ -14,7 +14,7 @@ use mir.Syntax.{w64}
 use Rattle.specification.specs.Number.{in32, least, greatest}
 use Rattle.values.specs.Word.{signed, biased}
 use Rattle.values.proofs.Laws.Test.{is-true, is-false, and-left, and-right, and-both}
-use Rattle.values.proofs.Laws.Difference.{subℕ-ge, subℕ-lt, abs-neg, abs-sum, abs-product, abs-quotient, abs-remainder}
+use Rattle.specification.proofs.Laws.Difference.{subℕ-ge, abs-neg, abs-sum, abs-product, abs-quotient, abs-remainder}
 use Rattle.values.proofs.Laws.Word.{by-sign, abs-signed, biased-word, in32-below}
 
 -- ---- 64 bits are wide enough
@@ -55,7 +55,7 @@ pub record Operands (x y : ℕ) (a b : ℤ) : Type 0 where
   pub left : a ≡ signed x
   pub right : b ≡ signed y
 
-value-read : (w : ℕ) (z : ℤ) → w < 4294967296 → z ≡ signed w → toZ w64 (ofZ w64 z) ≡ signed w
+pub value-read : (w : ℕ) (z : ℤ) → w < 4294967296 → z ≡ signed w → toZ w64 (ofZ w64 z) ≡ signed w
 value-read w z h e = rw e (toZ-ofZ w64 (signed w) (signed-fits w h))
 
 module _ {x y : ℕ} {a b : ℤ} (o : Operands x y a b) (f : ℤ → ℤ → ℤ) (exact : Exact f) where
@@ -112,28 +112,3 @@ module _ (z : ℤ) (f : SFits w64 z) (t : T (in32 z)) where
   pub shifted-read : toZ w64 (ofZ w64 (toZ w64 (ofZ w64 z) +ℤ pos 2147483648)) ≡ pos (biased z)
   shifted-read =
       rw (toZ-ofZ w64 z f, shifted z t) (toZ-ofZ w64 (pos (biased z)) (wide (pos (biased z)) (omega (arith, biased-word z t))))
-
--- ---- the remainder
-
--- what is left of a, or of its negation, when the product n is taken off it
-rest : (a n r : ℕ) → n + r ≡ a → pos a +ℤ negℤ (pos n) ≡ pos r
-rest a zero r e = ap pos (omega arith)
-rest a (suc n) r e = subℕ-ge a (suc n) (omega arith) ∙ ap pos {x = a - suc n} {y = r} (omega arith)
-
-rest-neg : (a n r : ℕ) → n + r ≡ suc a → negsuc a +ℤ pos n ≡ negℤ (pos r)
-rest-neg a n zero e = subℕ-ge n (suc a) (omega arith) ∙ ap pos {x = n - suc a} {y = 0} (omega arith)
-rest-neg a n (suc r) e = subℕ-lt n (suc a) (omega arith) ∙ ap negsuc {x = suc a - suc n} {y = r} (omega arith)
-
-product-neg : (y : ℤ) (n : ℕ) → y *ℤ negℤ (pos n) ≡ negℤ (y *ℤ pos n)
-product-neg y zero = rw (*ℤ-zero y)
-product-neg y (suc n) = *ℤ-negsuc y n
-
--- the machine's remainder is what the exact quotient leaves
-pub remainder-is : (x y : ℤ) → x -ℤ y *ℤ quotZ x y ≡ remZ x y
-remainder-is (pos a) (pos b) = rest a (b * (a / b)) (a % b) (div-add-mod a b)
-remainder-is (pos a) (negsuc b) =
-    rw (product-neg (negsuc b) (a / suc b), negℤ-negℤ) (rest a (suc b * (a / suc b)) (a % suc b) (div-add-mod a (suc b)))
-remainder-is (negsuc a) (pos b) =
-    rw (product-neg (pos b) (suc a / b), negℤ-negℤ) (rest-neg a (b * (suc a / b)) (suc a % b) (div-add-mod (suc a) b))
-remainder-is (negsuc a) (negsuc b) =
-    rw negℤ-negℤ (rest-neg a (suc b * (suc a / suc b)) (suc a % suc b) (div-add-mod (suc a) (suc b)))

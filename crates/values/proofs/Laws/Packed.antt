@@ -13,14 +13,6 @@ use Rattle.values.proofs.Laws.Word.{by-sign}
 
 -- ---- 32 bits
 
-pub fit-in : (z : ℤ) → T (in32 z) → fit z ≡ value z
-unfolding fit
-fit-in z t = go (in32 z) t
-  where
-    go : (b : Bool) → T b → pick b (value z) (fault outside32) ≡ value z
-    go true t = refl
-    go false t = absurd t
-
 pub fit-out : (z : ℤ) → (T (in32 z) → ⊥) → fit z ≡ fault outside32
 unfolding fit
 fit-out z f = go (in32 z) f

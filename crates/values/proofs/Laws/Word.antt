@@ -11,7 +11,7 @@ use Rattle.specification.specs.Number.{in32}
 use Rattle.specification.specs.Arithmetic.{eqZ, count}
 use Rattle.values.specs.Word.{signed, biased}
 use Rattle.values.proofs.Laws.Test.{and-left, and-both, same-leb, true-leb, false-leb, same-eqb, false-eqb}
-use Rattle.values.proofs.Laws.Difference.{by-order, subℕ-ge, subℕ-lt, subℕ-same}
+use Rattle.specification.proofs.Laws.Difference.{by-order, subℕ-ge, subℕ-lt, subℕ-same}
 
 -- what holds of the values of small and of large words holds of every word's
 pub by-sign : (P : ℤ → Type 0) (w : ℕ) → (w < 2147483648 → P (negsuc (2147483648 - suc w))) → (2147483648 ≤ w → P (pos (w - 2147483648))) → P (signed w)

@@ -5,7 +5,8 @@ use mir.ValLaws.{toZ-ofZ}
 use mir.Syntax.{w64}
 use Rattle.specification.specs.Number.{in32}
 use Rattle.values.specs.Packed.{packed}
-use Rattle.values.proofs.Laws.Packed.{fit-in, fit-out}
+use Rattle.specification.proofs.Laws.Division.{fit-in}
+use Rattle.values.proofs.Laws.Packed.{fit-out}
 use Rattle.values.proofs.Laws.Word.{biased-word}
 use Rattle.values.proofs.Laws.Exact.{low-out, high-out, tests-in, shifted-fits, shifted-read}
 use Rattle.values.proofs.pack.Statement.{statement}

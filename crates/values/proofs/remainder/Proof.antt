@@ -3,10 +3,11 @@ use mathlib.Core.Path.{sym, _∙_, ap}
 use borrow.Author.Needs.{needs}
 use lib.Signed.{quotZ, remZ}
 use Rattle.specification.specs.Arithmetic.{fit}
+use Rattle.specification.proofs.Laws.Rounding.{remainder-is}
 use Rattle.values.specs.Word.{signed}
 use Rattle.values.specs.Packed.{packed}
 use Rattle.values.proofs.Laws.Packed.{divided-zero, divided-other}
-use Rattle.values.proofs.Laws.Exact.{Operands, result-fits, result-read, divisor-nonzero, exact-quotient, exact-remainder, remainder-is}
+use Rattle.values.proofs.Laws.Exact.{Operands, result-fits, result-read, divisor-nonzero, exact-quotient, exact-remainder}
 use Rattle.values.proofs.remainder.Statement.{statement}
 use Rattle.values.proofs.remainder.Tie as tie
 
