@@ -6,7 +6,7 @@ use mathlib.Core.Path.{_≡_, refl, _∙_, ap, subst}
 use mathlib.Core.List.{List, [], _∷_, _++_, append-assoc}
 use lib.ListN.{length, drop}
 use lib.Seq.{drop-nil}
-use Rattle.specification.specs.Ast.{Op, add, sub, mul, div, modulo, Rel, ne, lt, le, gt, ge, Term, constant, scalarAt, localAt, parameter, elementAt, apply, Formula, truth, and, or, imp, neg, eq, compare, ex, some, all, call}
+use Rattle.specification.specs.Ast.{Op, add, sub, mul, quo, rem, div, modulo, Rel, ne, lt, le, gt, ge, Term, constant, scalarAt, localAt, parameter, elementAt, apply, Formula, truth, and, or, imp, neg, eq, compare, ex, some, all, call}
 use Rattle.specification.proofs.Laws.Contradiction.{contradiction}
 use Rattle.values.specs.Word.{biased}
 use Rattle.tables.specs.Codes.{trueCode, andCode, orCode, impCode, notCode, eqCode, exCode, someCode, allCode, callCode, constantCode, scalarCode, localCode, arrayCode, parameterCode, procedureCode}
@@ -58,6 +58,8 @@ unfolding arity operandsOf wordOperands
 op-arity add = refl
 op-arity sub = refl
 op-arity mul = refl
+op-arity quo = refl
+op-arity rem = refl
 op-arity div = refl
 op-arity modulo = refl
 

@@ -7,7 +7,7 @@ use mathlib.Core.Bool.{Bool, true, false, _&&_}
 use lib.Dec.{T, eqb, leb, ltb, eqb→eq}
 use borrow.Author.Tests.{eqb-true, ne-eqb, leb-true, le-leb, lt-leb, ltb-true, ltb-false}
 use Rattle.specification.specs.Bytes.{pick, between}
-use Rattle.tables.specs.Codes.{andCode, impCode, notCode, eqCode, geCode, exCode, someCode, allCode, callCode, firstTerm, lastTerm, addCode, modCode, arrayCode, procedureCode}
+use Rattle.tables.specs.Codes.{andCode, impCode, notCode, eqCode, geCode, exCode, someCode, allCode, callCode, firstTerm, lastTerm, firstOperation, lastOperation, arrayCode, procedureCode}
 use Rattle.sheet.specs.declared.sorts.Operands.{Operands}
 use Rattle.sheet.specs.Sorts.{formulaSort, termSort, procedureSort, exSort, rangeSort, operands, wordOperands, operandsOf}
 use Rattle.text.proofs.Laws.Ranges.{over}
@@ -35,7 +35,7 @@ module _ (P : Operands → Type 0) where
       (either (between eqCode geCode c) _ _ terms
       (either (eqb c exCode) _ _ ex
       (either (between someCode allCode c) _ _ range
-      (either (between addCode modCode c) _ _ terms
+      (either (between firstOperation lastOperation c) _ _ terms
       (either (eqb c arrayCode) _ _ term
       (known (eqb c callCode) _ _ (λ e. call (eqb-true c callCode e)) none))))))))
 
@@ -52,7 +52,7 @@ module _ (P : Operands → Type 0) where
         over someCode allCode c (omega arith),
         ne-eqb c callCode (λ q. omega arith),
       )
-      (either (between addCode modCode c) _ _ terms (either (eqb c arrayCode) _ _ term none))
+      (either (between firstOperation lastOperation c) _ _ terms (either (eqb c arrayCode) _ _ term none))
 
 -- ---- ranges of codes
 
@@ -77,7 +77,7 @@ operands-range o (suc n) lo c t a b =
     by true f s k more = more (ltb-true lo c f)
     by false f s k more = let z : c ≡ lo = omega (arith, ltb-false lo c f) in rw z (rw (s, k))
 
-pub operands-above : (c : ℕ) → (c ≡ arrayCode → ⊥) → modCode < c → wordOperands c ≡ operands formulaSort 0
+pub operands-above : (c : ℕ) → (c ≡ arrayCode → ⊥) → lastOperation < c → wordOperands c ≡ operands formulaSort 0
 unfolding wordOperands
 operands-above c n l =
     rw (
@@ -86,7 +86,7 @@ operands-above c n l =
       over eqCode geCode c (omega arith),
       ne-eqb c exCode (λ q. omega arith),
       over someCode allCode c (omega arith),
-      over addCode modCode c l,
+      over firstOperation lastOperation c l,
       ne-eqb c arrayCode n,
       ne-eqb c callCode (λ q. omega arith),
     )

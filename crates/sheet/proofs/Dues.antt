@@ -11,7 +11,7 @@ use borrow.Author.Tests.{ne-eqb}
 use Rattle.specification.specs.Bytes.{pick}
 use Rattle.specification.specs.Parser.{Reader, Parser, give, require, andThen, _>>=_}
 use Rattle.specification.specs.Lines.{Declared, procedureOf}
-use Rattle.specification.specs.Ast.{Term, Formula, ne, lt, le, gt, ge, add, sub, mul, div, modulo}
+use Rattle.specification.specs.Ast.{Term, Formula, ne, lt, le, gt, ge, add, sub, mul, quo, rem, div, modulo}
 use Rattle.specification.specs.Words.{FormulaWord, trueWord, andWord, orWord, impWord, notWord, eqWord, exWord, someWord, allWord, callWord, relWord, TermWord, constantWord, scalarWord, localWord, arrayWord, parameterWord, opWord, Word, formulaWord, termWord, numberWord, unknown, wordOf, numberOf}
 use Rattle.specification.specs.Formula.{Token as WordToken, token as readToken, Locals, binderWith, binder, procedureWith, procedure, termWith, term, formulaWith, formula}
 use Rattle.tables.specs.Layout.{maxParameters}
@@ -55,6 +55,8 @@ term-code (parameterWord n) = (omega arith, omega arith)
 term-code (opWord add) = (omega arith, omega arith)
 term-code (opWord sub) = (omega arith, omega arith)
 term-code (opWord mul) = (omega arith, omega arith)
+term-code (opWord quo) = (omega arith, omega arith)
+term-code (opWord rem) = (omega arith, omega arith)
 term-code (opWord div) = (omega arith, omega arith)
 term-code (opWord modulo) = (omega arith, omega arith)
 

@@ -2,7 +2,7 @@
 -- Assumes nothing.
 use mathlib.Core.Path.{_≡_, refl, _∙_, sym, ap}
 use mathlib.Core.Bool.{Bool, true, false, _&&_}
-use mathlib.Core.List.{List, [], _∷_}
+use mathlib.Core.List.{List, [], _∷_, _++_}
 use mathlib.Core.Option.{some as just}
 use Prim.Native.Nat.{ℕ, zero, suc, _+_, _-_, _*_, _^_, _≤_, _<_}
 use native.Mathlib.Nat.{lt-of-lt-of-le}
@@ -11,9 +11,9 @@ use lib.Pow.{pow-mono, pow-add}
 use lib.Dec.{T, eqb, ltb, leb, ltb→lt, leb→le, eqb→eq}
 use lib.ListN.{length, getD, drop}
 use lib.Seq.{drop-cons, drop-length}
-use borrow.Author.Tests.{eq-eqb, ne-eqb, eqb-true, eqb-false}
+use borrow.Author.Tests.{eq-eqb, ne-eqb, eqb-true, eqb-false, lt-ltb, le-ltb}
 use Rattle.specification.specs.Bytes.{Bytes, bytes, pick, same}
-use Rattle.specification.specs.Words.{callWord, formulaWord, Entry, _means_, firstWords, words}
+use Rattle.specification.specs.Words.{callWord, formulaWord, Entry, _means_, commonWords, olderDivision, firstRounding, division, ownWords, words}
 use Rattle.sheet.specs.Codes.{tokenOf}
 use Rattle.sheet.specs.Packed.{packed, entryCode, codeBy, codeIn}
 
@@ -150,12 +150,13 @@ by-number (e ∷ es) t b s =
 
 module _ (edition : ℕ) where
   pub all-brief : T (brief (words edition))
-  unfolding brief sound small firstWords words tokenOf
-  all-brief = by (eqb edition 1)
+  unfolding brief sound small commonWords olderDivision division ownWords words tokenOf
+  all-brief = by (eqb edition 1) (ltb edition firstRounding)
     where
-      by : (b : Bool) → T (brief (pick b firstWords (bytes "call" means formulaWord callWord ∷ firstWords)))
-      by true = tt
-      by false = tt
+      by : (b c : Bool) → T (brief (commonWords ++ pick b olderDivision (bytes "call" means formulaWord callWord ∷ pick c olderDivision division)))
+      by true c = tt
+      by false true = tt
+      by false false = tt
 
   pub code-long : (t : Bytes) → 4 < length t → codeIn t (words edition) ≡ 0
   code-long t h = long (words edition) t all-brief h
@@ -164,10 +165,13 @@ module _ (edition : ℕ) where
   code-packed t s = by-number (words edition) t all-brief s
 
 -- which set it is
-pub first-words : (edition k : ℕ) → edition ≡ 1 → codeBy k firstWords ≡ codeBy k (words edition)
-unfolding words
-first-words edition k e = rw (eq-eqb edition 1 e)
+pub first-words : (edition k : ℕ) → edition ≡ 1 → codeBy k (words 1) ≡ codeBy k (words edition)
+first-words edition k e = rw e
 
-pub later-words : (edition k : ℕ) → (edition ≡ 1 → ⊥) → codeBy k (words 2) ≡ codeBy k (words edition)
-unfolding words
-later-words edition k n = rw (ne-eqb edition 1 n)
+pub second-words : (edition k : ℕ) → (edition ≡ 1 → ⊥) → edition < firstRounding → codeBy k (words 2) ≡ codeBy k (words edition)
+unfolding words ownWords
+second-words edition k n h = rw (ne-eqb edition 1 n, lt-ltb edition firstRounding h)
+
+pub third-words : (edition k : ℕ) → (edition ≡ 1 → ⊥) → firstRounding ≤ edition → codeBy k (words 3) ≡ codeBy k (words edition)
+unfolding words ownWords
+third-words edition k n h = rw (ne-eqb edition 1 n, le-ltb edition firstRounding h)

@@ -11,7 +11,7 @@ use borrow.Author.Tests.{leb-true, leb-false, le-ltb}
 use Rattle.specification.specs.Bytes.{pick}
 use Rattle.specification.specs.Parser.{Reader, Read, refused, found, Parser, give, require, andThen, _>>=_}
 use Rattle.specification.specs.Lines.{Declared}
-use Rattle.specification.specs.Ast.{Op, add, sub, mul, div, modulo, Term, scalarAt, localAt, parameter, elementAt, apply}
+use Rattle.specification.specs.Ast.{Op, add, sub, mul, quo, rem, div, modulo, Term, scalarAt, localAt, parameter, elementAt, apply}
 use Rattle.specification.specs.Words.{TermWord, constantWord, scalarWord, localWord, arrayWord, parameterWord, opWord, termWord}
 use Rattle.specification.specs.Formula.{Locals, operand, has, bind, binderOf, termOf, term}
 use Rattle.values.specs.Word.{biased}
@@ -83,6 +83,8 @@ module _ (D : Declared) (small : Limited D) (k : ℕ) (S : Locals) where
   term-word p (opWord add) r = operation add r
   term-word p (opWord sub) r = operation sub r
   term-word p (opWord mul) r = operation mul r
+  term-word p (opWord quo) r = operation quo r
+  term-word p (opWord rem) r = operation rem r
   term-word p (opWord div) r = operation div r
   term-word p (opWord modulo) r = operation modulo r
 
@@ -120,5 +122,7 @@ module _ (D : Declared) (ds : ℕ → List Due) where
     binder-word p (opWord add) r = refl
     binder-word p (opWord sub) r = refl
     binder-word p (opWord mul) r = refl
+    binder-word p (opWord quo) r = refl
+    binder-word p (opWord rem) r = refl
     binder-word p (opWord div) r = refl
     binder-word p (opWord modulo) r = refl

@@ -3,10 +3,10 @@ use Prim.Native.Nat.{ℕ, _+_, min}
 use mathlib.Core.List.{List, [], _∷_, _++_}
 use mathlib.Core.Option.{Option, none, some as just}
 use lib.ListN.{length}
-use Rattle.specification.specs.Ast.{Op, add, sub, mul, div, modulo, Rel, ne, lt, le, gt, ge, Term, constant, scalarAt, localAt, parameter, elementAt, apply, Formula, truth, and, or, imp, neg, eq, compare, ex, some, all, call, Procedure}
+use Rattle.specification.specs.Ast.{Op, add, sub, mul, quo, rem, div, modulo, Rel, ne, lt, le, gt, ge, Term, constant, scalarAt, localAt, parameter, elementAt, apply, Formula, truth, and, or, imp, neg, eq, compare, ex, some, all, call, Procedure}
 use Rattle.specification.specs.Words.{FormulaWord, trueWord, andWord, orWord, impWord, notWord, eqWord, exWord, someWord, allWord, callWord, relWord, TermWord, constantWord, scalarWord, localWord, arrayWord, parameterWord, opWord, Word, formulaWord, termWord, numberWord, unknown}
 use Rattle.values.specs.Word.{biased}
-use Rattle.tables.specs.Codes.{trueCode, andCode, orCode, impCode, notCode, eqCode, neCode, ltCode, leCode, gtCode, geCode, exCode, someCode, allCode, callCode, addCode, subCode, mulCode, divCode, modCode, constantCode, scalarCode, localCode, arrayCode, parameterCode, unknownCode, badConstantCode, procedureCode}
+use Rattle.tables.specs.Codes.{trueCode, andCode, orCode, impCode, notCode, eqCode, neCode, ltCode, leCode, gtCode, geCode, exCode, someCode, allCode, callCode, addCode, subCode, mulCode, quoCode, remCode, divCode, modCode, constantCode, scalarCode, localCode, arrayCode, parameterCode, unknownCode, badConstantCode, procedureCode}
 use Rattle.sheet.specs.declared.Token.{Token}
 
 abbrev pub token : ℕ → ℕ → Token
@@ -38,6 +38,8 @@ abbrev pub opCode : Op → ℕ
 opCode add = addCode
 opCode sub = subCode
 opCode mul = mulCode
+opCode quo = quoCode
+opCode rem = remCode
 opCode div = divCode
 opCode modulo = modCode
 

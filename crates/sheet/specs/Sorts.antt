@@ -3,7 +3,7 @@
 use Prim.Native.Nat.{ℕ, _-_}
 use lib.Dec.{eqb, leb}
 use Rattle.specification.specs.Bytes.{pick, between}
-use Rattle.tables.specs.Codes.{andCode, impCode, notCode, eqCode, geCode, exCode, someCode, allCode, callCode, addCode, modCode, arrayCode, procedureCode}
+use Rattle.tables.specs.Codes.{andCode, impCode, notCode, eqCode, geCode, exCode, someCode, allCode, callCode, firstOperation, lastOperation, arrayCode, procedureCode}
 use Rattle.sheet.specs.declared.sorts.Operands.{Operands}
 
 -- ---- sorts
@@ -40,7 +40,7 @@ wordOperands c =
     (pick (between eqCode geCode c) (operands termSort 2)
     (pick (eqb c exCode) (operands exSort 1)
     (pick (between someCode allCode c) (operands rangeSort 1)
-    (pick (between addCode modCode c) (operands termSort 2)
+    (pick (between firstOperation lastOperation c) (operands termSort 2)
     (pick (eqb c arrayCode) (operands termSort 1)
     (pick (eqb c callCode) (operands procedureSort 1) (operands formulaSort 0))))))))
 

@@ -54,7 +54,7 @@ pub(crate) fn word_operands(code: u32) -> Operands
             sort: RANGE_LOCAL,
             count: 1,
         },
-        codes::ADD..=codes::MOD => Operands {
+        codes::FIRST_OPERATION..=codes::LAST_OPERATION => Operands {
             sort: TERM,
             count: 2,
         },

@@ -5,7 +5,7 @@ ghost use Prim.Native.Nat.{_≤_, _<_};
 ghost use lib.ListN.{length, drop};
 ghost use Rattle.specification.specs.Bytes.{inNumber};
 ghost use Rattle.specification.specs.Number.{natural, integer};
-ghost use Rattle.specification.specs.Words.{firstWords, words, nameOf, constantOf, wordOf, numberOf};
+ghost use Rattle.specification.specs.Words.{words, nameOf, constantOf, wordOf, numberOf};
 ghost use Rattle.sheet.specs.Codes.{indexWord, tokenOf};
 ghost use Rattle.sheet.specs.Packed.{packed, codeBy, codeIn, indexed, parameterToken};
 use crate::Token;
@@ -15,6 +15,9 @@ use text::Word;
 
 // The edition without procedures.
 pub(crate) const FIRST_EDITION: u32 = 1;
+
+// The first edition whose `div` and `mod` round down.
+const FIRST_ROUNDING: u32 = 3;
 
 // The number of at most four bytes: the first byte lowest, and a 1 above the last.
 fn pack(t: &[u8]) -> u64
@@ -32,7 +35,7 @@ fn pack(t: &[u8]) -> u64
 
 // The code of a word of edition 1 by the number of its bytes, 0 for any other: two digits a byte, the last byte first, and a 1 before them.
 fn first_edition(word: u64) -> u32
-    ensures { λ r. ⌜ r ≡ codeBy word firstWords ⌝ }
+    ensures { λ r. ⌜ r ≡ codeBy word (words 1) ⌝ }
 {
     match word {
         0x1_65_75_72_74 => codes::TRUE, // true
@@ -52,19 +55,32 @@ fn first_edition(word: u64) -> u32
         0x1_64_64_61 => codes::ADD, // add
         0x1_62_75_73 => codes::SUB, // sub
         0x1_6c_75_6d => codes::MUL, // mul
-        0x1_76_69_64 => codes::DIV, // div
-        0x1_64_6f_6d => codes::MOD, // mod
+        0x1_76_69_64 => codes::QUO, // div
+        0x1_64_6f_6d => codes::REM, // mod
         _ => 0,
     }
 }
 
-// The same from edition 2 on.
-fn later_edition(word: u64) -> u32
+// The same of edition 2.
+fn second_edition(word: u64) -> u32
     ensures { λ r. ⌜ r ≡ codeBy word (words 2) ⌝ }
 {
     match word {
         0x1_6c_6c_61_63 => codes::CALL, // call
         _ => first_edition(word),
+    }
+}
+
+// And from edition 3 on: `div` and `mod` mean other operations, and two words are new.
+fn third_edition(word: u64) -> u32
+    ensures { λ r. ⌜ r ≡ codeBy word (words 3) ⌝ }
+{
+    match word {
+        0x1_76_69_64 => codes::DIV, // div
+        0x1_64_6f_6d => codes::MOD, // mod
+        0x1_6f_75_71 => codes::QUO, // quo
+        0x1_6d_65_72 => codes::REM, // rem
+        _ => second_edition(word),
     }
 }
 
@@ -79,7 +95,10 @@ fn word_code(t: &[u8], edition: u32) -> u32
     if edition == FIRST_EDITION {
         return first_edition(word);
     }
-    later_edition(word)
+    if edition < FIRST_ROUNDING {
+        return second_edition(word);
+    }
+    third_edition(word)
 }
 
 // Whether a token that begins with this byte is a constant.

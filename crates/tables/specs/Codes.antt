@@ -63,22 +63,34 @@ firstTerm = 16
 abbrev pub lastTerm : ℕ
 lastTerm = 27
 
-abbrev pub addCode : ℕ
-addCode = 16
+-- operations lie below the other terms: rounding down and what it leaves, and last division toward zero and what it leaves
+abbrev pub firstOperation : ℕ
+firstOperation = 16
 
-abbrev pub subCode : ℕ
-subCode = 17
-
-abbrev pub mulCode : ℕ
-mulCode = 18
+abbrev pub lastOperation : ℕ
+lastOperation = 22
 
 abbrev pub divCode : ℕ
-divCode = 19
+divCode = 16
 
 abbrev pub modCode : ℕ
-modCode = 20
+modCode = 17
 
--- operations lie below the other terms
+abbrev pub addCode : ℕ
+addCode = 18
+
+abbrev pub subCode : ℕ
+subCode = 19
+
+abbrev pub mulCode : ℕ
+mulCode = 20
+
+abbrev pub quoCode : ℕ
+quoCode = 21
+
+abbrev pub remCode : ℕ
+remCode = 22
+
 abbrev pub constantCode : ℕ
 constantCode = 23
 

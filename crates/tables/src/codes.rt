@@ -49,16 +49,25 @@ pub const FIRST_TERM: u32 = LAST_FORMULA + 1;
 
 pub const LAST_TERM: u32 = PARAMETER;
 
-// Operations lie below the other terms, with room for two of a later edition.
-pub const ADD: u32 = FIRST_TERM;
+// Operations lie below the other terms: rounding down and what it leaves, and last division toward zero and what it leaves. A match over
+// them has `rem` for its other arm, the one that needs no look into the table of jumps.
+pub const FIRST_OPERATION: u32 = FIRST_TERM;
 
-pub const SUB: u32 = 17;
+pub const LAST_OPERATION: u32 = REM;
 
-pub const MUL: u32 = 18;
+pub const DIV: u32 = FIRST_OPERATION;
 
-pub const DIV: u32 = 19;
+pub const MOD: u32 = 17;
 
-pub const MOD: u32 = 20;
+pub const ADD: u32 = 18;
+
+pub const SUB: u32 = 19;
+
+pub const MUL: u32 = 20;
+
+pub const QUO: u32 = 21;
+
+pub const REM: u32 = 22;
 
 pub const CONSTANT: u32 = 23;
 

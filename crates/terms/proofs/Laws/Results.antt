@@ -8,7 +8,7 @@ use lib.Dec.{eqb}
 use lib.IntN.{ℤ}
 use Rattle.specification.specs.Bytes.{pick}
 use Rattle.specification.specs.Lines.{Declared}
-use Rattle.specification.specs.Ast.{Op, add, sub, mul, div, modulo}
+use Rattle.specification.specs.Ast.{Op, add, sub, mul, quo, rem, div, modulo}
 use Rattle.specification.specs.Arithmetic.{value, fault, compute, noValue}
 use Rattle.specification.specs.Value.{empty, full, Valuation, Side, val, bare, err, pairOf, operate}
 use Rattle.specification.proofs.Laws.Contradiction.{contradiction}
@@ -17,7 +17,7 @@ use Rattle.values.specs.Packed.{packed}
 use Rattle.values.specs.declared.Computed.{Computed}
 use Rattle.values.specs.declared.Computed.the-variants.{Value, Fault}
 use Rattle.values.proofs.Laws.Word.{signed-biased}
-use Rattle.tables.specs.Codes.{addCode, subCode, mulCode, divCode}
+use Rattle.tables.specs.Codes.{divCode, modCode, addCode, subCode, mulCode, quoCode}
 use Rattle.sheet.specs.Tables.{Words}
 use Rattle.sheet.specs.Codes.{opCode}
 use Rattle.terms.specs.declared.Stack.{Stack}
@@ -54,13 +54,21 @@ module _ (w : Words) (i at v : ℕ) where
 
 -- an operation by its code
 opOf : ℕ → Op
-opOf k = pick (eqb k addCode) add (pick (eqb k subCode) sub (pick (eqb k mulCode) mul (pick (eqb k divCode) div modulo)))
+opOf k =
+    pick (eqb k addCode) add
+    (pick (eqb k subCode) sub
+    (pick (eqb k mulCode) mul
+    (pick (eqb k quoCode) quo
+    (pick (eqb k divCode) div
+    (pick (eqb k modCode) modulo rem)))))
 
 op-of-code : (o : Op) → opOf (opCode o) ≡ o
 unfolding opOf
 op-of-code add = refl
 op-of-code sub = refl
 op-of-code mul = refl
+op-of-code quo = refl
+op-of-code rem = refl
 op-of-code div = refl
 op-of-code modulo = refl
 
@@ -70,13 +78,16 @@ module _ (k x y : ℕ) (r : Computed) where
       let same : o ≡ p = sym (op-of-code o) ∙ ap opOf (sym q ∙ n) ∙ op-of-code p in
       h ∙ ap (λ (p : Op). packed (compute p (signed x) (signed y))) same
 
-  pub calculated-last : (k ≡ addCode → ⊥) → (k ≡ subCode → ⊥) → (k ≡ mulCode → ⊥) → (k ≡ divCode → ⊥) →
-      r ≡ packed (compute modulo (signed x) (signed y)) → Calculated k x y r
-  calculated-last a s m d h add n = absurd (a n)
-  calculated-last a s m d h sub n = absurd (s n)
-  calculated-last a s m d h mul n = absurd (m n)
-  calculated-last a s m d h div n = absurd (d n)
-  calculated-last a s m d h modulo n = h
+  -- the one that is none of the others
+  pub calculated-last : (k ≡ addCode → ⊥) → (k ≡ subCode → ⊥) → (k ≡ mulCode → ⊥) → (k ≡ quoCode → ⊥) → (k ≡ divCode → ⊥) → (k ≡ modCode → ⊥) →
+      r ≡ packed (compute rem (signed x) (signed y)) → Calculated k x y r
+  calculated-last a s m q d l h add n = absurd (a n)
+  calculated-last a s m q d l h sub n = absurd (s n)
+  calculated-last a s m q d l h mul n = absurd (m n)
+  calculated-last a s m q d l h quo n = absurd (q n)
+  calculated-last a s m q d l h div n = absurd (d n)
+  calculated-last a s m q d l h modulo n = absurd (l n)
+  calculated-last a s m q d l h rem n = h
 
 module _ (c : Computed) (at : ℕ) where
   pub packs-value : (v : ℕ) → c ≡ Value v → Packs c at (record { at = at; tag = 0; value = v })

@@ -2,7 +2,7 @@
 use Prim.Native.Nat.{ℕ, _<_, _≤_}
 use mathlib.Core.Path.{_≡_, sym}
 use native.Mathlib.Omega.{arith}
-use Rattle.tables.specs.Codes.{andCode, eqCode, someCode, allCode, callCode, addCode}
+use Rattle.tables.specs.Codes.{andCode, eqCode, someCode, allCode, callCode, firstOperation}
 use Rattle.sheet.specs.Sorts.{formulaSort, termSort, rangeSort, operands, wordOperands}
 use Rattle.sheet.proofs.CodeOperands.{alike, operands-range, operands-above}
 use Rattle.sheet.proofs.sorts.word_operands.Statement.{statement}
@@ -37,12 +37,12 @@ unfolding wordOperands alike
 returns-7 c = sym (operands-range (operands rangeSort 1) 2 someCode (c .before .before .before .before .before .args .code) tt (omega (arith, (c .before .before .before .before .match .rest .0 .0 .1))) (omega arith))
 
 -- after the quantifiers and `call` come the operations
-add-next : (n : ℕ) → allCode < n → (n ≡ callCode → ⊥) → addCode ≤ n
-add-next n a b = omega arith
+operation-next : (n : ℕ) → allCode < n → (n ≡ callCode → ⊥) → firstOperation ≤ n
+operation-next n a b = omega arith
 
 returns-8 : tie.Need-returns-8
 unfolding wordOperands alike
-returns-8 c = let p = c .before .before .before .before .before in sym (operands-range (operands termSort 2) 5 addCode (p .before .args .code) tt (add-next _ (c .before .if4 .left) (p .match .rest .1)) (omega (arith, c .if5 .taken)))
+returns-8 c = let p = c .before .before .before .before .before in sym (operands-range (operands termSort 2) 7 firstOperation (p .before .args .code) tt (operation-next _ (c .before .if4 .left) (p .match .rest .1)) (omega (arith, c .if5 .taken)))
 
 returns-9 : tie.Need-returns-9
 unfolding wordOperands alike
