@@ -15,7 +15,7 @@ import random_sheets
 import walker
 
 FILES = walker.ROOT / "crates" / "cases"
-RANDOM = {1: 150, 2: 90, 3: 60}              # so many random cases of each edition, the last ones
+RANDOM = {1: 150, 2: 90, 3: 90}              # so many random cases of each edition, the last ones
 cases = []                              # name and case
 
 
@@ -1415,7 +1415,8 @@ def procedures_cut():
 # ---------------------------------------------------------------- cells with a range (document 02, Six)
 
 def edition_3():
-    """Edition 3 is edition 2 with that line, and with ranges of all values it lists the same."""
+    """Edition 3 is edition 2 with that line and another division; where nothing negative is divided and ranges have all values, it lists the
+    same."""
     for edition in ("1", "2"):
         case("edition %s with a line of ranges" % edition, lines(edition=edition, ranges="0:1"))
         case("edition %s with an empty line of ranges" % edition, lines(edition=edition, scalars="0", ranges=""))
@@ -1766,6 +1767,127 @@ def ranges_cut():
         case("the same in %d bytes after a skip of %d" % (output, skip), sheet, output=output, skip=skip)
 
 
+# ---------------------------------------------------------------- division
+
+FULL = LOW + ":" + HIGH
+
+
+def disjunction(atoms):
+    return conjunction(atoms).replace("and ", "or ")
+
+
+def divisions():
+    """`div` and `mod` of each edition, `quo` and `rem` of edition 3: as tables, and in every place where a term can stand."""
+    for edition, pair in (("1", ("div", "mod")), ("2", ("div", "mod")), ("3", ("div", "mod")), ("3", ("quo", "rem"))):
+        ranges = {"ranges": FULL} if edition == "3" else {}
+        # both signs of both operands, by 0 too
+        table = "some l0 -7 7 some l1 -3 3 and eq a0 0 l0 and eq a0 1 l1 or eq a0 2 %s l0 l1 eq a0 3 %s l0 l1" % pair
+        case("%s and %s of edition %s" % (*pair, edition), lines(edition=edition, scalars="0", locals="2", arrays="4", formula=table, **ranges),
+             output=65536)
+        # the ends of 32 bits
+        least, most = int(LOW), int(HIGH)
+        numbers = (least, least + 1, -12, -1, 0, 1, 12, most - 1, most)
+        for word in pair:
+            atoms = ["eq v0 %s %d %d" % (word, a, b) for a in numbers for b in numbers]
+            case("%s of edition %s, the ends" % (word, edition), lines(edition=edition, formula=disjunction(atoms), **ranges), output=65536)
+    for edition in ("1", "2", "3"):
+        formulas("""
+eq v0 quo 7 2
+eq v0 rem 7 2
+eq v0 quo -7 2
+eq v0 rem -7 2
+eq v0 div 7
+eq v0 mod 7 2 1
+quo 7 2
+rem
+ex quo true
+eq v0 quo
+eq v0 quot 7 2
+eq v0 remx 7 2
+eq v0 re 7 2
+eq v0 QUO 7 2
+eq v0 Rem 7 2
+eq v0 q0
+eq v0 r0
+""", edition=edition, ranges=FULL if edition == "3" else None)
+    formulas("""
+eq v0 div -7 2
+eq v0 mod -7 2
+eq v0 mod -1 12
+eq v0 div -1 12
+eq v0 mod 12 12
+eq v0 mod 1 -12
+eq v0 div mod -7 2 div -7 2
+eq v0 quo rem -7 2 quo -7 2
+eq v0 add mul 2 div -7 2 mod -7 2
+eq v0 add mul 2 quo -7 2 rem -7 2
+eq v0 mod v0 12
+eq v0 mod 12 v0
+eq v0 div div 1 0 v0
+eq v0 div v0 div 1 0
+eq v0 mod mul 65536 65536 0
+eq v0 div -2147483648 -1
+eq v0 mod -2147483648 -1
+eq v0 quo -2147483648 -1
+eq v0 rem -2147483648 -1
+or eq v0 div 1 0 or eq v0 mod 1 0 or eq v0 quo 1 0 or eq v0 rem 1 0 eq v0 1
+some l0 div -7 2 quo -7 2 eq v0 l0
+all l0 div -7 2 quo -7 2 lt l0 0
+all l0 0 11 le 0 mod sub l0 1 12
+some l0 -12 12 and ne mod l0 5 rem l0 5 eq v0 l0
+some l0 -12 12 and ne div l0 -5 quo l0 -5 eq v0 l0
+eq a0 mod -1 3 5
+eq a0 rem -1 3 5
+eq 2 a0 div -1 3
+eq v0 a0 mod -2 3
+not eq 11 mod -1 12
+not eq -1 rem -1 12
+imp eq -4 div -7 2 eq v0 1
+imp eq -3 div -7 2 eq v0 1
+ex l0 and eq l0 mod -1 12 eq v0 l0
+and eq v0 -7 lt quo v0 2 0
+and eq v0 -7 and gt 0 div v0 2 ne div v0 2 quo v0 2
+""", edition="3", arrays="3", ranges="%s,%s" % (FULL, FULL))
+    libraries("""
+2:eq p0 mod sub p1 1 12
+call 0 v0 0
+
+2:eq p0 rem sub p1 1 12
+call 0 v0 0
+
+1:eq v0 p0
+call 0 mod -1 12
+
+1:eq v0 p0
+call 0 div v1 2
+
+2:and eq v0 p0 eq v1 p1
+1:call 0 div p0 2 mod p0 2
+call 1 -7
+
+2:and eq v0 p0 eq v1 p1
+1:call 0 quo p0 2 rem p0 2
+call 1 -7
+
+1:and eq v1 -7 eq v0 p0
+call 0 div v1 2
+
+1:and eq v1 0 eq v0 p0
+call 0 mod 7 v1
+
+1:not eq p0 -4
+and call 0 quo -7 2 eq v0 1
+""", edition="3", scalars="2", ranges="%s,%s" % (FULL, FULL))
+    # a value outside its cell's range fails, whichever way it was rounded
+    formulas("""
+eq v0 mod -1 12
+eq v0 rem -1 12
+or eq v0 rem -1 12 eq v0 mod -1 12
+not eq v0 rem -1 12
+not eq v0 mod -1 12
+""", edition="3", ranges="0:11")
+
+
 # ---------------------------------------------------------------- damaged sheets
 
 def damaged():
@@ -1944,7 +2066,7 @@ def main():
     for group in (marked, readings, slips, declared_limits, text_limits, lent_limits, kinds, words, inner_trees, negations, negations_cut,
                   damaged, taught, editions, calls, arguments, bound_anew, inner_calls, call_numbers, parameter_names, local_binders,
                   procedure_lines, procedure_limits, many_uses, procedures_cut, edition_3, cell_ranges, ranges_inside, ranges_called,
-                  ranges_of_arrays, ranges_given, range_lines, ranges_cut, parts):
+                  ranges_of_arrays, ranges_given, range_lines, ranges_cut, parts, divisions):
         group()
     for number, drawn_case in enumerate([*drawn(1), *drawn(2), *drawn(3)] if given.random else stored()):
         cases.append(("random %d" % (number + 1), drawn_case))

@@ -11,7 +11,8 @@ import sys
 
 LOW, HIGH = -2**31, 2**31 - 1
 COMPARISONS = ("eq", "ne", "lt", "le", "gt", "ge")
-OPERATIONS = ("add", "sub", "mul", "div", "mod")
+DIVISIONS = {1: ("div", "mod"), 2: ("div", "mod"), 3: ("div", "mod", "quo", "rem")}     # of each edition
+OPERATIONS = ("add", "sub", "mul") + DIVISIONS[3]
 CONNECTIVES, QUANTIFIERS = ("and", "or", "imp"), ("some", "all")
 WORDS = ("true", "not", "ex", "call") + CONNECTIVES + QUANTIFIERS + COMPARISONS + OPERATIONS
 ENDS = (LOW, LOW + 1, HIGH - 1, HIGH)
@@ -155,7 +156,8 @@ class Draft:
         rng, x = self.rng, self.rng.random()
         if size >= 3 and x < 0.7:
             left = rng.randint(1, size - 2)
-            return "%s %s %s" % (rng.choice(OPERATIONS), self.term(left), self.term(size - 1 - left))
+            operations = ("add", "sub", "mul") + DIVISIONS[self.edition]
+            return "%s %s %s" % (rng.choice(operations), self.term(left), self.term(size - 1 - left))
         if size >= 2 and self.arrays and x < 0.8:
             return "a%d %s" % (rng.randrange(len(self.arrays)), self.term(size - 1))
         names = sorted(self.valued) if rng.random() < 0.98 else self.names()
@@ -299,6 +301,8 @@ class Draft:
 
 def edge(rng, edition):
     past = rng.random() < 0.4
+    if rng.random() < 0.1:
+        return divided(rng, past, edition)
     if edition == 3 and rng.random() < 0.5:
         return rng.choice(RANGE_EDGES)(rng, past)
     if edition >= 2 and rng.random() < 0.6:
@@ -550,6 +554,22 @@ def many_bytes_with_ranges(rng, past):
 
 
 RANGE_EDGES = (many_pairs, many_pairs, own_ranges, own_ranges, border, border, border, border, end_pairs, many_bytes_with_ranges)
+
+
+# ---------------------------------------------------------------- division
+
+def operand(rng):
+    return rng.choice((rng.randint(-13, 13), rng.choice(ENDS), rng.randint(LOW, HIGH)))
+
+
+def divided(rng, past, edition):
+    """Divisions with operands of both signs, and at the ends of 32 bits; past: by 0, the least number by -1, or a word of another edition."""
+    atoms = ["eq v0 %s %d %d" % (rng.choice(DIVISIONS[edition]), operand(rng), operand(rng) or 12) for _ in range(rng.randint(1, 12))]
+    if past:
+        word = rng.choice(DIVISIONS[edition])
+        odd = ("%s %d 0" % (word, operand(rng)), "%s %d -1" % (word, LOW), "%s %d 12" % (rng.choice(DIVISIONS[3]), operand(rng)))
+        atoms.append("eq v0 " + rng.choice(odd))
+    return lines(1, 0, formula=tree(rng, "or", atoms), edition=edition, ranges=[ALL])
 
 
 # ---------------------------------------------------------------- damage

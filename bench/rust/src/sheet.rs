@@ -92,6 +92,10 @@ pub enum Operation {
     Add,
     Sub,
     Mul,
+    /// Division toward zero, and what it leaves.
+    Quo,
+    Rem,
+    /// Division rounded down, and what it leaves.
     Div,
     Mod,
 }
@@ -459,14 +463,19 @@ impl<'a> Reader<'a> {
 
     fn term(&mut self, depth: u32) -> Read<Term> {
         let token = self.token(depth)?;
+        let rounds = self.edition >= 3;
         let operation = match self.word(&token)? {
             Word::Constant(value) => return Ok(Term::Constant(value)),
             Word::Name(letter, index) => return self.name(letter, index, token.place, depth),
             Word::Text(b"add") => Operation::Add,
             Word::Text(b"sub") => Operation::Sub,
             Word::Text(b"mul") => Operation::Mul,
-            Word::Text(b"div") => Operation::Div,
-            Word::Text(b"mod") => Operation::Mod,
+            Word::Text(b"div") if rounds => Operation::Div,
+            Word::Text(b"mod") if rounds => Operation::Mod,
+            Word::Text(b"quo") if rounds => Operation::Quo,
+            Word::Text(b"rem") if rounds => Operation::Rem,
+            Word::Text(b"div") => Operation::Quo,
+            Word::Text(b"mod") => Operation::Rem,
             Word::Text(_) => return refused(6, token.place),
         };
         Ok(Term::Operation(operation, Box::new(self.terms(depth)?)))
