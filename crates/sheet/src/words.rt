@@ -19,6 +19,11 @@ pub(crate) const FIRST_EDITION: u32 = 1;
 // The first edition whose `div` and `mod` round down.
 const FIRST_ROUNDING: u32 = 3;
 
+// The numbers of the two words that mean other operations from that edition on.
+const DIV: u64 = 0x1_76_69_64;
+
+const MOD: u64 = 0x1_64_6f_6d;
+
 // The number of at most four bytes: the first byte lowest, and a 1 above the last.
 fn pack(t: &[u8]) -> u64
     requires { ⌜ length (now t) ≤ 4 ⌝ }
@@ -55,8 +60,8 @@ fn first_edition(word: u64) -> u32
         0x1_64_64_61 => codes::ADD, // add
         0x1_62_75_73 => codes::SUB, // sub
         0x1_6c_75_6d => codes::MUL, // mul
-        0x1_76_69_64 => codes::QUO, // div
-        0x1_64_6f_6d => codes::REM, // mod
+        DIV => codes::QUO,
+        MOD => codes::REM,
         _ => 0,
     }
 }
@@ -71,13 +76,13 @@ fn second_edition(word: u64) -> u32
     }
 }
 
-// And from edition 3 on: `div` and `mod` mean other operations, and two words are new.
+// And from edition 3 on: `div` and `mod` round down, and two words carry the older pair.
 fn third_edition(word: u64) -> u32
     ensures { λ r. ⌜ r ≡ codeBy word (words 3) ⌝ }
 {
     match word {
-        0x1_76_69_64 => codes::DIV, // div
-        0x1_64_6f_6d => codes::MOD, // mod
+        DIV => codes::DIV,
+        MOD => codes::MOD,
         0x1_6f_75_71 => codes::QUO, // quo
         0x1_6d_65_72 => codes::REM, // rem
         _ => second_edition(word),

@@ -106,8 +106,8 @@ struct Divided {
     rest: i64,
 }
 
-// One less than toward zero where that leaves a rest on the other side of 0 than the divisor. With two callers this is compiled once and kept out of
-// the loop over a term's tokens; in it, other operations cost up to two instructions more.
+// One less than toward zero where that leaves a rest on the other side of 0 than the divisor. It has two callers, so that the compiler keeps it out of
+// the loop over a term's tokens, where every subtraction would cost an instruction more.
 fn rounded(x: i64, y: i64) -> Divided
     requires { ⌜ Narrow x × Narrow y × ¬ (y ≡ pos 0) ⌝ }
     ensures { λ r. ⌜ r ≡ roundedDown x y ⌝ }
