@@ -73,7 +73,7 @@ fitted z r e = go (in32 z) e
     go true q = cc
     go false q = contradiction cc
 
-pub divided-in : (b z : ℤ) → (b ≡ pos zero → ⊥) → T (in32 z) → divided b (fit z) ≡ value z
+divided-in : (b z : ℤ) → (b ≡ pos zero → ⊥) → T (in32 z) → divided b (fit z) ≡ value z
 divided-in (pos zero) z n t = absurd (n refl)
 divided-in (pos (suc b)) z n t = fit-in z t
 divided-in (negsuc b) z n t = fit-in z t

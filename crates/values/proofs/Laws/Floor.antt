@@ -69,17 +69,17 @@ module _ (x y : ℤ) (n : y ≡ pos zero → ⊥) where
     up : x ≡ y *ℤ (quotZ x y -ℤ pos 1) +ℤ (remZ x y +ℤ y)
     up = toward-zero ∙ sym (one-less y (quotZ x y) (remZ x y))
 
-    pub floor-opposite : floorZ x y ≡ quotZ x y -ℤ pos 1
+    floor-opposite : floorZ x y ≡ quotZ x y -ℤ pos 1
     floor-opposite = floor-only x y (quotZ x y -ℤ pos 1) (remZ x y +ℤ y) up (within-opposite (remZ x y) y (remainder-less x y n) e)
 
-    pub left-opposite : remains x y (floorZ x y) ≡ remZ x y +ℤ y
+    left-opposite : remains x y (floorZ x y) ≡ remZ x y +ℤ y
     left-opposite = ap (remains x y) floor-opposite ∙ remains-is x y (quotZ x y -ℤ pos 1) (remZ x y +ℤ y) up
 
   module _ (e : opposite (remZ x y) y ≡ false) where
-    pub floor-same : floorZ x y ≡ quotZ x y
+    floor-same : floorZ x y ≡ quotZ x y
     floor-same = floor-only x y (quotZ x y) (remZ x y) toward-zero (within-same (remZ x y) y n (remainder-less x y n) e)
 
-    pub left-same : remains x y (floorZ x y) ≡ remZ x y
+    left-same : remains x y (floorZ x y) ≡ remZ x y
     left-same = ap (remains x y) floor-same ∙ remainder-is x y
 
 -- ---- on 64 bits
