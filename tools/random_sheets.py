@@ -12,7 +12,8 @@ import sys
 LOW, HIGH = -2**31, 2**31 - 1
 COMPARISONS = ("eq", "ne", "lt", "le", "gt", "ge")
 DIVISIONS = {1: ("div", "mod"), 2: ("div", "mod"), 3: ("div", "mod", "quo", "rem")}     # of each edition
-OPERATIONS = ("add", "sub", "mul") + DIVISIONS[3]
+PLAIN = ("add", "sub", "mul")
+OPERATIONS = PLAIN + DIVISIONS[3]
 CONNECTIVES, QUANTIFIERS = ("and", "or", "imp"), ("some", "all")
 WORDS = ("true", "not", "ex", "call") + CONNECTIVES + QUANTIFIERS + COMPARISONS + OPERATIONS
 ENDS = (LOW, LOW + 1, HIGH - 1, HIGH)
@@ -156,8 +157,7 @@ class Draft:
         rng, x = self.rng, self.rng.random()
         if size >= 3 and x < 0.7:
             left = rng.randint(1, size - 2)
-            operations = ("add", "sub", "mul") + DIVISIONS[self.edition]
-            return "%s %s %s" % (rng.choice(operations), self.term(left), self.term(size - 1 - left))
+            return "%s %s %s" % (rng.choice(PLAIN + DIVISIONS[self.edition]), self.term(left), self.term(size - 1 - left))
         if size >= 2 and self.arrays and x < 0.8:
             return "a%d %s" % (rng.randrange(len(self.arrays)), self.term(size - 1))
         names = sorted(self.valued) if rng.random() < 0.98 else self.names()

@@ -4,9 +4,9 @@ ghost use mathlib.Core.Path.{_≡_};
 ghost use lib.IntN.{pos, _+ℤ_, _-ℤ_, _*ℤ_};
 ghost use lib.Signed.{quotZ};
 ghost use Rattle.specification.specs.Arithmetic.{fit, divided, floorZ, remains};
-ghost use Rattle.values.specs.Word.{signed};
+ghost use Rattle.values.specs.Word.{signed, Narrow};
 ghost use Rattle.values.specs.Packed.{packed};
-ghost use Rattle.values.specs.Rounded.{opposite, Narrow, roundedDown};
+ghost use Rattle.values.specs.Rounded.{opposite, roundedDown};
 
 // The ends of 32 bits.
 const LEAST: i64 = -2147483648;

@@ -2,7 +2,7 @@
 use Prim.Native.String.{String}
 use mathlib.Core.Path.{_≡_, refl}
 use mathlib.Core.List.{List, [], _∷_, _++_, map}
-use Rattle.specification.specs.Bytes.{Bytes, bytes}
+use Rattle.specification.specs.Bytes.{bytes}
 use Rattle.specification.proofs.Cases.Bundles.{read-defs, tree-defs, run-defs}
 use Rattle.specification.proofs.Cases.Case.{Case, boxed, given, due, single}
 

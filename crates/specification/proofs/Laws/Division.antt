@@ -1,5 +1,5 @@
 -- The four divisions of a sheet against the integers (document 02, Seven): which of them a word means in an edition; that quotient and rest make up the
--- dividend; where a rest lies; which results fit 32 bits; and where rounding down and dividing toward zero agree. Assumes nothing.
+-- dividend; where a rest lies; which results fit 32 bits; where rounding down and dividing toward zero agree; and their error kinds. Assumes nothing.
 use Prim.Native.Nat.{ℕ, zero, suc, _/_, _%_, _<_, _≤_}
 use Prim.Native.String.{String}
 use native.Mathlib.Omega.{arith}
@@ -8,7 +8,7 @@ use mathlib.Core.Path.{_≡_, refl, sym, _∙_, ap, subst}
 use mathlib.Core.Logic.{_↔_, _⊎_, inl, inr}
 use mathlib.Core.Bool.{Bool, true, false}
 use mathlib.Core.Option.{some as just}
-use lib.Dec.{T, eqb, leb, leb→le, le→leb, ltb→lt}
+use lib.Dec.{T, eqb, leb, leb→le, le→leb}
 use lib.IntN.{ℤ, pos, negsuc, negℤ, natAbs, _+ℤ_, _*ℤ_}
 use lib.Signed.{quotZ, remZ, _≤ℤ_, _<ℤ_}
 use borrow.Author.Tests.{eqb-true, eqb-false, ne-eqb, lt-ltb, le-ltb}
@@ -17,9 +17,9 @@ use Rattle.specification.specs.Bytes.{bytes, pick, classOf, classNumber,
 use Rattle.specification.specs.Number.{least, in32}
 use Rattle.specification.specs.Ast.{Op, quo, rem, div, modulo}
 use Rattle.specification.specs.Words.{termWord, opWord, unknown, commonWords, olderDivision, firstRounding, division, ownWords, words, nameOf, find, wordOf}
-use Rattle.specification.specs.Arithmetic.{outside32, zeroDivisor, value, fault, fit, divided, floorZ, remains, compute}
+use Rattle.specification.specs.Arithmetic.{outside32, zeroDivisor, Computed, value, fault, fit, divided, floorZ, remains, compute}
 use Rattle.specification.proofs.Laws.Contradiction.{contradiction}
-use Rattle.specification.proofs.Laws.Rounding.{makes-up, remains-is, remainder-is, remainder-less, Within, above-zero, below-zero, floor-within, floor-only, SignsAgree, Divides, floor-quotient, left-remainder}
+use Rattle.specification.proofs.Laws.Rounding.{makes-up, remains-is, remainder-is, remainder-less, Within, within-less, within-sign, floor-within, floor-only, SignsAgree, Divides, floor-quotient, left-remainder}
 
 -- ---- the words
 
@@ -73,21 +73,18 @@ fitted z r e = go (in32 z) e
     go true q = cc
     go false q = contradiction cc
 
-divided-in : (b z : ℤ) → (b ≡ pos zero → ⊥) → T (in32 z) → divided b (fit z) ≡ value z
-divided-in (pos zero) z n t = absurd (n refl)
-divided-in (pos (suc b)) z n t = fit-in z t
-divided-in (negsuc b) z n t = fit-in z t
+-- a divisor that is not 0 divides
+pub divided-nonzero : (b : ℤ) (c : Computed) → (b ≡ pos zero → ⊥) → divided b c ≡ c
+divided-nonzero (pos zero) c n = absurd (n refl)
+divided-nonzero (pos (suc b)) c n = refl
+divided-nonzero (negsuc b) c n = refl
 
 -- what it says that a division has a value: the divisor is not 0, and the value is the exact one
 divisor : (b z r : ℤ) → divided b (fit z) ≡ value r → b ≡ pos zero → ⊥
-divisor (pos zero) z r e q = contradiction cc
-divisor (pos (suc b)) z r e q = contradiction cc
-divisor (negsuc b) z r e q = contradiction cc
+divisor b z r e q = let f : fault zeroDivisor ≡ value r = sym (ap (λ y. divided y (fit z)) q) ∙ e in contradiction cc
 
 exact : (b z r : ℤ) → divided b (fit z) ≡ value r → z ≡ r
-exact (pos zero) z r e = contradiction cc
-exact (pos (suc b)) z r e = fitted z r e
-exact (negsuc b) z r e = fitted z r e
+exact b z r e = fitted z r (sym (divided-nonzero b (fit z) (divisor b z r e)) ∙ e)
 
 module _ (a b : ℤ) where
   quo-exact : (q : ℤ) → Gives quo a b q → quotZ a b ≡ q
@@ -130,10 +127,10 @@ module _ (a b : ℤ) where
 
     -- from 0 up to the divisor, which is not included
     pub mod-above : pos zero <ℤ b → (pos zero ≤ℤ r) × (r <ℤ b)
-    mod-above = above-zero b r mod-within
+    mod-above = within-sign b r mod-within .0
 
     pub mod-below : b <ℤ pos zero → (b <ℤ r) × (r ≤ℤ pos zero)
-    mod-below = below-zero b r mod-within
+    mod-below = within-sign b r mod-within .1
 
   -- and no other quotient leaves such a rest
   pub div-only : (q r q′ r′ : ℤ) → Gives div a b q → Gives modulo a b r → a ≡ b *ℤ q′ +ℤ r′ → Within b r′ → (q ≡ q′) × (r ≡ r′)
@@ -161,18 +158,6 @@ module _ (a b : ℤ) where
       by (pos n) = ((λ h. record { le = le→leb 0 (n % natAbs b) (omega arith) }), none (n % natAbs b) n (mod-le n (natAbs b)))
       by (negsuc n) = ((λ h. absurd (h .le)), (λ h. neg (suc n % natAbs b)))
 
-  -- ---- where the two agree
-
-  pub div-quo : (q p : ℤ) → Gives div a b q → Gives quo a b p → (q ≡ p) ↔ (SignsAgree a b ⊎ Divides b a)
-  unfolding compute
-  div-quo q p g h =
-      rw (← div-exact q g, ← quo-exact p h) (floor-quotient a b (divisor b (quotZ a b) p h))
-
-  pub mod-rem : (r s : ℤ) → Gives modulo a b r → Gives rem a b s → (r ≡ s) ↔ (SignsAgree a b ⊎ Divides b a)
-  unfolding compute
-  mod-rem r s g h =
-      rw (← mod-exact r g, ← rem-exact s h) (left-remainder a b (divisor b (remains a b (quotZ a b)) s h))
-
 -- ---- which results fit 32 bits
 
 pos-in32 : (n : ℕ) → n ≤ 2147483647 → T (in32 (pos n))
@@ -188,66 +173,91 @@ pos-size n t = leb→le n 2147483647 t
 neg-size : (n : ℕ) → T (in32 (negsuc n)) → suc n ≤ 2147483648
 neg-size n t = let h = leb→le n 2147483647 (and-yes (leb n 2147483647) true t .0) in omega arith
 
-within-in32 : (b r : ℤ) → T (in32 b) → Within b r → T (in32 r)
-within-in32 (pos b) (pos k) t (inl (l, h)) = pos-in32 k (omega (arith, pos-size b t, ltb→lt k b (h .lt)))
-within-in32 (negsuc b) (pos k) t (inl (l, h)) = absurd (h .lt)
-within-in32 b (negsuc k) t (inl (l, h)) = absurd (l .le)
-within-in32 b (pos k) t (inr (h, l)) = pos-in32 k (omega (arith, leb→le k 0 (l .le)))
-within-in32 (pos b) (negsuc k) t (inr (h, l)) = absurd (h .lt)
-within-in32 (negsuc b) (negsuc k) t (inr (h, l)) = neg-in32 (suc k) (omega (arith, neg-size b t, ltb→lt k b (h .lt)))
+in32-size : (z : ℤ) → T (in32 z) → natAbs z ≤ 2147483648
+in32-size (pos n) t = omega (arith, pos-size n t)
+in32-size (negsuc n) t = neg-size n t
 
-rem-in32 : (a b : ℤ) → T (in32 a) → T (in32 (remZ a b))
-rem-in32 (pos a) b t = pos-in32 (a % natAbs b) (omega (arith, pos-size a t, mod-le a (natAbs b)))
-rem-in32 (negsuc a) b t = neg-in32 (suc a % natAbs b) (omega (arith, neg-size a t, mod-le (suc a) (natAbs b)))
+-- what is smaller than a divisor of 32 bits
+rest-in32 : (b r : ℤ) → T (in32 b) → natAbs r < natAbs b → T (in32 r)
+rest-in32 b (pos k) t h = pos-in32 k (omega (arith, in32-size b t))
+rest-in32 b (negsuc k) t h = neg-in32 (suc k) (omega (arith, in32-size b t))
 
--- all quotients fit but that of -2,147,483,648 by -1
-abbrev Fits : ℤ → ℤ → Type 0
-Fits a b = a ≡ least → b ≡ negsuc zero → ⊥
+-- the one quotient that does not fit: -2,147,483,648 by -1
+abbrev pub Unfit : ℤ → ℤ → Type 0
+Unfit a b = (a ≡ least) × (b ≡ negsuc zero)
 
-neg-neg-in32 : (a b : ℕ) → T (in32 (negsuc a)) → Fits (negsuc a) (negsuc b) → T (in32 (pos (suc a / suc b)))
-neg-neg-in32 a zero t n = pos-in32 (suc a / 1) (rw (div-one (suc a)) (small (eqb a 2147483647) refl))
+quo-in32 : (a b : ℤ) → T (in32 a) → ¬ Unfit a b → T (in32 (quotZ a b))
+quo-in32 (pos a) (pos b) t n = pos-in32 (a / b) (omega (arith, pos-size a t, div-le-self a b))
+quo-in32 (pos a) (negsuc b) t n = neg-in32 (a / suc b) (omega (arith, pos-size a t, div-le-self a (suc b)))
+quo-in32 (negsuc a) (pos b) t n = neg-in32 (suc a / b) (omega (arith, neg-size a t, div-le-self (suc a) b))
+quo-in32 (negsuc a) (negsuc zero) t n = pos-in32 (suc a / 1) (rw (div-one (suc a)) (small (eqb a 2147483647) refl))
   where
     small : (e : Bool) → eqb a 2147483647 ≡ e → suc a ≤ 2147483647
-    small true e = absurd (n (ap negsuc (eqb-true a 2147483647 e)) refl)
+    small true e = absurd (n (ap negsuc (eqb-true a 2147483647 e), refl))
     small false e = let h = eqb-false a 2147483647 e in let l = neg-size a t in below h l
       where
         below : (a ≡ 2147483647 → ⊥) → suc a ≤ 2147483648 → suc a ≤ 2147483647
         below h l = omega arith
-neg-neg-in32 a (suc b) t n = pos-in32 (suc a / suc (suc b)) (omega (arith, neg-size a t, div-lt-self {n = suc a} {k = suc (suc b)} (omega arith) (omega arith)))
+quo-in32 (negsuc a) (negsuc (suc b)) t n =
+    pos-in32 (suc a / suc (suc b)) (omega (arith, neg-size a t, div-lt-self {n = suc a} {k = suc (suc b)} (omega arith) (omega arith)))
 
-quo-in32 : (a b : ℤ) → T (in32 a) → Fits a b → T (in32 (quotZ a b))
-quo-in32 (pos a) (pos b) t n = pos-in32 (a / b) (omega (arith, pos-size a t, div-le-self a b))
-quo-in32 (pos a) (negsuc b) t n = neg-in32 (a / suc b) (omega (arith, pos-size a t, div-le-self a (suc b)))
-quo-in32 (negsuc a) (pos b) t n = neg-in32 (suc a / b) (omega (arith, neg-size a t, div-le-self (suc a) b))
-quo-in32 (negsuc a) (negsuc b) t n = neg-neg-in32 a b t n
-
-div-in32 : (a b : ℤ) → T (in32 a) → Fits a b → T (in32 (floorZ a b))
+div-in32 : (a b : ℤ) → T (in32 a) → ¬ Unfit a b → T (in32 (floorZ a b))
 div-in32 (pos a) (pos b) t n = quo-in32 (pos a) (pos b) t n
 div-in32 (pos zero) (negsuc b) t n = pos-in32 0 (omega arith)
 div-in32 (pos (suc a)) (negsuc b) t n = neg-in32 (suc (a / suc b)) (omega (arith, pos-size (suc a) t, div-le-self a (suc b)))
 div-in32 (negsuc a) (pos b) t n = neg-in32 (suc (a / b)) (omega (arith, neg-size a t, div-le-self a b))
-div-in32 (negsuc a) (negsuc b) t n = neg-neg-in32 a b t n
+div-in32 (negsuc a) (negsuc b) t n = quo-in32 (negsuc a) (negsuc b) t n
 
 module _ (a b : ℤ) (s : T (in32 a)) (t : T (in32 b)) (n : b ≡ pos zero → ⊥) where
+  gives : (z : ℤ) → T (in32 z) → divided b (fit z) ≡ value z
+  gives z f = divided-nonzero b (fit z) n ∙ fit-in z f
+
   -- a rest always
   pub mod-fits : Gives modulo a b (remains a b (floorZ a b))
   unfolding compute
-  mod-fits = divided-in b (remains a b (floorZ a b)) n (within-in32 b (remains a b (floorZ a b)) t (floor-within a b n))
+  mod-fits = let r = remains a b (floorZ a b) in gives r (rest-in32 b r t (within-less b r (floor-within a b n)))
 
   pub rem-fits : Gives rem a b (remains a b (quotZ a b))
   unfolding compute
-  rem-fits = divided-in b (remains a b (quotZ a b)) n (subst (λ z. T (in32 z)) (sym (remainder-is a b)) (rem-in32 a b s))
+  rem-fits = let r = remains a b (quotZ a b) in gives r (rest-in32 b r t (rw (remainder-is a b) (remainder-less a b n)))
 
   -- a quotient but for that one
-  pub div-fits : Fits a b → Gives div a b (floorZ a b)
+  pub div-fits : ¬ Unfit a b → Gives div a b (floorZ a b)
   unfolding compute
-  div-fits f = divided-in b (floorZ a b) n (div-in32 a b s f)
+  div-fits u = gives (floorZ a b) (div-in32 a b s u)
 
-  pub quo-fits : Fits a b → Gives quo a b (quotZ a b)
+  pub quo-fits : ¬ Unfit a b → Gives quo a b (quotZ a b)
   unfolding compute
-  quo-fits f = divided-in b (quotZ a b) n (quo-in32 a b s f)
+  quo-fits u = gives (quotZ a b) (quo-in32 a b s u)
 
--- kind 2 there, and kind 3 for a zero divisor
+  -- ---- where the two agree
+
+  -- that one has two negative numbers
+  signs : (a b : ℤ) → SignsAgree a b ⊎ (¬ Unfit a b)
+  signs (pos a) (pos b) = inl refl
+  signs (pos a) (negsuc b) = inr (λ u. let e = u .0 in contradiction cc)
+  signs (negsuc a) (pos b) = inr (λ u. let e = u .1 in contradiction cc)
+  signs (negsuc a) (negsuc b) = inl refl
+
+  -- both give the same value, or both are kind 2
+  pub div-quo : (compute div a b ≡ compute quo a b) ↔ (SignsAgree a b ⊎ Divides b a)
+  unfolding compute
+  div-quo = ((λ e. by (signs a b) e), (λ h. ap (λ z. divided b (fit z)) (floor-quotient a b n .1 h)))
+    where
+      by : SignsAgree a b ⊎ (¬ Unfit a b) → compute div a b ≡ compute quo a b → SignsAgree a b ⊎ Divides b a
+      by (inl s) e = inl s
+      by (inr u) e = floor-quotient a b n .0 (let v : value (floorZ a b) ≡ value (quotZ a b) = sym (div-fits u) ∙ e ∙ quo-fits u in cc)
+
+  pub mod-rem : (compute modulo a b ≡ compute rem a b) ↔ (SignsAgree a b ⊎ Divides b a)
+  unfolding compute
+  mod-rem = (
+    (λ e. left-remainder a b n .0 (let v : value (remains a b (floorZ a b)) ≡ value (remains a b (quotZ a b)) = sym mod-fits ∙ e ∙ rem-fits in cc)),
+    (λ h. ap (λ z. divided b (fit z)) (left-remainder a b n .1 h)),
+  )
+
+-- ---- kinds
+
+-- kind 2 for that one quotient, and kind 3 for a zero divisor
 pub outside : (compute div least (negsuc zero) ≡ fault outside32) × (compute quo least (negsuc zero) ≡ fault outside32)
 unfolding compute fit
 outside = (refl, refl)

@@ -3,12 +3,12 @@
 -- or the divisor divides. Which operation of a sheet is which is in Division. Assumes nothing.
 use Prim.Native.Nat.{ℕ, zero, suc, _+_, _-_, _*_, _/_, _%_, _<_, _≤_}
 use native.Mathlib.Omega.{arith}
-use native.Mathlib.Nat.{mul-suc, mul-add-div, mul-mod-right, zero-div, div-eq-of-lt, div-add-mod, mod-lt}
+use native.Mathlib.Nat.{mul-suc, mul-add-div, mul-mod-right, zero-div, div-eq-of-lt, div-le-self, div-add-mod, mod-lt}
 use mathlib.Core.Path.{_≡_, refl, sym, _∙_, ap, subst}
 use mathlib.Core.Logic.{_↔_, _⊎_, inl, inr}
-use lib.Dec.{leb→le, le→leb, ltb→lt, lt→ltb}
+use lib.Dec.{T, leb→le, le→leb, ltb→lt, lt→ltb}
 use lib.IntN.{ℤ, pos, negsuc, negℤ, natAbs, _+ℤ_, _-ℤ_, _*ℤ_, negℤ-negℤ, negℤ-+ℤ, +ℤ-comm, -ℤ-+ℤ-cancel, +ℤ-negℤ-cancel, *ℤ-zero, *ℤ-negsuc, +ℤ-idr}
-use lib.Signed.{quotZ, remZ, nonNeg, _≤ℤ_, _<ℤ_}
+use lib.Signed.{ltZ, quotZ, remZ, nonNeg, _≤ℤ_, _<ℤ_, <ℤ-≤ℤ-trans, clashℤ}
 use Rattle.specification.specs.Arithmetic.{floorZ, remains}
 use Rattle.specification.proofs.Laws.Contradiction.{contradiction}
 use Rattle.specification.proofs.Laws.Difference.{subℕ-ge, subℕ-lt, abs-neg, abs-product}
@@ -75,6 +75,15 @@ remainder-less a b n = by a
 
 -- ---- rounding down
 
+weak : {a b : ℤ} → a <ℤ b → a ≤ℤ b
+weak {a} {b} h = by a b (h .lt)
+  where
+    by : (a b : ℤ) → T (ltZ a b) → a ≤ℤ b
+    by (pos a) (pos b) t = record { le = le→leb a b (omega (arith, ltb→lt a b t)) }
+    by (pos a) (negsuc b) t = absurd t
+    by (negsuc a) (pos b) t = record { le = tt }
+    by (negsuc a) (negsuc b) t = record { le = le→leb b a (omega (arith, ltb→lt b a t)) }
+
 -- from 0 up to the divisor, which is not included
 abbrev pub Within : ℤ → ℤ → Type 0
 Within b r = ((pos zero ≤ℤ r) × (r <ℤ b)) ⊎ ((b <ℤ r) × (r ≤ℤ pos zero))
@@ -86,18 +95,26 @@ pub within-below : (b k : ℕ) → k ≤ b → Within (negsuc b) (negℤ (pos k)
 within-below b zero h = inr (record { lt = tt }, record { le = le→leb 0 0 (omega arith) })
 within-below b (suc k) h = inr (record { lt = lt→ltb k b (omega arith) }, record { le = tt })
 
--- which of the two it is goes by the divisor's sign
-pub above-zero : (b r : ℤ) → Within b r → pos zero <ℤ b → (pos zero ≤ℤ r) × (r <ℤ b)
-above-zero b r (inl w) h = w
-above-zero (negsuc b) r (inr w) h = absurd (h .lt)
-above-zero (pos b) (pos k) (inr (h, l)) z = let x = ltb→lt b k (h .lt) in let y = leb→le k 0 (l .le) in absurd (omega arith)
-above-zero (pos b) (negsuc k) (inr (h, l)) z = absurd (h .lt)
+-- what holds on both sides of 0 holds of every such number
+by-within : (P : ℤ → ℤ → Type 0) → ((b k : ℕ) → k < b → P (pos b) (pos k)) → ((b k : ℕ) → k ≤ b → P (negsuc b) (negℤ (pos k))) →
+    (b r : ℤ) → Within b r → P b r
+by-within P above below (pos b) (pos k) (inl (l, h)) = above b k (ltb→lt k b (h .lt))
+by-within P above below (negsuc b) (pos k) (inl (l, h)) = absurd (h .lt)
+by-within P above below b (negsuc k) (inl (l, h)) = absurd (l .le)
+by-within P above below (pos b) (pos k) (inr (h, l)) = let x = ltb→lt b k (h .lt) in let y = leb→le k 0 (l .le) in absurd (omega arith)
+by-within P above below (pos b) (negsuc k) (inr (h, l)) = absurd (h .lt)
+by-within P above below (negsuc b) (pos zero) (inr (h, l)) = below b 0 (omega arith)
+by-within P above below (negsuc b) (pos (suc k)) (inr (h, l)) = absurd (omega (arith, leb→le (suc k) 0 (l .le)))
+by-within P above below (negsuc b) (negsuc k) (inr (h, l)) = below b (suc k) (omega (arith, ltb→lt k b (h .lt)))
 
-pub below-zero : (b r : ℤ) → Within b r → b <ℤ pos zero → (b <ℤ r) × (r ≤ℤ pos zero)
-below-zero b r (inr w) h = w
-below-zero (pos b) r (inl w) h = absurd (omega (arith, ltb→lt b 0 (h .lt)))
-below-zero (negsuc b) (pos k) (inl (l, h)) z = absurd (h .lt)
-below-zero (negsuc b) (negsuc k) (inl (l, h)) z = absurd (l .le)
+-- it is smaller than the divisor
+pub within-less : (b r : ℤ) → Within b r → natAbs r < natAbs b
+within-less = by-within (λ b r. natAbs r < natAbs b) (λ b k h. h) (λ b k h. rw (abs-neg (pos k)) (omega arith))
+
+-- and has its sign
+pub within-sign : (b r : ℤ) → Within b r → (pos zero <ℤ b → (pos zero ≤ℤ r) × (r <ℤ b)) × (b <ℤ pos zero → (b <ℤ r) × (r ≤ℤ pos zero))
+within-sign b r (inl (l, h)) = ((λ z. (l, h)), (λ z. clashℤ (<ℤ-≤ℤ-trans h (weak z)) l))
+within-sign b r (inr (h, l)) = ((λ z. clashℤ z (weak (<ℤ-≤ℤ-trans h l))), (λ z. (h, l)))
 
 -- one more round than a has, b + 1 steps long: what is left of it after a + 1 steps
 round : (a b : ℕ) → suc b * suc (a / suc b) ≡ suc a + (b - a % suc b)
@@ -134,43 +151,35 @@ floor-neg : (t b : ℕ) → floorZ (negℤ (pos t)) (negsuc b) ≡ pos (t / suc 
 floor-neg zero b = sym (ap pos (zero-div (suc b)))
 floor-neg (suc t) b = refl
 
--- a dividend that is made up of q rounds and a part of one, by the signs of divisor and quotient
-above-pos : (b n k : ℕ) → k < b → floorZ (pos b *ℤ pos n +ℤ pos k) (pos b) ≡ pos n
-above-pos b n k h = ap pos (whole b n k h)
-
-above-neg : (b n k : ℕ) → k < b → floorZ (pos b *ℤ negsuc n +ℤ pos k) (pos b) ≡ negsuc n
-above-neg b n k h = rw (short (b * suc n) (mul-suc b n)) (ap negsuc (whole b n (b - suc k) (omega arith)))
+-- a dividend that is made up of q rounds and a part of one
+above : (b : ℕ) (q : ℤ) (k : ℕ) → k < b → floorZ (pos b *ℤ q +ℤ pos k) (pos b) ≡ q
+above b (pos n) k h = ap pos (whole b n k h)
+above b (negsuc n) k h = rw (short (b * suc n) (mul-suc b n)) (ap negsuc (whole b n (b - suc k) (omega arith)))
   where
     short : (p : ℕ) → p ≡ b * n + b → negℤ (pos p) +ℤ pos k ≡ negsuc (b * n + (b - suc k))
     short zero e = absurd (omega arith)
     short (suc p) e = subℕ-lt k (suc p) (omega arith) ∙ ap negsuc {x = suc p - suc k} {y = b * n + (b - suc k)} (omega arith)
 
-below-pos : (b n k : ℕ) → k ≤ b → floorZ (negsuc b *ℤ pos n +ℤ negℤ (pos k)) (negsuc b) ≡ pos n
-below-pos b n k h = rw (sum-neg (suc b * n) k, floor-neg (suc b * n + k) b) (ap pos (whole (suc b) n k (omega arith)))
-
-below-neg : (b n k : ℕ) → k ≤ b → floorZ (negsuc b *ℤ negsuc n +ℤ negℤ (pos k)) (negsuc b) ≡ negsuc n
-below-neg b n k h =
+below : (b : ℕ) (q : ℤ) (k : ℕ) → k ≤ b → floorZ (negsuc b *ℤ q +ℤ negℤ (pos k)) (negsuc b) ≡ q
+below b (pos n) k h = rw (sum-neg (suc b * n) k, floor-neg (suc b * n + k) b) (ap pos (whole (suc b) n k (omega arith)))
+below b (negsuc n) k h =
     rw (less (suc b * suc n) k (suc (suc b * n + (b - k))) (round-left (suc b * suc n) (mul-suc (suc b) n)))
     (ap negsuc (whole (suc b) n (b - k) (omega arith)))
   where
     round-left : (p : ℕ) → p ≡ suc b * n + suc b → k + suc (suc b * n + (b - k)) ≡ p
     round-left p e = omega arith
 
-within-floor : (b q r : ℤ) → Within b r → floorZ (b *ℤ q +ℤ r) b ≡ q
-within-floor (pos b) (pos n) (pos k) (inl (l, h)) = above-pos b n k (ltb→lt k b (h .lt))
-within-floor (pos b) (negsuc n) (pos k) (inl (l, h)) = above-neg b n k (ltb→lt k b (h .lt))
-within-floor (negsuc b) q (pos k) (inl (l, h)) = absurd (h .lt)
-within-floor b q (negsuc k) (inl (l, h)) = absurd (l .le)
-within-floor (pos b) q (pos k) (inr (h, l)) = let x = ltb→lt b k (h .lt) in let y = leb→le k 0 (l .le) in absurd (omega arith)
-within-floor (pos b) q (negsuc k) (inr (h, l)) = absurd (h .lt)
-within-floor (negsuc b) q (pos (suc k)) (inr (h, l)) = absurd (omega (arith, leb→le (suc k) 0 (l .le)))
-within-floor (negsuc b) (pos n) (pos zero) (inr (h, l)) = below-pos b n 0 (omega arith)
-within-floor (negsuc b) (negsuc n) (pos zero) (inr (h, l)) = below-neg b n 0 (omega arith)
-within-floor (negsuc b) (pos n) (negsuc k) (inr (h, l)) = below-pos b n (suc k) (omega (arith, ltb→lt k b (h .lt)))
-within-floor (negsuc b) (negsuc n) (negsuc k) (inr (h, l)) = below-neg b n (suc k) (omega (arith, ltb→lt k b (h .lt)))
-
 pub floor-only : (a b q r : ℤ) → a ≡ b *ℤ q +ℤ r → Within b r → floorZ a b ≡ q
-floor-only a b q r e w = ap (λ z. floorZ z b) e ∙ within-floor b q r w
+floor-only a b q r e w =
+    ap (λ z. floorZ z b) e ∙ by-within (λ b r. floorZ (b *ℤ q +ℤ r) b ≡ q) (λ b k h. above b q k h) (λ b k h. below b q k h) b r w
+
+-- it is no larger than the dividend
+pub abs-floor : (a b : ℤ) → natAbs (floorZ a b) ≤ natAbs a
+abs-floor (pos a) (pos b) = div-le-self a b
+abs-floor (pos zero) (negsuc b) = omega arith
+abs-floor (pos (suc a)) (negsuc b) = omega (arith, div-le-self a (suc b))
+abs-floor (negsuc a) (pos b) = omega (arith, div-le-self a b)
+abs-floor (negsuc a) (negsuc b) = div-le-self (suc a) (suc b)
 
 -- ---- where the two agree
 
@@ -217,11 +226,12 @@ module _ (a b : ℤ) (n : b ≡ pos zero → ⊥) where
       -- a number with the dividend's sign, from 0 up to a divisor of the other sign
       by : (a b : ℤ) → (remZ a b ≡ pos zero → Divides b a) → Within b (remZ a b) → SignsAgree a b ⊎ Divides b a
       by (pos a) (pos b) d w = inl refl
-      by (pos a) (negsuc b) d w = inr (d (ap pos (not-above b (a % suc b) w)))
+      by (pos a) (negsuc b) d w =
+          let low = within-sign (negsuc b) (pos (a % suc b)) w .1 (record { lt = tt }) .1 in
+          inr (d (ap pos (none (leb→le (a % suc b) 0 (low .le)))))
         where
-          not-above : (b m : ℕ) → Within (negsuc b) (pos m) → m ≡ 0
-          not-above b m (inl (l, h)) = absurd (h .lt)
-          not-above b m (inr (h, l)) = omega (arith, leb→le m 0 (l .le))
+          none : {m : ℕ} → m ≤ 0 → m ≡ 0
+          none h = omega arith
       by (negsuc a) (pos b) d w = inr (d (ap (λ (m : ℕ). negℤ (pos m)) (not-below b (suc a % b) w)))
         where
           not-below : (b m : ℕ) → Within (pos b) (negℤ (pos m)) → m ≡ 0

@@ -1,6 +1,6 @@
 -- The machine's 64 bits hold each operation on two values of 32 bits exactly, and what it reads back is the mathematical result.
 -- Assumes nothing.
-use Prim.Native.Nat.{ℕ, zero, suc, _-_, _<_, _≤_}
+use Prim.Native.Nat.{ℕ, zero, suc, _<_, _≤_}
 use native.Mathlib.Omega.{arith}
 use native.Mathlib.Nat.{mul-le-mul}
 use mathlib.Core.Path.{_≡_, refl, _∙_, ap}
@@ -12,10 +12,10 @@ use mir.Val.{SFits, toZ, ofZ}
 use mir.ValLaws.{toZ-ofZ}
 use mir.Syntax.{w64}
 use Rattle.specification.specs.Number.{in32, least, greatest}
-use Rattle.values.specs.Word.{signed, biased}
+use Rattle.values.specs.Word.{signed, biased, Narrow}
 use Rattle.values.proofs.Laws.Test.{is-true, is-false, and-left, and-right, and-both}
 use Rattle.specification.proofs.Laws.Difference.{subℕ-ge, abs-neg, abs-sum, abs-product, abs-quotient, abs-remainder}
-use Rattle.values.proofs.Laws.Word.{by-sign, abs-signed, biased-word, in32-below}
+use Rattle.values.proofs.Laws.Word.{narrow-signed, signed-nonzero, biased-word, in32-below}
 
 -- ---- 64 bits are wide enough
 
@@ -24,12 +24,15 @@ pub wide : (z : ℤ) → natAbs z ≤ 4611686018427387904 → SFits w64 z
 wide (pos n) h = record { sfits = omega arith }
 wide (negsuc n) h = record { sfits = omega arith }
 
+narrow-fits : (z : ℤ) → Narrow z → SFits w64 z
+narrow-fits z h = wide z (omega (arith, h))
+
 signed-fits : (w : ℕ) → w < 4294967296 → SFits w64 (signed w)
-signed-fits w h = wide (signed w) (omega (arith, abs-signed w h))
+signed-fits w h = narrow-fits (signed w) (narrow-signed w h)
 
 -- no operands of 32 bits take the operation out of 64
 abbrev pub Exact : (ℤ → ℤ → ℤ) → Type 0
-Exact f = (x y : ℤ) → natAbs x ≤ 2147483648 → natAbs y ≤ 2147483648 → SFits w64 (f x y)
+Exact f = (x y : ℤ) → Narrow x → Narrow y → SFits w64 (f x y)
 
 pub exact-sum : Exact _+ℤ_
 exact-sum x y p q = wide (x +ℤ y) (omega (arith, abs-sum x y))
@@ -48,6 +51,27 @@ exact-remainder x y p q = wide (remZ x y) (omega (arith, abs-remainder x y))
 
 -- ---- what is read back
 
+-- as the machine reads it back
+abbrev pub machine : ℤ → ℤ
+machine z = toZ w64 (ofZ w64 z)
+
+pub narrow-read : (z : ℤ) → Narrow z → machine z ≡ z
+narrow-read z h = toZ-ofZ w64 z (narrow-fits z h)
+
+-- an operation on two such numbers
+module _ (x y : ℤ) (s : Narrow x) (t : Narrow y) (f : ℤ → ℤ → ℤ) (exact : Exact f) where
+  pub operation-fits : SFits w64 (f (machine x) (machine y))
+  operation-fits = rw (narrow-read x s, narrow-read y t) (exact x y s t)
+
+  pub operation-read : machine (f (machine x) (machine y)) ≡ f x y
+  operation-read = rw (narrow-read x s, narrow-read y t) (toZ-ofZ w64 (f x y) (exact x y s t))
+
+-- the machine's divisor is not 0
+pub machine-nonzero : (y : ℤ) → Narrow y → (y ≡ pos zero → ⊥) → 0 < ofZ w64 y
+machine-nonzero (pos zero) t n = absurd (n refl)
+machine-nonzero (pos (suc b)) t n = omega arith
+machine-nonzero (negsuc b) t n = omega arith
+
 -- two words, and their values as the machine has them
 pub record Operands (x y : ℕ) (a b : ℤ) : Type 0 where
   pub left-word : x < 4294967296
@@ -55,29 +79,22 @@ pub record Operands (x y : ℕ) (a b : ℤ) : Type 0 where
   pub left : a ≡ signed x
   pub right : b ≡ signed y
 
-pub value-read : (w : ℕ) (z : ℤ) → w < 4294967296 → z ≡ signed w → toZ w64 (ofZ w64 z) ≡ signed w
-value-read w z h e = rw e (toZ-ofZ w64 (signed w) (signed-fits w h))
+module _ {x y : ℕ} {a b : ℤ} (o : Operands x y a b) where
+  pub left-narrow : Narrow (signed x)
+  left-narrow = narrow-signed x (o .left-word)
 
-module _ {x y : ℕ} {a b : ℤ} (o : Operands x y a b) (f : ℤ → ℤ → ℤ) (exact : Exact f) where
-  result-exact : SFits w64 (f (signed x) (signed y))
-  result-exact = exact (signed x) (signed y) (abs-signed x (o .left-word)) (abs-signed y (o .right-word))
+  pub right-narrow : Narrow (signed y)
+  right-narrow = narrow-signed y (o .right-word)
 
-  pub result-fits : SFits w64 (f (toZ w64 (ofZ w64 a)) (toZ w64 (ofZ w64 b)))
-  result-fits = rw (value-read x a (o .left-word) (o .left), value-read y b (o .right-word) (o .right)) result-exact
+  module _ (f : ℤ → ℤ → ℤ) (exact : Exact f) where
+    pub result-fits : SFits w64 (f (machine a) (machine b))
+    result-fits = rw (o .left, o .right) (operation-fits (signed x) (signed y) left-narrow right-narrow f exact)
 
-  pub result-read : toZ w64 (ofZ w64 (f (toZ w64 (ofZ w64 a)) (toZ w64 (ofZ w64 b)))) ≡ f (signed x) (signed y)
-  result-read =
-      rw (value-read x a (o .left-word) (o .left), value-read y b (o .right-word) (o .right))
-      (toZ-ofZ w64 (f (signed x) (signed y)) result-exact)
+    pub result-read : machine (f (machine a) (machine b)) ≡ f (signed x) (signed y)
+    result-read = rw (o .left, o .right) (operation-read (signed x) (signed y) left-narrow right-narrow f exact)
 
--- the machine's divisor is not 0
-pub divisor-nonzero : {x y : ℕ} {a b : ℤ} → Operands x y a b → (y ≡ 2147483648 → ⊥) → 0 < ofZ w64 b
-divisor-nonzero {x} {y} o n =
-    rw (o .right) (by-sign (λ z. 0 < ofZ w64 z) y (λ l. omega arith) (λ h. positive (y - 2147483648) (λ e. n (omega arith))))
-  where
-    positive : (k : ℕ) → (k ≡ 0 → ⊥) → 0 < k
-    positive zero f = absurd (f refl)
-    positive (suc k) f = omega arith
+  pub divisor-nonzero : (y ≡ 2147483648 → ⊥) → 0 < ofZ w64 b
+  divisor-nonzero n = rw (o .right) (machine-nonzero (signed y) right-narrow (signed-nonzero y n))
 
 -- ---- a word's value, and a value's word
 

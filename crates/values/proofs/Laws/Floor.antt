@@ -7,18 +7,18 @@ use mathlib.Core.Bool.{Bool, true, false}
 use lib.IntN.{ℤ, pos, negsuc, natAbs, _+ℤ_, _-ℤ_, _*ℤ_, predℤ, +ℤ-comm, +ℤ-assoc, -ℤ-one, -ℤ-+ℤ-cancel, *ℤ-comm, predℤ-*ℤ}
 use lib.Signed.{ltZ, quotZ, remZ}
 use borrow.Author.Tests.{ltb-true, ltb-false}
-use mir.Val.{SFits, toZ, ofZ}
+use mir.Val.{SFits}
 use mir.ValLaws.{toZ-ofZ}
 use mir.Syntax.{w64}
 use Rattle.specification.specs.Arithmetic.{floorZ, remains}
 use Rattle.specification.proofs.Laws.Contradiction.{contradiction}
 use Rattle.specification.proofs.Laws.Difference.{abs-sum, abs-quotient, abs-remainder}
-use Rattle.specification.proofs.Laws.Rounding.{more, more-neg, makes-up, remains-is, remainder-is, remainder-less, Within, within-above, within-below, within-zero, floor-only}
+use Rattle.specification.proofs.Laws.Rounding.{more, more-neg, makes-up, remains-is, remainder-is, remainder-less, Within, within-above, within-below, within-less, within-zero, floor-within, floor-only, abs-floor}
 use Rattle.values.specs.declared.Divided.{Divided}
-use Rattle.values.specs.Word.{signed}
-use Rattle.values.specs.Rounded.{opposite, Narrow, roundedDown}
-use Rattle.values.proofs.Laws.Word.{by-sign, abs-signed}
-use Rattle.values.proofs.Laws.Exact.{wide, Operands, value-read, exact-quotient, exact-remainder}
+use Rattle.values.specs.Word.{signed, Narrow}
+use Rattle.values.specs.Rounded.{opposite, roundedDown}
+use Rattle.values.proofs.Laws.Word.{signed-nonzero}
+use Rattle.values.proofs.Laws.Exact.{wide, machine, narrow-read, operation-read, exact-quotient, exact-remainder, Operands, left-narrow, right-narrow}
 
 -- ---- by tests of the first
 
@@ -84,31 +84,12 @@ module _ (x y : ℤ) (n : y ≡ pos zero → ⊥) where
 
 -- ---- on 64 bits
 
--- as the machine reads it back
-abbrev machine : ℤ → ℤ
-machine z = toZ w64 (ofZ w64 z)
-
 module _ (x y : ℤ) (s : Narrow x) (t : Narrow y) where
-  left-read : machine x ≡ x
-  left-read = toZ-ofZ w64 x (wide x (omega (arith, s)))
-
-  right-read : machine y ≡ y
-  right-read = toZ-ofZ w64 y (wide y (omega (arith, t)))
-
-  -- the machine divides
-  pub quotient-fits : (y ≡ pos zero → ⊥) → (0 < ofZ w64 y) × SFits w64 (quotZ (machine x) (machine y))
-  quotient-fits n = (by y n t, rw (left-read, right-read) (exact-quotient x y s t))
-    where
-      by : (y : ℤ) → (y ≡ pos zero → ⊥) → Narrow y → 0 < ofZ w64 y
-      by (pos zero) n t = absurd (n refl)
-      by (pos (suc b)) n t = omega arith
-      by (negsuc b) n t = omega arith
-
   quotient-read : machine (quotZ (machine x) (machine y)) ≡ quotZ x y
-  quotient-read = rw (left-read, right-read) (toZ-ofZ w64 (quotZ x y) (exact-quotient x y s t))
+  quotient-read = operation-read x y s t quotZ exact-quotient
 
   rest-read : machine (remZ (machine x) (machine y)) ≡ remZ x y
-  rest-read = rw (left-read, right-read) (toZ-ofZ w64 (remZ x y) (exact-remainder x y s t))
+  rest-read = operation-read x y s t remZ exact-remainder
 
   -- one less than the quotient
   less-size : SFits w64 (quotZ x y -ℤ pos 1)
@@ -125,31 +106,15 @@ module _ (x y : ℤ) (s : Narrow x) (t : Narrow y) where
   more-size = wide (remZ x y +ℤ y) (omega (arith, abs-sum (remZ x y) y, abs-remainder x y, s, t))
 
   pub more-fits : SFits w64 (machine (remZ (machine x) (machine y)) +ℤ machine y)
-  more-fits = rw (rest-read, right-read) more-size
+  more-fits = rw (rest-read, narrow-read y t) more-size
 
   more-read : machine (machine (remZ (machine x) (machine y)) +ℤ machine y) ≡ remZ x y +ℤ y
-  more-read = rw (rest-read, right-read) (toZ-ofZ w64 (remZ x y +ℤ y) more-size)
-
-  -- both results are one of two that fit
-  module _ (n : y ≡ pos zero → ⊥) where
-    floor-size : SFits w64 (floorZ x y)
-    floor-size = by (opposite (remZ x y) y) refl
-      where
-        by : (t : Bool) → opposite (remZ x y) y ≡ t → SFits w64 (floorZ x y)
-        by true e = rw (floor-opposite x y n e) less-size
-        by false e = rw (floor-same x y n e) (exact-quotient x y s t)
-
-    left-size : SFits w64 (remains x y (floorZ x y))
-    left-size = by (opposite (remZ x y) y) refl
-      where
-        by : (t : Bool) → opposite (remZ x y) y ≡ t → SFits w64 (remains x y (floorZ x y))
-        by true e = rw (left-opposite x y n e) more-size
-        by false e = rw (left-same x y n e) (exact-remainder x y s t)
+  more-read = rw (rest-read, narrow-read y t) (toZ-ofZ w64 (remZ x y +ℤ y) more-size)
 
   -- what is returned
   module _ (n : y ≡ pos zero → ⊥) (test : Bool) (told : test ≡ opposite (machine (remZ (machine x) (machine y))) (machine y)) where
     sides : opposite (remZ x y) y ≡ test
-    sides = sym (rw (rest-read, right-read) at told)
+    sides = sym (rw (rest-read, narrow-read y t) at told)
 
     pub opposite-rounded : test ≡ true →
         record { quotient = machine (machine (quotZ (machine x) (machine y)) -ℤ pos 1); rest = machine (machine (remZ (machine x) (machine y)) +ℤ machine y) } ≡
@@ -166,34 +131,24 @@ module _ (x y : ℤ) (s : Narrow x) (t : Narrow y) where
 
 -- ---- on words
 
-module _ {x y : ℕ} {a b : ℤ} (o : Operands x y a b) where
-  dividend-read : machine a ≡ signed x
-  dividend-read = value-read x a (o .left-word) (o .left)
+module _ {x y : ℕ} {a b : ℤ} (o : Operands x y a b) (n : y ≡ 2147483648 → ⊥) where
+  pub narrow : Narrow (machine a) × Narrow (machine b) × (machine b ≡ pos zero → ⊥)
+  narrow =
+      rw (o .left, o .right, narrow-read (signed x) (left-narrow o), narrow-read (signed y) (right-narrow o))
+      (left-narrow o, right-narrow o, signed-nonzero y n)
 
-  divisor-read : machine b ≡ signed y
-  divisor-read = value-read y b (o .right-word) (o .right)
-
-  -- only the word 2147483648 stands for 0
-  nonzero : (y ≡ 2147483648 → ⊥) → signed y ≡ pos zero → ⊥
-  nonzero n = by-sign (λ z. z ≡ pos zero → ⊥) y (λ l e. contradiction cc) (λ h e. n (omega (arith, zero-of (y - 2147483648) e)))
-    where
-      zero-of : (k : ℕ) → pos k ≡ pos zero → k ≡ 0
-      zero-of k e = cc
-
-  pub narrow : (y ≡ 2147483648 → ⊥) → Narrow (machine a) × Narrow (machine b) × (machine b ≡ pos zero → ⊥)
-  narrow n = rw (dividend-read, divisor-read) (abs-signed x (o .left-word), abs-signed y (o .right-word), nonzero n)
-
-  module _ (n : y ≡ 2147483648 → ⊥) (d : Divided) (e : d ≡ roundedDown (machine a) (machine b)) where
+  module _ (d : Divided) (e : d ≡ roundedDown (machine a) (machine b)) where
     rounded-read : d ≡ roundedDown (signed x) (signed y)
-    rounded-read = e ∙ ap₂ roundedDown dividend-read divisor-read
+    rounded-read =
+        rw (o .left, o .right, narrow-read (signed x) (left-narrow o), narrow-read (signed y) (right-narrow o)) at e
 
     pub floor-read : machine (d .quotient) ≡ floorZ (signed x) (signed y)
     floor-read =
-        ap (λ (c : Divided). machine (c .quotient)) rounded-read ∙
-        toZ-ofZ w64 (floorZ (signed x) (signed y)) (floor-size (signed x) (signed y) (abs-signed x (o .left-word)) (abs-signed y (o .right-word)) (nonzero n))
+        let q = floorZ (signed x) (signed y) in
+        ap (λ (c : Divided). machine (c .quotient)) rounded-read ∙ narrow-read q (omega (arith, abs-floor (signed x) (signed y), left-narrow o))
 
     pub modulus-read : machine (d .rest) ≡ remains (signed x) (signed y) (floorZ (signed x) (signed y))
     modulus-read =
+        let r = remains (signed x) (signed y) (floorZ (signed x) (signed y)) in
         ap (λ (c : Divided). machine (c .rest)) rounded-read ∙
-        toZ-ofZ w64 (remains (signed x) (signed y) (floorZ (signed x) (signed y)))
-        (left-size (signed x) (signed y) (abs-signed x (o .left-word)) (abs-signed y (o .right-word)) (nonzero n))
+        narrow-read r (omega (arith, within-less (signed y) r (floor-within (signed x) (signed y) (signed-nonzero y n)), right-narrow o))

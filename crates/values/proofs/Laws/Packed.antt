@@ -1,15 +1,15 @@
 -- What the result of an operation says: whether a value is held to 32 bits, and when a divisor is zero. Assumes nothing.
-use Prim.Native.Nat.{ℕ, zero, suc, _-_}
-use native.Mathlib.Omega.{arith}
+use Prim.Native.Nat.{ℕ}
 use mathlib.Core.Path.{_≡_, refl, ap}
 use mathlib.Core.Bool.{Bool, true, false}
 use lib.Dec.{T}
-use lib.IntN.{ℤ, pos}
+use lib.IntN.{ℤ}
 use Rattle.specification.specs.Bytes.{pick}
 use Rattle.specification.specs.Number.{in32}
 use Rattle.specification.specs.Arithmetic.{Computed, value, fault, fit, divided, outside32, zeroDivisor}
+use Rattle.specification.proofs.Laws.Division.{divided-nonzero}
 use Rattle.values.specs.Word.{signed}
-use Rattle.values.proofs.Laws.Word.{by-sign}
+use Rattle.values.proofs.Laws.Word.{signed-nonzero}
 
 -- ---- 32 bits
 
@@ -28,8 +28,4 @@ pub divided-zero : (y : ℕ) (c : Computed) → y ≡ 2147483648 → divided (si
 divided-zero y c e = ap (λ (w : ℕ). divided (signed w) c) e
 
 pub divided-other : (y : ℕ) (c : Computed) → (y ≡ 2147483648 → ⊥) → divided (signed y) c ≡ c
-divided-other y c n = by-sign (λ z. divided z c ≡ c) y (λ l. refl) (λ h. go (y - 2147483648) (λ e. n (omega arith)))
-  where
-    go : (k : ℕ) → (k ≡ 0 → ⊥) → divided (pos k) c ≡ c
-    go zero f = absurd (f refl)
-    go (suc k) f = refl
+divided-other y c n = divided-nonzero (signed y) c (signed-nonzero y n)

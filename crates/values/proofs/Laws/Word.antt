@@ -5,12 +5,13 @@ use native.Mathlib.Omega.{arith}
 use mathlib.Core.Path.{_≡_, sym, _∙_, ap}
 use mathlib.Core.Bool.{true}
 use lib.Dec.{T, leb, ltb, eqb, leb→le, le→leb}
-use lib.IntN.{ℤ, pos, negsuc, _+ℤ_, natAbs}
+use lib.IntN.{ℤ, pos, negsuc, _+ℤ_}
 use lib.Signed.{ltZ, leZ}
 use Rattle.specification.specs.Number.{in32}
 use Rattle.specification.specs.Arithmetic.{eqZ, count}
-use Rattle.values.specs.Word.{signed, biased}
+use Rattle.values.specs.Word.{signed, biased, Narrow}
 use Rattle.values.proofs.Laws.Test.{and-left, and-both, same-leb, true-leb, false-leb, same-eqb, false-eqb}
+use Rattle.specification.proofs.Laws.Contradiction.{contradiction}
 use Rattle.specification.proofs.Laws.Difference.{by-order, subℕ-ge, subℕ-lt, subℕ-same}
 
 -- what holds of the values of small and of large words holds of every word's
@@ -44,8 +45,15 @@ pub biased-word : (z : ℤ) → T (in32 z) → biased z < 4294967296
 biased-word (pos n) t = let h = leb→le n 2147483647 t in omega arith
 biased-word (negsuc n) t = omega arith
 
-pub abs-signed : (w : ℕ) → w < 4294967296 → natAbs (signed w) ≤ 2147483648
-abs-signed w h = by-sign (λ z. natAbs z ≤ 2147483648) w (λ l. omega arith) (λ r. omega arith)
+pub narrow-signed : (w : ℕ) → w < 4294967296 → Narrow (signed w)
+narrow-signed w h = by-sign Narrow w (λ l. omega arith) (λ r. omega arith)
+
+-- the word of 0 is 2147483648, and no other
+pub signed-nonzero : (w : ℕ) → (w ≡ 2147483648 → ⊥) → signed w ≡ pos 0 → ⊥
+signed-nonzero w n = by-sign (λ z. z ≡ pos 0 → ⊥) w (λ l e. contradiction cc) (λ h e. n (omega (arith, zero-of (w - 2147483648) e)))
+  where
+    zero-of : (k : ℕ) → pos k ≡ pos 0 → k ≡ 0
+    zero-of k e = cc
 
 -- ---- comparisons
 

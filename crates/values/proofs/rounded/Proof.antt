@@ -1,11 +1,14 @@
 -- `values::rounded` meets its contract: 64 bits hold both divisions exactly, and the side of the rest says which is due. Assumes nothing.
 use borrow.Author.Needs.{needs}
-use Rattle.values.proofs.Laws.Floor.{quotient-fits, less-fits, more-fits, opposite-rounded, same-rounded}
+use lib.Signed.{quotZ}
+use Rattle.values.proofs.Laws.Exact.{machine-nonzero, operation-fits, exact-quotient}
+use Rattle.values.proofs.Laws.Floor.{less-fits, more-fits, opposite-rounded, same-rounded}
 use Rattle.values.proofs.rounded.Statement.{statement}
 use Rattle.values.proofs.rounded.Tie as tie
 
 div-quotient : tie.Need-div-quotient
-div-quotient c = quotient-fits (c .args .x) (c .args .y) (c .pre .0) (c .pre .1) (c .pre .2)
+div-quotient c =
+    (machine-nonzero (c .args .y) (c .pre .1) (c .pre .2), operation-fits (c .args .x) (c .args .y) (c .pre .0) (c .pre .1) quotZ exact-quotient)
 
 rem-rest : tie.Need-rem-rest
 rem-rest c = div-quotient c
