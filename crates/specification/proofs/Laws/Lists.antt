@@ -67,6 +67,11 @@ module _ {A : Type 0} (P : A → Type 0) where
   each-++ [] ys h k = k
   each-++ (x ∷ xs) ys h k = (h .0, each-++ xs ys (h .1) k)
 
+  pub each-parts : (xs ys : List A) → Each P (xs ++ ys) → Each P xs × Each P ys
+  unfolding Each
+  each-parts [] ys h = (tt, h)
+  each-parts (x ∷ xs) ys h = let (a, b) = each-parts xs ys (h .1) in ((h .0, a), b)
+
   pub some-++ : (xs ys : List A) → Some P xs ⊎ Some P ys → Some P (xs ++ ys)
   unfolding Some
   some-++ [] ys (inl h) = absurd h

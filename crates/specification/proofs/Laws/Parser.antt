@@ -57,6 +57,11 @@ module _ {R : ℕ → ℕ → Type 0} {A : Type 0} {P : A → Reader → Type 0}
       let g : q ≡ p = cc in
       subst (λ x. R x p) f (subst (λ x. R m x) g h)
 
+  -- what follows from it holds too
+  pub map-post : {Q : A → Reader → Type 0} {x : Read A} → ((a : A) (r : Reader) → P a r → Q a r) → Reading R P x → Reading R Q x
+  map-post f (refusal h) = refusal h
+  map-post f (holds h) = holds (f _ _ h)
+
   -- ---- each way to put readers together
 
   -- the test holds in what follows

@@ -21,7 +21,7 @@ use Rattle.specification.proofs.Laws.Lists.{each-map, each-++}
 abbrev pub IsDigit : ℕ → Type 0
 IsDigit b = (48 ≤ b) × (b ≤ 57)
 
-digit-class : (b : ℕ) → IsDigit b → classOf b ≡ digit
+pub digit-class : (b : ℕ) → IsDigit b → classOf b ≡ digit
 unfolding classOf
 digit-class b h = rw (lt-leb 97 b (omega (arith, h)), le-leb 48 b (h .0), le-leb b 57 (h .1))
 
