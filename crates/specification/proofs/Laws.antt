@@ -28,6 +28,14 @@ pub mod ReadTerm
 pub mod ReadFormula
 pub mod ReadProcedures
 pub mod ReadSheet
+-- of the text
+pub mod Canonical
+pub mod Spelling
+pub mod Pieces
+pub mod LinePieces
+pub mod GivenPieces
+pub mod FormulaPieces
+pub mod SheetText
 pub mod Ranges
 pub mod Bounds
 pub mod ReadBounds
@@ -72,3 +80,6 @@ pub mod InRanges
 pub mod NoPattern
 pub mod Demand3
 pub mod Listed
+-- of the moves between editions
+pub mod InEdition
+pub mod Moves

@@ -17,6 +17,7 @@ pub mod WellFormed
 pub mod Outside
 pub mod Tree
 pub mod Listing
+pub mod Text
 pub mod Leaves
 pub mod Visits
 pub mod Run
@@ -28,3 +29,5 @@ pub mod Demand2
 pub mod Plain
 pub mod Demand3
 pub mod InRanges
+pub mod Moves
+pub mod Moving

@@ -7,6 +7,8 @@ use Rattle.specification.specs.declared.End.{End}
 use Rattle.specification.specs.declared.End.the-variants.{Done, Spent, Path, Output}
 use Rattle.specification.specs.declared.Outcome.{Outcome}
 use Rattle.specification.specs.declared.Outcome.the-variants.{Refused, Ran}
+use Rattle.specification.specs.declared.Move.{Move}
+use Rattle.specification.specs.declared.Move.the-variants as move
 use Rattle.specification.specs.Bytes.{pick}
 
 abbrev pub endNumber : End → ℕ
@@ -23,3 +25,8 @@ endFrom n = pick (eqb n (endNumber Done)) Done (pick (eqb n (endNumber Spent)) S
 abbrev pub reportOf : Outcome → List ℕ
 reportOf (Refused number place) = number ∷ place ∷ 0 ∷ 0 ∷ 0 ∷ 0 ∷ 0 ∷ 0 ∷ []
 reportOf (Ran end t written) = 0 ∷ 0 ∷ endNumber end ∷ t .nodes ∷ t .answers ∷ t .errors ∷ t .fails ∷ written ∷ []
+
+-- of a move the same places: refused number or 0, place, five zeros, bytes written
+abbrev pub moveReport : Move → List ℕ
+moveReport (move.Refused number place) = number ∷ place ∷ 0 ∷ 0 ∷ 0 ∷ 0 ∷ 0 ∷ 0 ∷ []
+moveReport (move.Moved written) = 0 ∷ 0 ∷ 0 ∷ 0 ∷ 0 ∷ 0 ∷ 0 ∷ written ∷ []

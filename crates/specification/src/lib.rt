@@ -36,3 +36,9 @@ pub enum Outcome {
         written: usize,
     },
 }
+
+// What a call returns that moves a sheet to another edition: a refusal's number and byte place, or how many bytes the moved sheet has.
+pub enum Move {
+    Refused { number: u32, place: usize },
+    Moved { written: usize },
+}

@@ -1,4 +1,4 @@
--- To unfold one of these is to unfold all the definitions that it stands for: a table's theorem names the three. Assumes nothing.
+-- To unfold one of these is to unfold all the definitions that it stands for: a table's theorem names those that it runs. Assumes nothing.
 use Rattle.specification.specs.Bytes.{classOf, classNumber, isIn, inNumber, inToken, run, same, begins}
 use Rattle.specification.specs.Number.{allDigits, decimal, wellFormed, natural, integer, digits, printℕ, printℤ}
 use Rattle.specification.specs.Parser.{mark, exactly, taken}
@@ -18,6 +18,8 @@ use Rattle.specification.specs.Listing.{scalarNames, elementNames, array
 use Rattle.specification.specs.Run.{block, arrive, visit, scan}
 use Rattle.specification.specs.Outcome.{start, rootOf, visitsOf, runOf, call}
 use Rattle.specification.specs.Printed.{closing, printed, box}
+use Rattle.specification.specs.Text.{led, parted, opText, relText, formulaWordText, termWordText, wordText, termWords, argumentWords, formulaWords, rangesText, itemText, procedureText, proceduresText, headText, textIn}
+use Rattle.specification.specs.Moves.{isEverything, narrowAt, roundsDown, isRounding, roundingAt, roundingFrom, narrowIn, roundingIn, readOnly, admitted, fitted, moveUp, moveDown}
 
 unfoldable pub read-defs : Type 0
 unfolding classOf classNumber isIn inNumber inToken run same begins allDigits decimal wellFormed natural integer mark exactly taken index count value line lengths arraysLine range ranges rangesLine contains sum arrayOf cells firstOf lengthOf isDeclared cellOf rangeNumber rangeOf inRange scalarName elementName name item items givenLine commonWords olderDivision division ownWords words nameOf find wordOf numberOf fillTerm fillTerms fill token has binder procedure term arguments formula procedureLine procedureLines sheet read
@@ -30,3 +32,7 @@ tree-defs = Unit {0}
 unfoldable pub run-defs : Type 0
 unfolding _then_ each inside visits digits printℕ printℤ scalarNames elementNames arrayNames cellNames valued blockOf headLines cellLines blockLines labelText linesText blockText listingText block arrive visit scan start rootOf visitsOf runOf call closing printed box
 run-defs = Unit {0}
+
+unfoldable pub move-defs : Type 0
+unfolding digits printℕ printℤ scalarNames elementNames arrayNames cellNames labelText led parted opText relText formulaWordText termWordText wordText termWords argumentWords formulaWords rangesText itemText procedureText proceduresText headText textIn isEverything narrowAt roundsDown isRounding roundingAt roundingFrom narrowIn roundingIn readOnly admitted fitted moveUp moveDown
+move-defs = Unit {0}
