@@ -55,6 +55,7 @@ pub mod Alike
 pub mod ProcedureLines
 pub mod ProcedureBody
 pub mod Cleared
+pub mod Only
 -- for the walks by hand
 pub mod Standing
 pub mod Again

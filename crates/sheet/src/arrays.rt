@@ -66,7 +66,7 @@ fn contents(s: &[u8], from: usize, scalars: u32, w: &mut [u32]) -> Arrays
     ensures { λ r. ⌜ arraysRead (now (s .entry)) r (now (w .exit))
         ≡ mapped (tabled 0 scalars (now (w .entry))) (arraysValue scalars (lineAt (now (s .entry)) from)) ⌝ }
 {
-    if text::class_at(lines::value(s, from), 0) == text::FEED {
+    if text::class_at(text::value(s, from), 0) == text::FEED {
         fill(w, 0, scalars);
         return Arrays::Read(0, scalars, from);
     }
@@ -79,7 +79,7 @@ pub(crate) fn arrays_line(s: &[u8], at: usize, scalars: u32, w: &mut [u32]) -> A
     ensures { λ r. ⌜ ArraysDone (now (s .entry)) at scalars (now (w .entry)) (now (w .exit)) r ⌝ }
 {
     let key = b"arrays=";
-    if !lines::begins(s, at, key) {
+    if !text::begins(s, at, key) {
         return Arrays::Refused(refusals::KEY, at);
     }
     match contents(s, at + key.len(), scalars, w) {

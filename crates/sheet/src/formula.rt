@@ -14,7 +14,6 @@ ghost use Rattle.sheet.specs.Stack.{Bits, sortOf, Means};
 ghost use Rattle.sheet.specs.FormulaLine.{Small, Sized, Known, counted, Spells, Refuses, Binds, begin, Scans, Within, Closes, LineRead};
 use crate::Token;
 use crate::ends;
-use crate::lines;
 use crate::refusals;
 use crate::sorts;
 use crate::stack;
@@ -265,7 +264,7 @@ pub(crate) fn formula_line(s: &[u8], d: Limits, x: Reached, w: &mut [u32]) -> Pa
         → LineRead (begin (now (s .entry)) d (x .at) (x .tokens) B) D (now (w .entry)) (now (w .exit)) r) ⌝ }
 {
     let key = b"formula=";
-    if !lines::begins(s, x.at, key) {
+    if !text::begins(s, x.at, key) {
         return Parsed::Refused(refusals::KEY, x.at);
     }
     match to_feed(s, x.at + key.len(), d, x.tokens, x.bound, w) {

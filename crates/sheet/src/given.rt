@@ -43,7 +43,7 @@ enum Entry {
 fn scalar_name(s: &[u8], at: usize) -> Name
     ensures { λ r. ⌜ nameRead (now (s .entry)) r ≡ heldNames (scalarName (lineAt (now (s .entry)) at)) ⌝ }
 {
-    if !lines::begins(s, at, b"v") {
+    if !text::begins(s, at, b"v") {
         return Name::Refused(refusals::BYTE, at);
     }
     match lines::index_at(s, at + 1) {
@@ -68,7 +68,7 @@ fn element_of(s: &[u8], a: u32, at: usize) -> Name
 fn element_name(s: &[u8], at: usize) -> Name
     ensures { λ r. ⌜ nameRead (now (s .entry)) r ≡ heldNames (elementName (lineAt (now (s .entry)) at)) ⌝ }
 {
-    if !lines::begins(s, at, b"a") {
+    if !text::begins(s, at, b"a") {
         return Name::Refused(refusals::BYTE, at);
     }
     match lines::index_at(s, at + 1) {
@@ -80,7 +80,7 @@ fn element_name(s: &[u8], at: usize) -> Name
 fn name_at(s: &[u8], at: usize) -> Name
     ensures { λ r. ⌜ nameRead (now (s .entry)) r ≡ heldNames (name (lineAt (now (s .entry)) at)) ⌝ }
 {
-    if lines::begins(s, at, b"v") {
+    if text::begins(s, at, b"v") {
         return scalar_name(s, at);
     }
     element_name(s, at)
@@ -203,7 +203,7 @@ fn contents(s: &[u8], from: usize, scalars: u32, arrays: u32, w: &mut [u32]) -> 
     ensures { λ r. ⌜ ((D : Declared) → Vacant D scalars arrays 0 (now (w .entry))
         → givenRead (now (s .entry)) r (now (w .exit)) ≡ laidItems (now (w .entry)) (givenValue D (lineAt (now (s .entry)) from))) ⌝ }
 {
-    if text::class_at(lines::value(s, from), 0) == text::FEED {
+    if text::class_at(text::value(s, from), 0) == text::FEED {
         return Given::Read(from);
     }
     items_at(s, from, scalars, arrays, w)
@@ -216,7 +216,7 @@ pub(crate) fn given_line(s: &[u8], at: usize, scalars: u32, arrays: u32, w: &mut
         → GivenDone D (now (s .entry)) at (now (w .entry)) (now (w .exit)) r) ⌝ }
 {
     let key = b"given=";
-    if !lines::begins(s, at, key) {
+    if !text::begins(s, at, key) {
         return Given::Refused(refusals::KEY, at);
     }
     match contents(s, at + key.len(), scalars, arrays, w) {

@@ -1,8 +1,9 @@
 // The reader: from the sheet's bytes to tables in the lent work words.
 ghost use mathlib.Core.Path.{_≡_};
-ghost use Prim.Native.Nat.{_≤_};
+ghost use Prim.Native.Nat.{_≤_, _<_};
 ghost use lib.ListN.{length, replicate};
 ghost use Rattle.specification.specs.Sheet.{read};
+ghost use Rattle.specification.specs.Moves.{readOnly};
 ghost use Rattle.tables.specs.Layout.{pathAt};
 ghost use Rattle.sheet.specs.Whole.{readingOf, wordsOf, Zeroed};
 
@@ -20,6 +21,7 @@ mod stack;
 mod whole;
 mod words;
 
+use crate::lines::Count;
 use crate::whole::Progress;
 
 // A token: its code and operand (a constant's word, or the number of a scalar, local, array, parameter or procedure).
@@ -87,5 +89,20 @@ pub fn read_sheet(s: &[u8], w: &mut [u32]) -> Reading
                 formula: x.first,
             }
         }
+    }
+}
+
+// The same, where only this edition is read: another is refused at the edition.
+pub fn read_only(s: &[u8], edition: u32, w: &mut [u32]) -> Reading
+    requires { ⌜ (edition < 4294967295) × (pathAt ≤ length (now w)) ⌝ }
+    ensures { λ r. ⌜ (r ≡ readingOf (readOnly edition (now (s .entry))))
+        × (now (w .exit) ≡ wordsOf (length (now (w .entry))) (readOnly edition (now (s .entry)))) ⌝ }
+{
+    match lines::count_line(s, 0, b"edition=", edition, edition, text::FEED) {
+        Count::Refused(number, place) => {
+            clear(w);
+            Reading::Refused { number, place }
+        }
+        Count::Is(_, _) => read_sheet(s, w),
     }
 }

@@ -1,43 +1,14 @@
-// The lines with one number, and the readers of keys and numbers that the lines before the formula's share.
+// The lines with one number, and the readers of numbers that the lines before the formula's share.
 ghost use mathlib.Core.Path.{_≡_};
 ghost use Prim.Native.Nat.{_<_};
 ghost use lib.ListN.{drop};
-ghost use Rattle.specification.specs.Bytes.{Class, classNumber, run, inNumber, begins};
+ghost use Rattle.specification.specs.Bytes.{Class, classNumber, run, inNumber};
 ghost use Rattle.specification.specs.Lines.{index, count, value};
 ghost use Rattle.sheet.specs.Reader.{lineAt};
 ghost use Rattle.sheet.specs.Answers.{numberTo, Inside, heldIndex, indexRead, integerRead, countRead};
 use crate::refusals;
 use text::Decimal;
 use text::Word;
-
-// The part of the sheet from a place on: a line's value, after its equals sign.
-pub(crate) fn value(s: &[u8], from: usize) -> &[u8]
-    ensures { λ r. ⌜ now r ≡ drop from (now (s .entry)) ⌝ }
-{
-    if from <= s.len() {
-        return &s[from..];
-    }
-    let n = s.len();
-    &s[n..]
-}
-
-// Whether these bytes come at a place.
-pub(crate) fn begins(s: &[u8], at: usize, key: &[u8]) -> bool
-    ensures { λ r. ⌜ r ≡ begins (now (key .entry)) (drop at (now (s .entry))) ⌝ }
-{
-    let v = value(s, at);
-    let mut i = 0;
-    while i < key.len() {
-        if v.len() <= i {
-            return false;
-        }
-        if v[i] != key[i] {
-            return false;
-        }
-        i += 1;
-    }
-    true
-}
 
 // ---- numbers: a refusal's number and place; or what was read, and the place after it
 
@@ -66,7 +37,7 @@ const MOST: u64 = 4294967295;
 fn numeral(s: &[u8], at: usize) -> &[u8]
     ensures { λ r. ⌜ now r ≡ run inNumber (drop at (now (s .entry))) ⌝ }
 {
-    let v = value(s, at);
+    let v = text::value(s, at);
     let e = text::run_end(v, 0, text::NUMBER);
     &v[..e]
 }
@@ -121,7 +92,7 @@ pub(crate) fn count_line(s: &[u8], at: usize, key: &[u8], lo: u32, hi: u32, clas
     ensures { λ r. ⌜ Inside (now (s .entry)) r × ((c : Class) → class ≡ classNumber c
         → countRead (now (s .entry)) r ≡ numberTo (now (key .entry)) lo hi c (lineAt (now (s .entry)) at)) ⌝ }
 {
-    if !begins(s, at, key) {
+    if !text::begins(s, at, key) {
         return Count::Refused(refusals::KEY, at);
     }
     match count_at(s, at + key.len(), lo, hi) {

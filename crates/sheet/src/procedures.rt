@@ -34,7 +34,7 @@ fn more(s: &[u8], p: Progress) -> bool
             if most(d.edition) <= d.procedures {
                 return false;
             }
-            lines::begins(s, x.at, b"p")
+            text::begins(s, x.at, b"p")
         }
     }
 }

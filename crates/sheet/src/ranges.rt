@@ -162,7 +162,7 @@ pub(crate) fn ranges_line(
         return Ranges::Read(at);
     }
     let key = b"ranges=";
-    if !lines::begins(s, at, key) {
+    if !text::begins(s, at, key) {
         return Ranges::Refused(refusals::KEY, at);
     }
     match ranges_at(s, at + key.len(), scalars, arrays, w) {

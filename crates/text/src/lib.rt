@@ -1,11 +1,42 @@
-// The leaves of the sheet's reader: classes of bytes, runs of bytes, and decimal numbers.
+// The leaves of the sheet's reader: parts and keys, classes of bytes, runs of bytes, and decimal numbers.
 ghost use mathlib.Core.Path.{_≡_};
 ghost use Prim.Native.Nat.{_+_, _*_, _≤_};
 ghost use lib.ListN.{length, drop};
-ghost use Rattle.specification.specs.Bytes.{classOf, classNumber, run};
+ghost use Rattle.specification.specs.Bytes.{classOf, classNumber, run, begins};
 ghost use Rattle.specification.specs.Number.{natural, integer};
 ghost use Rattle.text.specs.Class.{classAt, passing};
 ghost use Rattle.text.specs.Decimal.{held, readOn, headed, capped, plainWord, minusWord, worded};
+
+// ---- parts and keys
+
+// The part of the sheet from a place on: a line's value, after its equals sign.
+pub fn value(s: &[u8], from: usize) -> &[u8]
+    ensures { λ r. ⌜ now r ≡ drop from (now (s .entry)) ⌝ }
+{
+    if from <= s.len() {
+        return &s[from..];
+    }
+    let n = s.len();
+    &s[n..]
+}
+
+// Whether these bytes come at a place.
+pub fn begins(s: &[u8], at: usize, key: &[u8]) -> bool
+    ensures { λ r. ⌜ r ≡ begins (now (key .entry)) (drop at (now (s .entry))) ⌝ }
+{
+    let v = value(s, at);
+    let mut i = 0;
+    while i < key.len() {
+        if v.len() <= i {
+            return false;
+        }
+        if v[i] != key[i] {
+            return false;
+        }
+        i += 1;
+    }
+    true
+}
 
 // ---- classes
 

@@ -1,55 +1,22 @@
--- The digits of a number: one digit, one digit more, how many there are; the digits put from the last to the first; and a value's sign.
+-- The digits of a number: how many there are; the digits put from the last to the first; and a value's sign.
 -- Assumes nothing.
 use Prim.Native.Nat.{ℕ, zero, suc, _+_, _-_, _/_, _%_, _^_, _≤_, _<_}
 use native.Mathlib.Omega.{arith}
 use native.Mathlib.Nat.{pow-suc}
-use mathlib.Core.Path.{_≡_, refl, sym, _∙_, ap}
+use mathlib.Core.Path.{_≡_, refl, _∙_, ap}
 use mathlib.Core.Bool.{Bool, true, false}
 use mathlib.Core.List.{List, [], _∷_, _++_}
 use lib.ListN.{length, set, length-append}
 use lib.Seq.{sets}
 use lib.Dec.{ltb}
-use borrow.Author.Tests.{lt-ltb, le-ltb, ltb-true, ltb-false}
+use borrow.Author.Tests.{ltb-true, ltb-false}
 use Rattle.specification.specs.Bytes.{Bytes, pick}
 use Rattle.specification.specs.Number.{digits, printℕ, printℤ}
+use Rattle.specification.proofs.Laws.Canonical.{print-one, print-more}
 use Rattle.values.specs.Word.{signed}
 use Rattle.values.proofs.Laws.Word.{by-sign}
 use Rattle.listing.specs.Put.{Put}
 use Rattle.listing.proofs.Laws.Put.{sets-before, joined}
-
--- ---- the bound that `digits` counts down does not matter
-
-one-digit : (k n : ℕ) → n < 10 → digits k n ≡ (48 + n) ∷ []
-unfolding digits
-one-digit zero n h = refl
-one-digit (suc k) n h = rw (lt-ltb n 10 h)
-
-more-digits : (k n : ℕ) → 10 ≤ n → digits (suc k) n ≡ digits k (n / 10) ++ (48 + n % 10) ∷ []
-unfolding digits
-more-digits k n h = rw (le-ltb n 10 h)
-
-any-bound : (j k n : ℕ) → n ≤ j → n ≤ k → digits j n ≡ digits k n
-any-bound zero k n h l = one-digit 0 n (omega arith) ∙ sym (one-digit k n (omega arith))
-any-bound (suc j) zero n h l = one-digit (suc j) n (omega arith) ∙ sym (one-digit 0 n (omega arith))
-any-bound (suc j) (suc k) n h l = go (λ m. any-bound j k (n / 10) (omega arith) (omega arith)) (ltb n 10) refl
-  where
-    go : (10 ≤ n → digits j (n / 10) ≡ digits k (n / 10)) → (b : Bool) → ltb n 10 ≡ b → digits (suc j) n ≡ digits (suc k) n
-    go f true e = one-digit (suc j) n (ltb-true n 10 e) ∙ sym (one-digit (suc k) n (ltb-true n 10 e))
-    go f false e =
-        let m : 10 ≤ n = ltb-false n 10 e in
-        more-digits j n m ∙ ap (λ ds. ds ++ (48 + n % 10) ∷ []) (f m) ∙ sym (more-digits k n m)
-
--- ---- the digits of n
-
-pub print-one : (n : ℕ) → n < 10 → printℕ n ≡ (48 + n) ∷ []
-unfolding printℕ
-print-one n h = one-digit n n h
-
-pub print-more : (n : ℕ) → 10 ≤ n → printℕ n ≡ printℕ (n / 10) ++ (48 + n % 10) ∷ []
-unfolding printℕ
-print-more zero h = absurd (omega arith)
-print-more (suc k) h =
-    more-digits k (suc k) h ∙ ap (λ ds. ds ++ (48 + suc k % 10) ∷ []) (any-bound k (suc k / 10) (suc k / 10) (omega arith) (omega arith))
 
 -- ---- how many
 

@@ -1,5 +1,5 @@
 -- Laws of classes: of a byte, the test `isIn` from its class number; of a place, the specification's tests `next` and `ended`
--- from the class there; which bytes are of no class, and which are digits. Assumes nothing.
+-- from the class there; and which bytes are of no class. Assumes nothing.
 use Prim.Native.Nat.{ℕ, _<_, _≤_}
 use mathlib.Core.Path.{_≡_, refl, sym, ap, _∙_}
 use mathlib.Core.Bool.{Bool, true, false}
@@ -9,11 +9,11 @@ use lib.Dec.{eqb}
 use lib.ListN.{length, getD, drop, drop-of-length-le, length-drop}
 use lib.Seq.{drop-cons}
 use borrow.Author.Tests.{eq-eqb, ne-eqb, eqb-true, eqb-false}
-use Rattle.specification.specs.Bytes.{Bytes, pick, between, classOf, classNumber, isIn}
+use Rattle.specification.specs.Bytes.{Bytes, classOf, classNumber, isIn}
 use Rattle.specification.specs.Bytes.{Class, letter, digit, space, feed, minus, equals, comma, colon, point, other}
 use Rattle.specification.specs.Parser.{next, ended}
 use Rattle.text.specs.Class.{headClass, classAt}
-use Rattle.text.proofs.Laws.Ranges.{off, within}
+use Rattle.text.proofs.Laws.Ranges.{off}
 
 -- no class has the number of the end
 pub number-lt : (c : Class) → classNumber c < 10
@@ -66,28 +66,6 @@ pub other-class : (b : ℕ) → Unclassed b → 0 ≡ classNumber (classOf b)
 unfolding classOf classNumber
 other-class b (l, d, s, f, m, e, c, k, p) =
     rw (off 97 122 b l, off 48 57 b d, ne-eqb b 32 s, ne-eqb b 10 f, ne-eqb b 45 m, ne-eqb b 61 e, ne-eqb b 44 c, ne-eqb b 58 k, ne-eqb b 46 p)
-
--- a digit is a byte from 48 to 57
-pub digit-range : (b : ℕ) → isIn digit b ≡ true → (48 ≤ b) × (b ≤ 57)
-unfolding isIn classOf classNumber
-digit-range b e =
-    within 48 57 b
-    (second (between 97 122 b) (between 48 57 b) (eqb b 32) (eqb b 10) (eqb b 45) (eqb b 61) (eqb b 44) (eqb b 58) (eqb b 46) e)
-  where
-    second : (p q r s t u v w x : Bool)
-        → eqb 2 (classNumber (pick p letter (pick q digit (pick r space (pick s feed (pick t minus
-        (pick u equals (pick v comma (pick w colon (pick x point other)))))))))) ≡ true
-        → q ≡ true
-    second p true r s t u v w x e = refl
-    second true false r s t u v w x e = e
-    second false false true s t u v w x e = e
-    second false false false true t u v w x e = e
-    second false false false false true u v w x e = e
-    second false false false false false true v w x e = e
-    second false false false false false false true w x e = e
-    second false false false false false false false true x e = e
-    second false false false false false false false false true e = e
-    second false false false false false false false false false e = e
 
 -- ---- of a place
 

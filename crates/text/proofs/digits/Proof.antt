@@ -5,8 +5,9 @@ use mathlib.Core.Bool.{true}
 use native.Mathlib.Omega.{arith}
 use lib.ListN.{length, getD, drop}
 use Rattle.specification.specs.Bytes.{digit, isIn, classNumber}
+use Rattle.specification.proofs.Laws.Canonical.{digit-byte}
 use Rattle.text.specs.Decimal.{capped, readOn}
-use Rattle.text.proofs.Laws.Class.{in-yes, in-no, digit-range}
+use Rattle.text.proofs.Laws.Class.{in-yes, in-no}
 use Rattle.text.proofs.Laws.Decimal.{digit-more, digit-none, digit-out}
 use borrow.Author.Needs.{needs}
 use Rattle.text.proofs.digits.Statement.{statement}
@@ -41,7 +42,7 @@ unfolding classNumber
 is-digit c = in-yes digit _ _ (c .before .class .ensures) (c .if1 .left)
 
 sub-grown : tie.Need-sub-grown Inv-loop μ-loop
-sub-grown c = digit-range _ (is-digit c) .0
+sub-grown c = digit-byte _ (is-digit c) .0
 
 grown-requires : tie.Need-grown-requires Inv-loop μ-loop
 grown-requires c κs = search needs

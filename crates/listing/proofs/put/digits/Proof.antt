@@ -5,7 +5,8 @@ use native.Mathlib.Omega.{arith}
 use mathlib.Core.Path.{_≡_, ap}
 use lib.ListN.{length}
 use Rattle.specification.specs.Number.{printℕ}
-use Rattle.listing.proofs.Laws.Digits.{print-one, length-more, length-within}
+use Rattle.specification.proofs.Laws.Canonical.{print-one}
+use Rattle.listing.proofs.Laws.Digits.{length-more, length-within}
 use Rattle.listing.proofs.put.digits.Statement.{statement}
 use Rattle.listing.proofs.put.digits.Tie as tie
 

@@ -4,7 +4,7 @@ use native.Mathlib.Omega.{arith}
 use borrow.Author.Tests.{not-true, not-false}
 use Rattle.specification.specs.Bytes.{bytes, feed, classNumber}
 use Rattle.text.proofs.Laws.Class.{class-inside}
-use Rattle.sheet.proofs.Keys.{key-fits}
+use Rattle.text.proofs.Laws.Keys.{key-fits}
 use Rattle.sheet.proofs.ArrayLine.{lined-no, lined-refused, lined-open, lined-found}
 use borrow.Author.Needs.{needs}
 use Rattle.sheet.proofs.arrays.arrays_line.Statement.{statement}

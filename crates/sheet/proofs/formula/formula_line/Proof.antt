@@ -10,7 +10,7 @@ use Rattle.specification.specs.Lines.{Declared}
 use Rattle.specification.specs.Formula.{Locals}
 use Rattle.sheet.specs.Stack.{Bits}
 use Rattle.sheet.specs.FormulaLine.{Known, Begin, begin, Closed}
-use Rattle.sheet.proofs.Keys.{begins-long}
+use Rattle.text.proofs.Laws.Keys.{begins-long}
 use Rattle.sheet.proofs.FormulaRest.{closes-refused, closes-read, within-read, keyed, rest-no-key, rest-refused, rest-long, rest-more, rest-end}
 use borrow.Author.Needs.{needs}
 use Rattle.sheet.proofs.formula.formula_line.Statement.{statement}

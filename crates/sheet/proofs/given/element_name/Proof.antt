@@ -3,7 +3,7 @@ use mathlib.Core.Path.{_∙_, sym}
 use native.Mathlib.Omega.{arith}
 use borrow.Author.Tests.{not-true, not-false}
 use Rattle.specification.specs.Bytes.{bytes}
-use Rattle.sheet.proofs.Keys.{key-fits}
+use Rattle.text.proofs.Laws.Keys.{key-fits}
 use Rattle.sheet.proofs.CellNames.{element-no, element-refused, element-yes}
 use borrow.Author.Needs.{needs}
 use Rattle.sheet.proofs.given.element_name.Statement.{statement}

@@ -2,7 +2,8 @@
 use mathlib.Core.Path.{_∙_, sym}
 use native.Mathlib.Omega.{arith}
 use borrow.Author.Tests.{not-true, not-false}
-use Rattle.sheet.proofs.Keys.{key-fits, closed-with-yes, closed-with-no, class-below}
+use Rattle.text.proofs.Laws.Keys.{key-fits}
+use Rattle.sheet.proofs.Keys.{closed-with-yes, closed-with-no, class-below}
 use Rattle.sheet.proofs.NumberLines.{line-no, line-yes}
 use borrow.Author.Needs.{needs}
 use Rattle.sheet.proofs.lines.count_line.Statement.{statement}

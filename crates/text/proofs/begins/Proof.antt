@@ -3,10 +3,10 @@ use Prim.Native.Nat.{_≤_, _-_}
 use mathlib.Core.Path.{_≡_, _∙_, sym, ap}
 use lib.ListN.{length, drop}
 use Rattle.specification.specs.Bytes.{begins}
-use Rattle.sheet.proofs.Keys.{key-short, key-other, key-more, key-done}
+use Rattle.text.proofs.Laws.Keys.{key-short, key-other, key-more, key-done}
 use borrow.Author.Needs.{needs}
-use Rattle.sheet.proofs.lines.begins.Statement.{statement}
-use Rattle.sheet.proofs.lines.begins.Tie as tie
+use Rattle.text.proofs.begins.Statement.{statement}
+use Rattle.text.proofs.begins.Tie as tie
 
 abbrev Inv-loop : tie.InvT-loop
 Inv-loop s at key v i₀ i = (i ≤ length key) × (begins key (drop at s) ≡ begins (drop i key) (drop i v))

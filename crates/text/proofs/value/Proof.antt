@@ -1,9 +1,9 @@
 -- The part up to the end is the rest; beyond the end there is none. Assumes nothing.
 use native.Mathlib.Omega.{arith}
-use Rattle.sheet.proofs.Keys.{take-rest, take-end}
+use Rattle.text.proofs.Laws.Keys.{take-rest, take-end}
 use borrow.Author.Needs.{needs}
-use Rattle.sheet.proofs.lines.value.Statement.{statement}
-use Rattle.sheet.proofs.lines.value.Tie as tie
+use Rattle.text.proofs.value.Statement.{statement}
+use Rattle.text.proofs.value.Tie as tie
 
 sub-result : tie.Need-sub-result
 sub-result c = search needs
