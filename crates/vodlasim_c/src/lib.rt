@@ -1,13 +1,15 @@
-// The public call and the plotter's port (port.rt) for C and Rust hosts, over numbers and slices.
+// The public calls and the plotter's port (port.rt) for C and Rust hosts, over numbers and slices.
 mod port;
 
 use specification::End;
+use specification::Move;
 use specification::Outcome;
 use specification::Setting;
 ghost use mathlib.Core.Path.{_≡_};
-ghost use Rattle.specification.specs.Report.{endNumber, reportOf};
+ghost use Rattle.specification.specs.Report.{endNumber, reportOf, moveReport};
+ghost use Rattle.specification.specs.Moves.{moveUp, moveDown};
 ghost use Rattle.vodlasim.specs.Lent.{lent};
-ghost use Rattle.vodlasim_c.specs.Report.{Reported};
+ghost use Rattle.vodlasim_c.specs.Report.{Reported, MoveReported};
 
 // `vodlasim::run`, with its outcome in `report`, as the specification's `reportOf` gives it: refused number or 0, place, the end's number,
 // nodes, answers, errors, fails, bytes written. Every length of the slices is allowed.
@@ -30,6 +32,43 @@ pub extern "C" fn vodlasim_run(
     };
     let outcome = vodlasim::run(sheet, setting, work, output);
     *report = numbers(outcome);
+}
+
+// `vodlasim::move_up` and `vodlasim::move_down`, with what they return in `report`, as the specification's `moveReport` gives it: refused number
+// or 0, place, five zeros, bytes written. Every length of the slices is allowed.
+#[no_mangle]
+pub extern "C" fn vodlasim_move_up(
+    sheet: &[u8],
+    work: &mut [u32],
+    output: &mut [u8],
+    report: &mut [u64; 8],
+)
+    ensures { λ _. ⌜ MoveReported moveUp (now (sheet .entry)) (lent (now (work .entry)) (now (work .exit))) (lent (now (output .entry)) (now (output .exit))) (now (report .exit)) ⌝ }
+{
+    let moved = vodlasim::move_up(sheet, work, output);
+    *report = move_numbers(moved);
+}
+
+#[no_mangle]
+pub extern "C" fn vodlasim_move_down(
+    sheet: &[u8],
+    work: &mut [u32],
+    output: &mut [u8],
+    report: &mut [u64; 8],
+)
+    ensures { λ _. ⌜ MoveReported moveDown (now (sheet .entry)) (lent (now (work .entry)) (now (work .exit))) (lent (now (output .entry)) (now (output .exit))) (now (report .exit)) ⌝ }
+{
+    let moved = vodlasim::move_down(sheet, work, output);
+    *report = move_numbers(moved);
+}
+
+fn move_numbers(moved: Move) -> [u64; 8]
+    ensures { λ r. ⌜ r ≡ moveReport moved ⌝ }
+{
+    match moved {
+        Move::Refused { number, place } => [number as u64, place as u64, 0, 0, 0, 0, 0, 0],
+        Move::Moved { written } => [0, 0, 0, 0, 0, 0, 0, written as u64],
+    }
 }
 
 fn numbers(outcome: Outcome) -> [u64; 8]
