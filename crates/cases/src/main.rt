@@ -5,7 +5,6 @@
 // and SKIP are the setting; OUTPUT bytes and WORDS work words are lent, filled with rubbish. After the call the work words must all be
 // zero and the output beyond the bytes written must hold its rubbish; else `dirty` is printed.
 mod header;
-mod rubbish;
 
 use listing::put;
 use page::CLOSING;

@@ -1,9 +1,9 @@
--- `cases::rubbish::is_kept` is safe and ends: nothing has to hold from turn to turn.
+-- `rubbish::is_kept` is safe and ends: nothing has to hold from turn to turn.
 use Prim.Native.Nat.{_-_}
 use lib.ListN.{length}
 use borrow.Author.Needs.{needs}
-use Rattle.cases.proofs.rubbish.is_kept.Statement.{statement}
-use Rattle.cases.proofs.rubbish.is_kept.Tie as tie
+use Rattle.rubbish.proofs.is_kept.Statement.{statement}
+use Rattle.rubbish.proofs.is_kept.Tie as tie
 
 abbrev Inv-loop : tie.InvT-loop
 Inv-loop bytes from i₀ i = Unit {0}

@@ -1,9 +1,9 @@
--- `cases::rubbish::is_zero` is safe and ends: nothing has to hold from turn to turn.
+-- `rubbish::is_zero` is safe and ends: nothing has to hold from turn to turn.
 use Prim.Native.Nat.{_-_}
 use lib.ListN.{length}
 use borrow.Author.Needs.{needs}
-use Rattle.cases.proofs.rubbish.is_zero.Statement.{statement}
-use Rattle.cases.proofs.rubbish.is_zero.Tie as tie
+use Rattle.rubbish.proofs.is_zero.Statement.{statement}
+use Rattle.rubbish.proofs.is_zero.Tie as tie
 
 abbrev Inv-loop : tie.InvT-loop
 Inv-loop words i₀ i = Unit {0}

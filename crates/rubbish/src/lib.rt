@@ -1,9 +1,9 @@
-// What stands in the lent memory before a case, and what must stand there after it.
+// For the test programs: what stands in lent memory before a case, and what must stand there after it.
 const WORD: u32 = 0xDEADBEEF;
 
 const BYTE: u8 = 0xA5;
 
-pub(crate) fn fill_words(words: &mut [u32]) {
+pub fn fill_words(words: &mut [u32]) {
     let mut i = 0;
     while i < words.len() {
         words[i] = WORD;
@@ -11,7 +11,7 @@ pub(crate) fn fill_words(words: &mut [u32]) {
     }
 }
 
-pub(crate) fn fill_bytes(bytes: &mut [u8]) {
+pub fn fill_bytes(bytes: &mut [u8]) {
     let mut i = 0;
     while i < bytes.len() {
         bytes[i] = BYTE;
@@ -19,7 +19,7 @@ pub(crate) fn fill_bytes(bytes: &mut [u8]) {
     }
 }
 
-pub(crate) fn is_zero(words: &[u32]) -> bool {
+pub fn is_zero(words: &[u32]) -> bool {
     let mut i = 0;
     while i < words.len() {
         if words[i] != 0 {
@@ -30,8 +30,8 @@ pub(crate) fn is_zero(words: &[u32]) -> bool {
     true
 }
 
-// Whether the bytes from `from` on still hold the rubbish.
-pub(crate) fn is_kept(bytes: &[u8], from: usize) -> bool {
+// Whether the bytes from a place on still hold the rubbish.
+pub fn is_kept(bytes: &[u8], from: usize) -> bool {
     let mut i = from;
     while i < bytes.len() {
         if bytes[i] != BYTE {
