@@ -105,23 +105,33 @@ def report(due):
     return [due.refused, due.place, end, due.nodes, due.answers, due.errors, due.fails, len(due.listing)]
 
 
-def faults(run, rng, case, due):
-    """What is wrong after one call."""
-    lent = Lent(rng, len(case.sheet), case.sheet), Lent(rng, 4 * case.words), Lent(rng, case.output), Lent(rng, 64)
+def lend(rng, sheet, words, output):
+    """The four slices of a call: sheet, work words, output and report."""
+    return Lent(rng, len(sheet), sheet), Lent(rng, 4 * words), Lent(rng, output), Lent(rng, 64)
+
+
+def changed(lent, report, written):
+    """What is wrong with the slices after a call, where these are the report and the bytes that are due."""
     sheet, work, output, reported = lent
-    run(sheet.pointer(), sheet.size, case.path, case.budget, case.skip, work.pointer(), case.words, output.pointer(), output.size,
-        reported.pointer())
     got = [int.from_bytes(reported.after()[8 * k:8 * k + 8], "little") for k in range(8)]
-    if got != report(due):
-        yield "report %s, due %s" % (got, report(due))
-    if output.after() != due.listing + output.before()[len(due.listing):]:
-        yield "output %r.., due %r and then what it held" % (output.after()[:len(due.listing) + 16], due.listing)
+    if got != report:
+        yield "report %s, due %s" % (got, report)
+    if output.after() != written + output.before()[len(written):]:
+        yield "output %r.., due %r and then what it held" % (output.after()[:len(written) + 16], written)
     if work.after() != bytes(work.size):
         yield "work words not all zero"
-    if sheet.after() != case.sheet:
+    if sheet.after() != sheet.before():
         yield "sheet changed"
     if not all(slice.guarded() for slice in lent):
         yield "guard bytes changed"
+
+
+def faults(run, rng, case, due):
+    """What is wrong after one call."""
+    lent = sheet, work, output, reported = lend(rng, case.sheet, case.words, case.output)
+    run(sheet.pointer(), sheet.size, case.path, case.budget, case.skip, work.pointer(), case.words, output.pointer(), output.size,
+        reported.pointer())
+    return changed(lent, report(due), due.listing)
 
 
 # ---------------------------------------------------------------- the programs

@@ -1,7 +1,9 @@
-/* Runs a sheet by the library and prints what the box prints.
+/* Runs a sheet by the library and prints what the box prints, or moves it to another edition.
  *
  *   host SHEET PATH BUDGET SKIP OUTPUT [WORDS]
  *   host --parts SHEET PATH BUDGET [OUTPUT]
+ *   host --up SHEET
+ *   host --down SHEET
  *
  * SHEET is a file. WORDS defaults to what the path limit asks, 6,144 + 12 * PATH.
  *
@@ -9,7 +11,10 @@
  * sheet is run again, past the blocks that are printed, until a run ends otherwise than `output`, or has no room for one block. The lines after
  * the listing are those of the last run. On standard error there is a line for each part that another follows.
  *
- * The exit status is 1 where a byte was lost in printing, and nothing is printed after it; 2 where nothing was run. */
+ * With --up a sheet of edition 2 is printed as one of edition 3, with --down one of edition 3 as one of edition 2. Of a sheet that is refused
+ * nothing is printed; its number and place go to standard error, and the exit status is 1.
+ *
+ * The exit status is 1 where a byte was lost in printing, and nothing is printed after it; 2 where nothing was run or moved. */
 #include <stdio.h>
 #include <stdlib.h>
 #include <string.h>
@@ -52,7 +57,8 @@ static int went_out(void)
     return fflush(stdout) == 0 && !ferror(stdout);
 }
 
-static int print_listing(const uint64_t report[8], const uint8_t *output)
+/* what was written to the output: a listing, or a moved sheet */
+static int print_written(const uint64_t report[8], const uint8_t *output)
 {
     fwrite(output, 1, report[VODLASIM_WRITTEN], stdout);
     return went_out();
@@ -64,7 +70,7 @@ static int print_report(const uint64_t report[8], const uint8_t *output)
         printf("refused=%llu\nat=%llu\n", (unsigned long long)report[VODLASIM_REFUSED], (unsigned long long)report[VODLASIM_PLACE]);
         return went_out();
     }
-    if (!print_listing(report, output))
+    if (!print_written(report, output))
         return 0;
     printf("end=%s\nnodes=%llu\nanswers=%llu\nerrors=%llu\nfails=%llu\n", ends[report[VODLASIM_END]],
            (unsigned long long)report[VODLASIM_NODES], (unsigned long long)report[VODLASIM_ANSWERS],
@@ -99,7 +105,7 @@ static int print_parts(const struct job *job, uint64_t report[8])
 {
     uint32_t skip = 0;
     for (run(job, skip, report); goes_on(report); run(job, skip, report)) {
-        if (!print_listing(report, job->output))
+        if (!print_written(report, job->output))
             return 0;
         uint32_t plotted = report[VODLASIM_ANSWERS] + report[VODLASIM_ERRORS];      /* the skipped blocks are counted, too */
         fprintf(stderr, "part: blocks %u to %u, %llu bytes\n", skip + 1, plotted, (unsigned long long)report[VODLASIM_WRITTEN]);
@@ -108,11 +114,40 @@ static int print_parts(const struct job *job, uint64_t report[8])
     return 1;
 }
 
+/* moves a sheet and prints it; the exit status */
+static int move(const char *name, int up)
+{
+    size_t len;
+    uint64_t report[8];
+    uint8_t *sheet = read_sheet(name, &len);
+    uint32_t *work = room(4 * VODLASIM_MOVE_WORDS);
+    uint8_t *output = room(VODLASIM_MOVE_OUTPUT);
+    (up ? vodlasim_move_up : vodlasim_move_down)(sheet, len, work, VODLASIM_MOVE_WORDS, output, VODLASIM_MOVE_OUTPUT, report);
+    int status = 0;
+    if (report[VODLASIM_REFUSED]) {
+        fprintf(stderr, "%s: refused with %llu at byte %llu\n", name, (unsigned long long)report[VODLASIM_REFUSED],
+                (unsigned long long)report[VODLASIM_PLACE]);
+        status = 1;
+    } else if (!print_written(report, output)) {
+        perror("host");
+        status = 1;
+    }
+    free(output);
+    free(work);
+    free(sheet);
+    return status;
+}
+
 int main(int argc, char **argv)
 {
-    int in_parts = argc > 1 && strcmp(argv[1], "--parts") == 0;
+    const char *mode = argc > 1 ? argv[1] : "";
+    int up = strcmp(mode, "--up") == 0;
+    if (argc == 3 && (up || strcmp(mode, "--down") == 0))
+        return move(argv[2], up);
+    int in_parts = strcmp(mode, "--parts") == 0;
     if (in_parts ? argc != 5 && argc != 6 : argc != 6 && argc != 7) {
-        fprintf(stderr, "usage: %s SHEET PATH BUDGET SKIP OUTPUT [WORDS]\n       %s --parts SHEET PATH BUDGET [OUTPUT]\n", argv[0], argv[0]);
+        fprintf(stderr, "usage: %s SHEET PATH BUDGET SKIP OUTPUT [WORDS]\n       %s --parts SHEET PATH BUDGET [OUTPUT]\n       %s --up SHEET\n"
+                "       %s --down SHEET\n", argv[0], argv[0], argv[0], argv[0]);
         return 2;
     }
     char **args = argv + 1 + in_parts;

@@ -1,5 +1,5 @@
-/* The calls of libvodlasim_c.a (crates/vodlasim_c): a run of a sheet, and the plotter's port. Each slice is a pointer and its length in elements; every length is allowed.
- * The library keeps nothing between calls and reads no memory but what it is lent. */
+/* The calls of libvodlasim_c.a (crates/vodlasim_c): a run of a sheet, its moves between editions, and the plotter's port. Each slice is a
+ * pointer and its length in elements; every length is allowed. The library keeps nothing between calls and reads no memory but what it is lent. */
 #ifndef VODLASIM_H
 #define VODLASIM_H
 #include <stddef.h>
@@ -14,7 +14,7 @@ enum {
     VODLASIM_ANSWERS,
     VODLASIM_ERRORS,
     VODLASIM_FAILS,
-    VODLASIM_WRITTEN    /* bytes of output that hold the listing */
+    VODLASIM_WRITTEN    /* bytes of output that hold the listing, or the moved sheet */
 };
 
 /* the ends of a run */
@@ -27,6 +27,18 @@ enum {
 
 void vodlasim_run(const uint8_t *sheet, size_t sheet_len, uint32_t path_limit, uint32_t budget, uint32_t skip,
                   uint32_t *work, size_t work_len, uint8_t *output, size_t output_len, uint64_t report[8]);
+
+/* A sheet of edition 2 moved to edition 3, and one of edition 3 moved back. The moved sheet stands at the start of the output; past it, and
+ * everywhere if the sheet is refused, the output is kept. The report has zeros from VODLASIM_END to VODLASIM_FAILS. */
+enum {
+    VODLASIM_MOVE_WORDS = 6144,     /* work words that a move needs */
+    VODLASIM_MOVE_OUTPUT = 4096     /* and output bytes */
+};
+
+void vodlasim_move_up(const uint8_t *sheet, size_t sheet_len, uint32_t *work, size_t work_len, uint8_t *output, size_t output_len,
+                      uint64_t report[8]);
+void vodlasim_move_down(const uint8_t *sheet, size_t sheet_len, uint32_t *work, size_t work_len, uint8_t *output, size_t output_len,
+                        uint64_t report[8]);
 
 /* The plotter's port. Its four registers are bytes that the host keeps; bits that have no name below are never changed. */
 enum {
