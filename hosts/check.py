@@ -183,16 +183,22 @@ def check(given, folder):
     return ended
 
 
-def main():
+def arguments(*programs):
+    """What every comparison is told: how long, from which seed, with which library; and the programs that it can ask beside."""
     parser = argparse.ArgumentParser()
     parser.add_argument("--seconds", type=float, default=60)
     parser.add_argument("--seed", type=int, default=1)
     parser.add_argument("--library", default=str(walker.ROOT / "target/staticlib/libvodlasim_c.a"))
-    parser.add_argument("--host")
-    parser.add_argument("--box")
+    for program in programs:
+        parser.add_argument(program)
     given = parser.parse_args()
     if not pathlib.Path(given.library).exists():
         parser.error("no library at %s: `rt staticlib vodlasim_c` makes it" % given.library)
+    return given
+
+
+def main():
+    given = arguments("--host", "--box")
     with tempfile.TemporaryDirectory() as folder:
         ended = check(given, folder)
     ends = ENDS + tuple("refused %d" % number for number in range(1, 15))

@@ -7,7 +7,6 @@ Every slice is lent, and looked at after each call, as hosts/check.py does. A sh
 once more after some damage, and both sheets are run under the same random setting, which must give the same report and listing. With --host every
 twentieth case goes through the C host as well.
 """
-import argparse
 import ctypes
 import pathlib
 import random
@@ -96,14 +95,7 @@ def check_batch(library, rng, given, folder, counts):
 
 
 def main():
-    parser = argparse.ArgumentParser()
-    parser.add_argument("--seconds", type=float, default=60)
-    parser.add_argument("--seed", type=int, default=1)
-    parser.add_argument("--library", default=str(walker.ROOT / "target/staticlib/libvodlasim_c.a"))
-    parser.add_argument("--host")
-    given = parser.parse_args()
-    if not pathlib.Path(given.library).exists():
-        parser.error("no library at %s: `rt staticlib vodlasim_c` makes it" % given.library)
+    given = check.arguments("--host")
     rng, until, counts = random.Random(given.seed), time.monotonic() + given.seconds, Counter()
     with tempfile.TemporaryDirectory() as folder:
         library = Library(given.library, folder)

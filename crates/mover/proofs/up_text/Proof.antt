@@ -44,7 +44,8 @@ part-text-start c = search needs
 
 part-text-end : tie.Need-part-text-end
 part-text-end c =
-    let at-lines-end = c .before .before .before .before .before .before in
+    let at-text = c .before .before .before in
+    let at-lines-end = at-text .before .before .before in
     let start = at-lines-end .before .before .before in
     omega (arith, at-lines-end .lines-end .ensures, linesLength-≤ headLines (start .args .s .now))
 

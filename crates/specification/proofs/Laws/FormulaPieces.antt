@@ -243,7 +243,7 @@ module _ (D : Declared) (edition : ℕ) (ranges : List Range) where
     term-with k p n (numberWord m) h = refusal tt
     term-with k p n unknown h = refusal tt
 
-  pub term-spelt : (k : ℕ) (S : Locals) (r : Reader) → Post (λ t r′. Spelt (term D′ k S) (termWords t) t r r′) (term D k S r)
+  term-spelt : (k : ℕ) (S : Locals) (r : Reader) → Post (λ t r′. Spelt (term D′ k S) (termWords t) t r r′) (term D k S r)
   unfolding term
   term-spelt zero S r = refusal tt
   term-spelt (suc k) S r =

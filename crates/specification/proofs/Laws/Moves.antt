@@ -83,7 +83,7 @@ from-unrounded p (P ∷ Ps) F e =
     let (h, k) = from-unrounded q Ps F y in
     ((at-unrounded _ (formulaWords (P .formula)) x, h), k)
 
-pub unrounded-none : (s : Sheet) → AllUnrounded s → roundingIn s ≡ none
+unrounded-none : (s : Sheet) → AllUnrounded s → roundingIn s ≡ none
 unfolding roundingIn
 unrounded-none s h = unrounded-from _ (s .declared .procedures) (s .formula) (h .0) (h .1)
 

@@ -218,7 +218,7 @@ module _ (b : Bytes) (s : Sheet) (l : Lines (opened b) s) (edition : ℕ) (range
   all-new : procedures-here .new ≡ D .procedures
   all-new = sym (procedures-here .all)
 
-  pub procedures-fit : Each (ProcedureFits (D .edition)) (D .procedures)
+  procedures-fit : Each (ProcedureFits (D .edition)) (D .procedures)
   procedures-fit = subst (λ (Ps : List Procedure). Each (ProcedureFits (D .edition)) Ps) all-new (procedures-here .fits)
 
   procedures-piece-here : Each (ProcedureFits edition) (D .procedures) →
@@ -236,7 +236,7 @@ module _ (b : Bytes) (s : Sheet) (l : Lines (opened b) s) (edition : ℕ) (range
       of-found (formula-spelt whole edition ranges 64 [] (l .start .after))
       (subst (λ (C : Declared). formula C 64 [] (l .start .after) ≡ found (s .formula) (l .formula .after)) whole-is (l .formula .is))
 
-  pub formula-fits : Each (Fits (D .edition)) (formulaWords (s .formula))
+  formula-fits : Each (Fits (D .edition)) (formulaWords (s .formula))
   formula-fits = formula-here .fits
 
   feed-here : Same Anything (mark feed) (bytes "\n") tt (l .formula .after) (l .feed .after)

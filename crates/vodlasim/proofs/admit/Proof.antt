@@ -57,7 +57,8 @@ same-length-3 c = search needs
 
 returns-3 : tie.Need-returns-3
 returns-3 c =
-    let at-read = c .before .before .before .before .before .before in
+    let at-clear = c .before .before in
+    let at-read = at-clear .before .before .before .before in
     let at-if2 = at-read .before .before in
     let at-if1 = at-if2 .before in
     let at-room = at-if1 .before in
@@ -65,7 +66,7 @@ returns-3 c =
     let enough = sym (at-room .room .ensures) ∙ not-false _ (at-if1 .if1 .left) in
     let short = le-leb (length (a .sheet .now)) 4096 (at-if2 .if2 .left) in (
       at-read .read-only .ensures .0 ∙ sym (ap readingOf (reads-only (a .edition) (a .sheet .now) (length (a .work .now)) (a .size) enough short)),
-      c .before .before .clear3 .ensures ∙ ap (λ n. replicate n 0) (at-read .read-only .kept .1 .1 .0),
+      at-clear .clear3 .ensures ∙ ap (λ n. replicate n 0) (at-read .read-only .kept .1 .1 .0),
     )
 
 pub admit-spec : {M : Type 1} → statement M

@@ -15,11 +15,11 @@ use Rattle.mover.proofs.words.put_piece.Statement.{statement}
 use Rattle.mover.proofs.words.put_piece.Tie as tie
 
 abbrev start : tie.After-begins → tie.Start
-start c = c .before .before .before .before .before .before .before .before
+start c = let at-div = c .before .before .before .before in at-div .before .before .before .before
 
 -- where there is no word of the one kind
 abbrev first : tie.After-begins2 → tie.Else1
-first c = c .before .before .before .before .before .before
+first c = let at-modulo = c .before .before .before .before in at-modulo .before .before
 
 abbrev rest : tie.Start → Bytes
 rest c = drop (c .args .from) (c .args .s .now)
