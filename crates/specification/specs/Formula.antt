@@ -1,12 +1,14 @@
 -- A formula: tokens in prefix order, one space between, at most 1,024 of them in all lines, nested at most 64 deep. At one token come 9, then
--- 4 for a constant or a procedure's number in bad form, then 6, then 7, 11 or 12, then 8; the byte after it is looked at only after these.
--- Assumes nothing.
+-- 4 for a constant or a procedure's number in bad form, then 6, then 7, 11 or 12, then 8, then at an upper bound 17; the byte after it is
+-- looked at only after these. Assumes nothing.
 use Prim.Native.Nat.{ℕ, zero, suc}
-use mathlib.Core.Bool.{Bool, false, _||_}
+use mathlib.Core.Bool.{Bool, false, not, _&&_, _||_}
 use mathlib.Core.List.{List, [], _∷_}
 use mathlib.Core.Option.{Option}
 use lib.ListN.{length}
 use lib.Dec.{ltb, eqb}
+use lib.IntN.{ℤ}
+use lib.Signed.{leZ}
 use Rattle.specification.specs.Bytes.{Bytes, pick, space, inToken}
 use Rattle.specification.specs.Parser.{Parser, refused, found, give, refuse, require, present, _>>=_, _>>_, here, mark, taken}
 use Rattle.specification.specs.Lines.{Declared, procedureOf}
@@ -62,6 +64,30 @@ abbrev pub bind : ℕ → ℕ → Parser ℕ
 bind p l r =
     pick (has l (r .bound)) (refused 8 p)
     (found l (record { place = r .place; rest = r .rest; tokens = r .tokens; bound = l ∷ r .bound }))
+
+-- ---- empty ranges, which are typing slips (document 02, Nine)
+
+-- the bound is a constant, and x is above it
+unfoldable pub above : ℤ → Term → Bool
+above x (constant y) = not (leZ x y)
+above x (scalarAt n) = false
+above x (localAt l) = false
+above x (parameter n) = false
+above x (elementAt a t) = false
+above x (apply o s t) = false
+
+-- both bounds are constants, and the lower is above the upper
+unfoldable pub emptyRange : Term → Term → Bool
+emptyRange (constant x) b = above x b
+emptyRange (scalarAt n) b = false
+emptyRange (localAt l) b = false
+emptyRange (parameter n) b = false
+emptyRange (elementAt a t) b = false
+emptyRange (apply o s t) b = false
+
+-- the range of a quantifier at p; where empty ones are refused, it is 17
+abbrev pub nonEmpty : Bool → ℕ → Term → Term → Parser (Unit {0})
+nonEmpty refusing p a b = require (not (refusing && emptyRange a b)) 17 p (give tt)
 
 -- ---- a token of each sort; k is how much deeper nesting may go
 
@@ -120,25 +146,38 @@ module _ (D : Declared) where
   arguments T zero = give []
   arguments T (suc n) = do t ← operand T; ts ← arguments T n; give (t ∷ ts)
 
-  -- F, a formula: each word with its own operands. A binder's local is in scope in its F, not in its bounds
-  abbrev pub formulaOf : (Locals → Parser Formula) → Parser Term → Parser ℕ → Parser ℕ → Locals → ℕ → FormulaWord → Parser Formula
-  formulaOf F T L K S n trueWord = give truth
-  formulaOf F T L K S n andWord = do f ← operand (F S); g ← operand (F S); give (and f g)
-  formulaOf F T L K S n orWord = do f ← operand (F S); g ← operand (F S); give (or f g)
-  formulaOf F T L K S n impWord = do f ← operand (F S); g ← operand (F S); give (imp n f g)
-  formulaOf F T L K S n notWord = do f ← operand (F S); give (neg n f)
-  formulaOf F T L K S n eqWord = do s ← operand T; t ← operand T; give (eq n s t)
-  formulaOf F T L K S n (relWord r) = do s ← operand T; t ← operand T; give (compare n r s t)
-  formulaOf F T L K S n exWord = do l ← operand L; f ← operand (F (l ∷ S)); give (ex l f)
-  formulaOf F T L K S n someWord = do l ← operand L; a ← operand T; b ← operand T; f ← operand (F (l ∷ S)); give (some n l a b f)
-  formulaOf F T L K S n allWord = do l ← operand L; a ← operand T; b ← operand T; f ← operand (F (l ∷ S)); give (all n l a b f)
-  formulaOf F T L K S n callWord = do
+-- F, a formula: each word with its own operands. A binder's local is in scope in its F, not in its bounds
+module _ (refusing : Bool) (D : Declared) where
+  abbrev pub formulaOf : (Locals → Parser Formula) → Parser Term → Parser ℕ → Parser ℕ → Locals → ℕ → ℕ → FormulaWord → Parser Formula
+  formulaOf F T L K S p n trueWord = give truth
+  formulaOf F T L K S p n andWord = do f ← operand (F S); g ← operand (F S); give (and f g)
+  formulaOf F T L K S p n orWord = do f ← operand (F S); g ← operand (F S); give (or f g)
+  formulaOf F T L K S p n impWord = do f ← operand (F S); g ← operand (F S); give (imp n f g)
+  formulaOf F T L K S p n notWord = do f ← operand (F S); give (neg n f)
+  formulaOf F T L K S p n eqWord = do s ← operand T; t ← operand T; give (eq n s t)
+  formulaOf F T L K S p n (relWord r) = do s ← operand T; t ← operand T; give (compare n r s t)
+  formulaOf F T L K S p n exWord = do l ← operand L; f ← operand (F (l ∷ S)); give (ex l f)
+  formulaOf F T L K S p n someWord = do
+    l ← operand L
+    a ← operand T
+    b ← operand T
+    nonEmpty refusing p a b
+    f ← operand (F (l ∷ S))
+    give (some n l a b f)
+  formulaOf F T L K S p n allWord = do
+    l ← operand L
+    a ← operand T
+    b ← operand T
+    nonEmpty refusing p a b
+    f ← operand (F (l ∷ S))
+    give (all n l a b f)
+  formulaOf F T L K S p n callWord = do
     J ← operand K
-    ts ← arguments T (procedureOf D J .parameters)
+    ts ← arguments D T (procedureOf D J .parameters)
     give (call J ts (fill ts (procedureOf D J .formula)))
 
   abbrev pub formulaWith : (Locals → Parser Formula) → Parser Term → Parser ℕ → Parser ℕ → Locals → Token → Word → Parser Formula
-  formulaWith F T L K S t (formulaWord w) = formulaOf F T L K S (t .number) w
+  formulaWith F T L K S t (formulaWord w) = formulaOf F T L K S (t .place) (t .number) w
   formulaWith F T L K S t (termWord w) = refuse 6 (t .place)
   formulaWith F T L K S t (numberWord n) = refuse 6 (t .place)
   formulaWith F T L K S t unknown = refuse 6 (t .place)
@@ -147,4 +186,4 @@ module _ (D : Declared) where
   formula zero S = tooDeep
   formula (suc k) S =
       token (wordOf (D .edition)) >>= λ t.
-      formulaWith (λ S′ r. formula k S′ r) (λ r. term k S r) (λ r. binder k r) (λ r. procedure k r) S t (t .word)
+      formulaWith (λ S′ r. formula k S′ r) (λ r. term D k S r) (λ r. binder D k r) (λ r. procedure D k r) S t (t .word)

@@ -1,7 +1,7 @@
 -- The outcome of a call, from the sheet's bytes, the setting and the lengths of the lent memory; and what stands in the lent memory
 -- afterwards. Assumes nothing.
 use Prim.Native.Nat.{ℕ, _+_, _*_}
-use mathlib.Core.Bool.{Bool, _&&_}
+use mathlib.Core.Bool.{Bool, true, _&&_}
 use mathlib.Core.List.{List, [], _∷_, _++_}
 use lib.ListN.{length, drop, replicate}
 use lib.Dec.{leb}
@@ -14,7 +14,7 @@ use Rattle.specification.specs.declared.Outcome.the-variants.{Refused, R
 use Rattle.specification.specs.Bytes.{Bytes, pick, between}
 use Rattle.specification.specs.Parser.{Read, refused, found}
 use Rattle.specification.specs.Given.{Item}
-use Rattle.specification.specs.Sheet.{Sheet, read}
+use Rattle.specification.specs.Sheet.{Sheet, readWith}
 use Rattle.specification.specs.Place.{cell, put}
 use Rattle.specification.specs.Value.{Valuation, empty, full}
 use Rattle.specification.specs.Tree.{Tree, treeOf}
@@ -70,10 +70,14 @@ wordsFor limit = 6144 + 12 * limit
 abbrev pub enoughMemory : Setting → ℕ → Bool
 enoughMemory S words = between 1 longestPath (S .path) && leb (wordsFor (S .path)) words
 
-unfoldable pub call : Bytes → Setting → ℕ → ℕ → Result
-call sheet S words size =
-    let r = afterReading S size (read sheet) in
+-- read strictly, or as before empty ranges were refused
+unfoldable pub callWith : Bool → Bytes → Setting → ℕ → ℕ → Result
+callWith strict sheet S words size =
+    let r = afterReading S size (readWith strict sheet) in
     pick (enoughMemory S words) (pick (leb (length sheet) 4096) r (refusal 2 4096)) (refusal 1 0)
+
+abbrev pub call : Bytes → Setting → ℕ → ℕ → Result
+call sheet S words size = callWith true sheet S words size
 
 -- ---- what is returned, and the lent memory afterwards
 

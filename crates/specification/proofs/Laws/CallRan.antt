@@ -13,7 +13,7 @@ use Rattle.specification.specs.Bytes.{Bytes, pick, between}
 use Rattle.specification.specs.Parser.{Reader, Read, refused, found}
 use Rattle.specification.specs.Sheet.{Sheet, read}
 use Rattle.specification.specs.Run.{Run, going, stopped}
-use Rattle.specification.specs.Outcome.{refusal, ran, resultOf, runOf, afterReading, longestPath, wordsFor, enoughMemory, call}
+use Rattle.specification.specs.Outcome.{refusal, ran, resultOf, runOf, afterReading, longestPath, wordsFor, enoughMemory, callWith, call}
 use Rattle.specification.proofs.Laws.Contradiction.{contradiction}
 
 refusal-not-ran : {A : Type 0} {n p : ℕ} {e : End} {t : Tallies} {w : Bytes} → refusal n p ≡ ran e t w → A
@@ -32,7 +32,7 @@ module _ (sheet : Bytes) where
   checked limit = pick (between 1 longestPath limit) (pick (leb (length sheet) 4096) (read sheet) (refused 2 4096)) (refused 1 0)
 
   call-checked : (S : Setting) (words size : ℕ) → wordsFor (S .path) ≤ words → call sheet S words size ≡ afterReading S size (checked (S .path))
-  unfolding call
+  unfolding callWith
   call-checked S words size enough =
       rw (le-leb (wordsFor (S .path)) words enough) (go (between 1 longestPath (S .path)) (leb (length sheet) 4096))
     where
@@ -53,13 +53,13 @@ module _ (sheet : Bytes) where
 
     -- a call that ran had work words enough
     pub ran-enough : call sheet S words size ≡ ran e t w → wordsFor (S .path) ≤ words
-    unfolding call
+    unfolding callWith
     ran-enough h =
         leb-true (wordsFor (S .path)) words
         (tests-passed (between 1 longestPath (S .path)) (leb (wordsFor (S .path)) words) (leb (length sheet) 4096) h .0)
 
     checked-ran : call sheet S words size ≡ ran e t w → checked (S .path) ≡ read sheet
-    unfolding call
+    unfolding callWith
     checked-ran h = tests-passed (between 1 longestPath (S .path)) (leb (wordsFor (S .path)) words) (leb (length sheet) 4096) h .1
 
 -- ---- of one call
@@ -78,7 +78,7 @@ call-ran sheet S words size e t w h =
 
 pub call-refused : (sheet : Bytes) (S : Setting) (words size n p : ℕ) → read sheet ≡ refused n p →
     (k : ℕ) × (q : ℕ) × (call sheet S words size ≡ refusal k q)
-unfolding call
+unfolding callWith
 call-refused sheet S words size n p h = rw h (byTests (enoughMemory S words) (leb (length sheet) 4096))
   where
     byTests : (a b : Bool) → (k : ℕ) × (q : ℕ) × (pick a (pick b (refusal n p) (refusal 2 4096)) (refusal 1 0) ≡ refusal k q)

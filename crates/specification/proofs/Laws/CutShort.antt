@@ -5,6 +5,7 @@ use Prim.Native.Nat.{ℕ, _<_}
 use native.Mathlib.Omega.{arith}
 use native.Mathlib.Nat.{zero-add, add-zero}
 use mathlib.Core.Path.{_≡_, refl, _∙_, ap}
+use mathlib.Core.Bool.{Bool, true}
 use mathlib.Core.List.{[], _∷_, _++_}
 use mathlib.Core.Option.{Option}
 use lib.ListN.{length}
@@ -12,7 +13,7 @@ use Rattle.specification.specs.Bytes.{Bytes, bytes, feed, inToken}
 use Rattle.specification.specs.Parser.{Reader, Read, refused, found, Parser, give, _>>_, andThen, mark, finish}
 use Rattle.specification.specs.Words.{Word}
 use Rattle.specification.specs.Formula.{token}
-use Rattle.specification.specs.Sheet.{withProcedures, mostProcedures, Sheet, sheet, opened, read}
+use Rattle.specification.specs.Sheet.{withProcedures, mostProcedures, Sheet, refuses, sheet, opened, readWith, read}
 use Rattle.specification.proofs.Laws.Contradiction.{contradiction}
 use Rattle.specification.proofs.Laws.Parser.{Post, refusal as refused-post, holds, of-found, bind-post}
 use Rattle.specification.proofs.Laws.LineReaders.{Composed}
@@ -81,20 +82,20 @@ module _ (q : Bytes) (more : Left q) where
     bind = λ p l h. bind-local-steady p l;
   }
 
-  sheet-over : (r : Reader) → Post (Over q r (sheet (extended q r))) (sheet r)
-  sheet-over =
-      sheet-by steady-composed (λ m. (r : Reader) → Post (Over q r (m (extended q r))) (m r)) (λ A m f h k r. bind-over (h r) k)
+  sheet-over : (strict : Bool) (r : Reader) → Post (Over q r (sheet strict (extended q r))) (sheet strict r)
+  sheet-over strict =
+      sheet-by steady-composed (λ m. (r : Reader) → Post (Over q r (m (extended q r))) (m r)) (λ A m f h k r. bind-over (h r) k) strict
       (λ E is r.
-      bind-over (procedures-by steady-tokened (mostProcedures (E .edition)) E r) λ Ps r₁.
+      bind-over (procedures-by steady-tokened (refuses strict (E .edition)) (mostProcedures (E .edition)) E r) λ Ps r₁.
       bind-over (exactly-steady 3 (bytes "formula=") r₁) λ u r₂.
-      bind-over (formula-by steady-tokened (withProcedures Ps E) 64 [] r₂) λ F r₃. end-over _ r₃)
+      bind-over (formula-by steady-tokened (withProcedures Ps E) (refuses strict (E .edition)) 64 [] r₂) λ F r₃. end-over _ r₃)
 
 -- ---- the laws
 
 -- an accepted sheet with bytes after it is refused with 5, at the first of them
 pub longer-refused : (p q : Bytes) (s : Sheet) (r : Reader) → 0 < length q → read p ≡ found s r → read (p ++ q) ≡ refused 5 (length p)
-unfolding read
-longer-refused p q s r h e = of-found (sheet-over q h (opened p)) e .over ∙ ap (refused 5) (zero-add (length p))
+unfolding readWith
+longer-refused p q s r h e = of-found (sheet-over q h true (opened p)) e .over ∙ ap (refused 5) (zero-add (length p))
 
 -- a proper beginning of an accepted sheet is refused
 pub shorter-refused : (p q : Bytes) (s : Sheet) (r : Reader) → 0 < length q → read (p ++ q) ≡ found s r →

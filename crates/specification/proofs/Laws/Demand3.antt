@@ -1,6 +1,7 @@
 -- What a call that ran has told (the second and the third demand, that listed answers are right and no listed value is outside its range,
 -- whatever ended the run), for every sheet of whatever bytes and every setting. And truth of a filling is two-valued. Assumes nothing.
 use Prim.Native.Nat.{ℕ}
+use mathlib.Core.Bool.{true}
 use mathlib.Core.Path.{_≡_, refl, sym, _∙_, ap, subst}
 use mathlib.Core.List.{[], append-nil}
 use lib.ListN.{length, take}
@@ -68,7 +69,7 @@ pub told : (sheet : Bytes) (S : Setting) (words size : ℕ) (end : End) (t : Tal
     call sheet S words size ≡ ran end t w → Told sheet w S size end t
 told sheet S words size end t w h =
     let (s, r, reads, result) = call-ran sheet S words size end t w h in
-    let wf = read-well-formed sheet s r reads in
+    let wf = read-well-formed true sheet s r reads in
     let (bs, stands, tree) = subst (Holds s S size) result (read-left-to-right s S size) in
     record {
       listed = record {

@@ -2,17 +2,18 @@
 -- of the procedures' lines: a law for each reader of specs/Formula.antt and specs/Sheet.antt, in their order. Assumes nothing.
 use Prim.Native.Nat.{ℕ, zero, suc}
 use mathlib.Core.Path.{refl}
+use mathlib.Core.Bool.{Bool, not, _&&_}
 use mathlib.Core.List.{List, [], _∷_, _++_}
 use mathlib.Core.Option.{Option}
 use lib.ListN.{length}
 use lib.Dec.{ltb}
 use Rattle.specification.specs.Bytes.{Bytes, bytes, space, feed, colon}
-use Rattle.specification.specs.Parser.{Parser, give, refuse, _>>=_, here}
+use Rattle.specification.specs.Parser.{Parser, give, refuse, _>>=_, _>>_, here}
 use Rattle.specification.specs.Lines.{Declared, procedureOf}
 use Rattle.specification.specs.Ast.{Procedure, Term, constant, scalarAt, localAt, parameter, elementAt, apply, Formula, truth, and, or, imp, neg, eq, compare, ex, some, all, call}
 use Rattle.specification.specs.Fill.{fill}
 use Rattle.specification.specs.Words.{FormulaWord, trueWord, andWord, orWord, impWord, notWord, eqWord, exWord, someWord, allWord, callWord, relWord, TermWord, constantWord, scalarWord, localWord, arrayWord, parameterWord, opWord, Word, formulaWord, termWord, numberWord, unknown, wordOf, numberOf}
-use Rattle.specification.specs.Formula.{Token, token, operand, tooDeep, Locals, has, bind, binderOf, binderWith, binder, procedureWith, procedure, termOf, termWith, term, arguments, formulaOf, formulaWith, formula}
+use Rattle.specification.specs.Formula.{Token, token, operand, tooDeep, Locals, has, bind, binderOf, binderWith, binder, procedureWith, procedure, termOf, termWith, term, arguments, emptyRange, nonEmpty, formulaOf, formulaWith, formula}
 use Rattle.specification.specs.Sheet.{withParameters, withProcedures, procedureLine, procedureLines}
 use Rattle.specification.proofs.Laws.LineReaders.{Composed, then, require-by, pick-by, count-by}
 
@@ -103,59 +104,64 @@ module _ {P : ℕ → Type 0} {Q : (A : Type 0) → Parser A → Type 0} (k : To
     arguments-by T′ h zero = c .give (List Term) []
     arguments-by T′ h (suc n) = then c (operand-by h) λ t. then c (arguments-by T′ h n) λ ts. c .give (List Term) (t ∷ ts)
 
-    module _ (F : Locals → Parser Formula) (T′ : Parser Term) (L K : Parser ℕ)
-        (f : (S : Locals) → Q Formula (F S)) (h : Q Term T′) (b : Q ℕ L) (p : Q ℕ K) (S : Locals) where
-      quantified : (g : ℕ → Term → Term → Formula → Formula) →
-          Q Formula (operand L >>= λ l. operand T′ >>= λ x. operand T′ >>= λ y. operand (F (l ∷ S)) >>= λ z. give (g l x y z))
-      quantified g =
+    module _ (refusing : Bool) (F : Locals → Parser Formula) (T′ : Parser Term) (L K : Parser ℕ)
+        (f : (S : Locals) → Q Formula (F S)) (h : Q Term T′) (b : Q ℕ L) (j : Q ℕ K) (S : Locals) where
+      quantified : (p : ℕ) → P p → (g : ℕ → Term → Term → Formula → Formula) →
+          Q Formula (operand L >>= λ l. operand T′ >>= λ x. operand T′ >>= λ y.
+          nonEmpty refusing p x y >> (operand (F (l ∷ S)) >>= λ z. give (g l x y z)))
+      quantified p i g =
           then c (operand-by b) λ l.
           then c (operand-by h) λ x.
-          then c (operand-by h) λ y. then c (operand-by (f (l ∷ S))) λ z. c .give Formula (g l x y z)
+          then c (operand-by h) λ y.
+          then c (require-by c (not (refusing && emptyRange x y)) 17 p refl i (c .give (Unit {0}) tt)) λ u.
+          then c (operand-by (f (l ∷ S))) λ z. c .give Formula (g l x y z)
 
-      formula-of : (n : ℕ) (w : FormulaWord) → Q Formula (formulaOf D F T′ L K S n w)
-      formula-of n trueWord = c .give Formula truth
-      formula-of n andWord = two-by (f S) and
-      formula-of n orWord = two-by (f S) or
-      formula-of n impWord = two-by (f S) (imp n)
-      formula-of n notWord = then c (operand-by (f S)) λ x. c .give Formula (neg n x)
-      formula-of n eqWord = two-by h (eq n)
-      formula-of n (relWord r) = two-by h (compare n r)
-      formula-of n exWord = then c (operand-by b) λ l. then c (operand-by (f (l ∷ S))) λ x. c .give Formula (ex l x)
-      formula-of n someWord = quantified (some n)
-      formula-of n allWord = quantified (all n)
-      formula-of n callWord =
-          then c (operand-by p) λ J.
+      formula-of : (p n : ℕ) (w : FormulaWord) → P p → Q Formula (formulaOf refusing D F T′ L K S p n w)
+      formula-of p n trueWord i = c .give Formula truth
+      formula-of p n andWord i = two-by (f S) and
+      formula-of p n orWord i = two-by (f S) or
+      formula-of p n impWord i = two-by (f S) (imp n)
+      formula-of p n notWord i = then c (operand-by (f S)) λ x. c .give Formula (neg n x)
+      formula-of p n eqWord i = two-by h (eq n)
+      formula-of p n (relWord r) i = two-by h (compare n r)
+      formula-of p n exWord i = then c (operand-by b) λ l. then c (operand-by (f (l ∷ S))) λ x. c .give Formula (ex l x)
+      formula-of p n someWord i = quantified p i (some n)
+      formula-of p n allWord i = quantified p i (all n)
+      formula-of p n callWord i =
+          then c (operand-by j) λ J.
           then c (arguments-by T′ h (procedureOf D J .parameters)) λ ts. c .give Formula (call J ts (fill ts (procedureOf D J .formula)))
 
-      formula-with : (t : Token) (w : Word) → P (t .place) → Q Formula (formulaWith D F T′ L K S t w)
-      formula-with t (formulaWord w) i = formula-of (t .number) w
+      formula-with : (t : Token) (w : Word) → P (t .place) → Q Formula (formulaWith refusing D F T′ L K S t w)
+      formula-with t (formulaWord w) i = formula-of (t .place) (t .number) w i
       formula-with t (termWord w) i = c .refuse Formula 6 (t .place) refl i
       formula-with t (numberWord n) i = c .refuse Formula 6 (t .place) refl i
       formula-with t unknown i = c .refuse Formula 6 (t .place) refl i
 
-    pub formula-by : (n : ℕ) (S : Locals) → Q Formula (formula D n S)
+    pub formula-by : (refusing : Bool) (n : ℕ) (S : Locals) → Q Formula (formula refusing D n S)
     unfolding formula
-    formula-by zero S = deep-by Formula
-    formula-by (suc n) S =
-        k .token (wordOf (D .edition)) Formula (λ t. formulaWith D (λ S′ r. formula D n S′ r) (λ r. term D n S r) (λ r. binder D n r) (λ r. procedure D n r) S t (t .word)) λ t i.
-        formula-with (λ S′ r. formula D n S′ r) (λ r. term D n S r) (λ r. binder D n r) (λ r. procedure D n r)
-        (λ S′. formula-by n S′) (term-by n S) (binder-by n) (procedure-by n) S t (t .word) i
+    formula-by refusing zero S = deep-by Formula
+    formula-by refusing (suc n) S =
+        let F : Locals → Parser Formula = λ S′ r. formula refusing D n S′ r in
+        k .token (wordOf (D .edition)) Formula
+        (λ t. formulaWith refusing D F (λ r. term D n S r) (λ r. binder D n r) (λ r. procedure D n r) S t (t .word)) λ t i.
+        formula-with refusing F (λ r. term D n S r) (λ r. binder D n r) (λ r. procedure D n r)
+        (λ S′. formula-by refusing n S′) (term-by n S) (binder-by n) (procedure-by n) S t (t .word) i
 
   -- ---- the procedures' lines
 
-  procedure-line-by : (D : Declared) → Q Procedure (procedureLine D)
+  procedure-line-by : (refusing : Bool) (D : Declared) → Q Procedure (procedureLine refusing D)
   unfolding procedureLine
-  procedure-line-by D =
+  procedure-line-by refusing D =
       then c (c .exactly 3 (bytes "proc=") refl) λ u.
       then c (count-by c 0 8) λ n.
       then c (c .mark colon) λ u.
-      then c (formula-by (withParameters n D) 64 []) λ F.
+      then c (formula-by (withParameters n D) refusing 64 []) λ F.
       then c (c .mark feed) λ u. c .give Procedure (record { parameters = n; formula = F })
 
-  pub procedures-by : (n : ℕ) (D : Declared) → Q (List Procedure) (procedureLines n D)
+  pub procedures-by : (refusing : Bool) (n : ℕ) (D : Declared) → Q (List Procedure) (procedureLines refusing n D)
   unfolding procedureLines
-  procedures-by zero D = c .give (List Procedure) (D .procedures)
-  procedures-by (suc n) D =
+  procedures-by refusing zero D = c .give (List Procedure) (D .procedures)
+  procedures-by refusing (suc n) D =
       then c (c .spells _) λ more.
-      pick-by c more (then c (procedure-line-by D) λ P. procedures-by n (withProcedures (D .procedures ++ (P ∷ [])) D))
+      pick-by c more (then c (procedure-line-by refusing D) λ P. procedures-by refusing n (withProcedures (D .procedures ++ (P ∷ [])) D))
       (c .give (List Procedure) (D .procedures))

@@ -12,19 +12,19 @@ use Rattle.specification.specs.Bytes.{Bytes, bytes, pick, between, Class
 use Rattle.specification.specs.Number.{natural, integer, in32}
 use Rattle.specification.specs.Parser.{Parser, give, refuse, require, present, _>>=_, _>>_, here, sees, spells, mark, exactly, taken}
 use Rattle.specification.specs.Lines.{index, count, value, line, Range, Declared, lengths, arraysLine, range, ranges, firstRanged, rangesLine, CellName, scalar, element, isDeclared, cellOf, inRange}
-use Rattle.specification.proofs.Laws.Parser.{refuses}
+use Rattle.specification.proofs.Laws.Parser.{refusesWith}
 use Rattle.specification.specs.Given.{Item, scalarName, elementName, name, item, items, givenLine}
 
 -- Q of a reader, where P holds of each place that is read from; a refusal has a number from 3 to 14
 pub record Composed (P : ℕ → Type 0) (Q : (A : Type 0) → Parser A → Type 0) : Type 1 where
   pub give : (A : Type 0) (a : A) → Q A (give a)
-  pub refuse : (A : Type 0) (n p : ℕ) → refuses n ≡ true → P p → Q A (refuse n p)
+  pub refuse : (A : Type 0) (n p : ℕ) → refusesWith n ≡ true → P p → Q A (refuse n p)
   pub bind : (A B : Type 0) (m : Parser A) (f : A → Parser B) → Q A m → ((a : A) → Q B (f a)) → Q B (m >>= f)
   pub here : (B : Type 0) (f : ℕ → Parser B) → ((p : ℕ) → P p → Q B (f p)) → Q B (here >>= f)
   pub sees : (c : Class) → Q Bool (sees c)
   pub spells : (k : ℕ) → Q Bool (spells (k ∷ []))
   pub mark : (c : Class) → Q (Unit {0}) (mark c)
-  pub exactly : (n : ℕ) (k : Bytes) → refuses n ≡ true → Q (Unit {0}) (exactly n k)
+  pub exactly : (n : ℕ) (k : Bytes) → refusesWith n ≡ true → Q (Unit {0}) (exactly n k)
   pub taken : (f : ℕ → Bool) → Q Bytes (taken f)
 
 module _ {P : ℕ → Type 0} {Q : (A : Type 0) → Parser A → Type 0} (c : Composed P Q) where
@@ -34,11 +34,11 @@ module _ {P : ℕ → Type 0} {Q : (A : Type 0) → Parser A → Type 0} (c : Co
   then {A} {B} {m} {f} h k = c .bind A B m f h k
 
   module _ {A : Type 0} where
-    pub require-by : (b : Bool) (n p : ℕ) {m : Parser A} → refuses n ≡ true → P p → Q A m → Q A (require b n p m)
+    pub require-by : (b : Bool) (n p : ℕ) {m : Parser A} → refusesWith n ≡ true → P p → Q A m → Q A (require b n p m)
     require-by true n p t i h = h
     require-by false n p t i h = c .refuse A n p t i
 
-    present-by : (n p : ℕ) (o : Option A) → refuses n ≡ true → P p → Q A (present n p o)
+    present-by : (n p : ℕ) (o : Option A) → refusesWith n ≡ true → P p → Q A (present n p o)
     present-by n p none t i = c .refuse A n p t i
     present-by n p (some a) t i = c .give A a
 

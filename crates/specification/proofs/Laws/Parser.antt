@@ -1,16 +1,16 @@
 -- What holds of anything that is read, and of a refusal: a law for each way in which readers are put together. Assumes nothing.
 use Prim.Native.Nat.{ℕ}
 use mathlib.Core.Path.{_≡_, refl, subst}
-use mathlib.Core.Bool.{Bool, true, false, not, _&&_}
+use mathlib.Core.Bool.{Bool, true, false, not, _&&_, _||_}
 use mathlib.Core.Option.{Option, none, some}
-use lib.Dec.{T}
+use lib.Dec.{T, eqb}
 use Rattle.specification.specs.Bytes.{pick, between}
 use Rattle.specification.specs.Parser.{Reader, Read, refused, found, Parser, require, present, andThen}
 use Rattle.specification.proofs.Laws.Contradiction.{contradiction}
 
 -- the numbers of the refusals of reading
-abbrev pub refuses : ℕ → Bool
-refuses n = between 3 14 n
+abbrev pub refusesWith : ℕ → Bool
+refusesWith n = between 3 14 n || eqb n 17
 
 -- ---- tests
 
@@ -61,6 +61,11 @@ module _ {R : ℕ → ℕ → Type 0} {A : Type 0} {P : A → Reader → Type 0}
   pub map-post : {Q : A → Reader → Type 0} {x : Read A} → ((a : A) (r : Reader) → P a r → Q a r) → Reading R P x → Reading R Q x
   map-post f (refusal h) = refusal h
   map-post f (holds h) = holds (f _ _ h)
+
+  -- two laws of one reading
+  pub both-post : {Q : A → Reader → Type 0} {x : Read A} → Reading R P x → Post Q x → Reading R (λ a r. P a r × Q a r) x
+  both-post (refusal h) k = refusal h
+  both-post (holds h) (holds k) = holds (h, k)
 
   -- ---- each way to put readers together
 

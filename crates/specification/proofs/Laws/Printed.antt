@@ -8,11 +8,11 @@ use lib.Seq.{take-all, take-take, length-take-le}
 use lib.Dec.{leb}
 use borrow.Author.Tests.{leb-true, leb-false, lt-leb}
 use Rattle.specification.specs.Bytes.{Bytes}
-use Rattle.specification.specs.Outcome.{refusal, call}
+use Rattle.specification.specs.Outcome.{refusal, callWith, call}
 use Rattle.specification.specs.Printed.{printed, boxSetting, boxWords, boxOutput, boxInput, box}
 
 too-long : (b : Bytes) → 4096 < length b → call b boxSetting boxWords boxOutput ≡ refusal 2 4096
-unfolding call
+unfolding callWith
 too-long b h = rw (lt-leb (length b) 4096 h) refl
 
 pub box-whole : (input : Bytes) → box input ≡ printed (call input boxSetting boxWords boxOutput)

@@ -113,7 +113,7 @@ pub fillings-of-32 : (b : Bytes) (s : Sheet) (r : Reader) → read b ≡ found s
 unfolding Fills
 fillings-of-32 b s r e h φ =
     let D = s .declared in
-    let none = no-ranges D (read-well-formed b s r e .limits) h in (
+    let none = no-ranges D (read-well-formed true b s r e .limits) h in (
       (λ f c l. allowed-in32 D (cell c) (φ c) (f c l)),
       (λ f c l. in32-inRange D none c (φ c) (f c l)),
     )

@@ -1,18 +1,20 @@
--- A sheet is refused at one of its bytes or at its end, with a number from 3 to 14. Assumes nothing.
+-- A sheet is refused at one of its bytes or at its end, with a number from 3 to 14 or with 17. Assumes nothing.
 use Prim.Native.Nat.{ℕ, _≤_}
 use native.Mathlib.Omega.{arith}
 use mathlib.Core.Path.{_≡_, refl}
+use mathlib.Core.Bool.{Bool, true, false, _||_}
+use mathlib.Core.Logic.{_⊎_, inl, inr}
 use mathlib.Core.List.{[]}
 use mathlib.Core.Option.{Option}
 use lib.ListN.{length}
-use lib.Dec.{leb, ltb}
-use borrow.Author.Tests.{leb-true}
-use Rattle.specification.specs.Bytes.{Bytes, bytes, feed, inToken}
+use lib.Dec.{leb, ltb, eqb}
+use borrow.Author.Tests.{leb-true, eqb-true}
+use Rattle.specification.specs.Bytes.{Bytes, bytes, between, feed, inToken}
 use Rattle.specification.specs.Parser.{Reader, refused}
 use Rattle.specification.specs.Words.{Word}
 use Rattle.specification.specs.Formula.{Token, numbered, token, has}
-use Rattle.specification.specs.Sheet.{withProcedures, mostProcedures, Sheet, sheet, opened, read}
-use Rattle.specification.proofs.Laws.Parser.{and-true, Reading, refusal, holds, of-refused, bind-post, present-post, pick-post}
+use Rattle.specification.specs.Sheet.{withProcedures, mostProcedures, Sheet, refuses, sheet, opened, readWith, read}
+use Rattle.specification.proofs.Laws.Parser.{refusesWith, and-true, Reading, refusal, holds, of-refused, bind-post, present-post, pick-post}
 use Rattle.specification.proofs.Laws.LineReaders.{Composed}
 use Rattle.specification.proofs.Laws.FormulaReaders.{Tokened, formula-by, procedures-by}
 use Rattle.specification.proofs.Laws.SheetLines.{sheet-by}
@@ -59,25 +61,32 @@ module _ (N : ℕ) where
     bind = λ p l h r i. pick-post (has l (r .bound)) _ _ (λ e. refusal (refl, h)) (λ e. holds i);
   }
 
-  sheet-safe : SafeParser N sheet
-  sheet-safe =
-      sheet-by safe-composed (SafeParser N) (λ A m f. safe-composed .bind A Sheet m f)
+  sheet-safe : (strict : Bool) → SafeParser N (sheet strict)
+  sheet-safe strict =
+      sheet-by safe-composed (SafeParser N) (λ A m f. safe-composed .bind A Sheet m f) strict
       (λ E is r i.
-      bind-post (procedures-by safe-tokened (mostProcedures (E .edition)) E r i) λ Ps r₁ i₁.
+      bind-post (procedures-by safe-tokened (refuses strict (E .edition)) (mostProcedures (E .edition)) E r i) λ Ps r₁ i₁.
       bind-post (exactly-safe N r₁ i₁ 3 (bytes "formula=") refl) λ u r₂ i₂.
-      bind-post (formula-by safe-tokened (withProcedures Ps E) 64 [] r₂ i₂) λ F r₃ i₃.
+      bind-post (formula-by safe-tokened (withProcedures Ps E) (refuses strict (E .edition)) 64 [] r₂ i₂) λ F r₃ i₃.
       bind-post (mark-safe N r₃ i₃ feed) λ u r₄ i₄.
       bind-post (finish-safe N r₄ i₄) λ u r₅ i₅. holds i₅)
 
 -- the numbers 1 and 2 are the call's, not the reader's
 pub record RefusedWell (b : Bytes) (n p : ℕ) : Type 0 where
   pub least : 3 ≤ n
-  pub greatest : n ≤ 14
+  pub greatest : (n ≤ 14) ⊎ (n ≡ 17)
   pub place : p ≤ length b
 
+numbers : (n : ℕ) → refusesWith n ≡ true → (3 ≤ n) × ((n ≤ 14) ⊎ (n ≡ 17))
+numbers n e = go (between 3 14 n) refl e
+  where
+    go : (b : Bool) → between 3 14 n ≡ b → (b || eqb n 17) ≡ true → (3 ≤ n) × ((n ≤ 14) ⊎ (n ≡ 17))
+    go true k e = let t = and-true (leb 3 n) (leb n 14) k in (leb-true 3 n (t .0), inl (leb-true n 14 (t .1)))
+    go false k e = let h : n ≡ 17 = eqb-true n 17 e in (omega (arith, h), inr h)
+
 pub read-refused : (b : Bytes) (n p : ℕ) → read b ≡ refused n p → RefusedWell b n p
-unfolding read
+unfolding readWith
 read-refused b n p e =
-    let h = of-refused (sheet-safe (length b) (opened b) (omega arith)) e in
-    let t = and-true (leb 3 n) (leb n 14) (h .0) in
-    record { least = leb-true 3 n (t .0); greatest = leb-true n 14 (t .1); place = h .1 }
+    let h = of-refused (sheet-safe (length b) true (opened b) (omega arith)) e in
+    let t = numbers n (h .0) in
+    record { least = t .0; greatest = t .1; place = h .1 }

@@ -2,7 +2,7 @@
 -- an earlier procedure, well scoped where it is called, since no local has a binder in two lines. Assumes nothing.
 use Prim.Native.Nat.{ℕ, zero, suc, _<_}
 use mathlib.Core.Path.{_≡_, refl, sym, ap, subst}
-use mathlib.Core.Bool.{Bool, true, false, not, _||_}
+use mathlib.Core.Bool.{Bool, true, false, not, _&&_, _||_}
 use mathlib.Core.List.{List, [], _∷_}
 use mathlib.Core.Logic.{_⊎_, ⊎-elim}
 use lib.ListN.{length}
@@ -10,12 +10,12 @@ use lib.Dec.{T, ltb, eqb, eqb-refl}
 use borrow.Author.Tests.{ltb-true}
 use mir.Facts.{or-yes, eqb-yes}
 use Rattle.specification.specs.Lists.{Each}
-use Rattle.specification.specs.Parser.{Reader, Read, Parser, give, _>>=_}
+use Rattle.specification.specs.Parser.{Reader, Read, Parser, give, _>>=_, _>>_}
 use Rattle.specification.specs.Lines.{Declared, procedureOf}
 use Rattle.specification.specs.Ast.{Term, Formula, and, or, imp, eq, compare, ex, some, all, call}
 use Rattle.specification.specs.Fill.{fill}
 use Rattle.specification.specs.Words.{FormulaWord, trueWord, andWord, orWord, impWord, notWord, eqWord, exWord, someWord, allWord, callWord, relWord, TermWord, constantWord, scalarWord, localWord, arrayWord, parameterWord, opWord, Word, formulaWord, termWord, numberWord, unknown, wordOf, numberOf}
-use Rattle.specification.specs.Formula.{Token, operand, Locals, has, bind, binderOf, binderWith, binder, procedureWith, procedure, term, arguments, formulaOf, formulaWith, formula}
+use Rattle.specification.specs.Formula.{Token, operand, Locals, has, bind, binderOf, binderWith, binder, procedureWith, procedure, term, arguments, emptyRange, nonEmpty, formulaOf, formulaWith, formula}
 use Rattle.specification.specs.Outside.{binds}
 use Rattle.specification.specs.WellFormed.{nowhere, enter, OkTerm, Ok, OkProcedures}
 use Rattle.specification.proofs.Laws.Contradiction.{contradiction}
@@ -194,9 +194,10 @@ module _ (D : Declared) (B : Locals) (known : Known D B) where
       }
 
   -- a formula whose operands are nested at most k deep
-  module _ (k : ℕ) (ih : (S : Locals) (r : Reader) → Around S r → Post (FormulaRead S r) (formula D k S r)) (S : Locals) where
+  module _ (refusing : Bool) (k : ℕ)
+      (ih : (S : Locals) (r : Reader) → Around S r → Post (FormulaRead S r) (formula refusing D k S r)) (S : Locals) where
     abbrev F : Locals → Parser Formula
-    F S′ r = formula D k S′ r
+    F S′ r = formula refusing D k S′ r
 
     abbrev T′ : Parser Term
     T′ r = term D k S r
@@ -235,54 +236,57 @@ module _ (D : Declared) (B : Locals) (known : Known D B) where
         bind-post (operand-post (r .bound) T′ (term-post D S (r .bound) k) r₁ (h₁ .1)) λ y r₂ h₂.
         holds (record { ok = ok x y (h₁ .0) (h₂ .0); binders = λ l b. absurd (none x y l b); more = h₂ .1 })
 
-    quantified : (g : ℕ → Term → Term → Formula → Formula) →
+    quantified : (p : ℕ) (g : ℕ → Term → Term → Formula → Formula) →
         ((l : ℕ) (a b : Term) (G : Formula) → OkTerm D (scope S) a → OkTerm D (scope S) b → l < D .locals → T (not (has l S)) →
         Ok D (enter (scope S) l) G → FormulaIn S (g l a b G)) →
         ((l : ℕ) (a b : Term) (G : Formula) (j : ℕ) → T (binds (g l a b G) j) → T (eqb j l || binds G j)) →
         (r : Reader) → Around S r →
-        Post (FormulaRead S r) ((operand L >>= λ l. operand T′ >>= λ a. operand T′ >>= λ b. operand (F (l ∷ S)) >>= λ f. give (g l a b f)) r)
-    quantified g ok parts r a =
+        Post (FormulaRead S r) ((operand L >>= λ l. operand T′ >>= λ a. operand T′ >>= λ b.
+        nonEmpty refusing p a b >> (operand (F (l ∷ S)) >>= λ f. give (g l a b f))) r)
+    quantified p g ok parts r a =
         bind-post (operand-post (r .bound) L (binder-post D (r .bound) k) r (sub-refl (r .bound))) λ l r₁ h₁.
         bind-post (operand-post (l ∷ (r .bound)) T′ (term-post D S (l ∷ (r .bound)) k) r₁ (h₁ .2)) λ x r₂ h₂.
         bind-post (operand-post (l ∷ (r .bound)) T′ (term-post D S (l ∷ (r .bound)) k) r₂ (h₂ .1)) λ y r₃ h₃.
-        bind-post (sub-formula (l ∷ S) r₃ (around-bound l a (h₁ .1) (h₃ .1))) λ f r₄ h₄.
-        holds (bound-read l f (g l x y f) a (h₁ .1) (h₃ .1) h₄ (ok l x y f (h₂ .0) (h₃ .0) (h₁ .0)) (parts l x y f))
+        bind-post (require-post (not (refusing && emptyRange x y)) 17 p (give tt) r₃ tt λ e. holds {r = r₃} (h₃ .1)) λ u r₄ s₄.
+        bind-post (sub-formula (l ∷ S) r₄ (around-bound l a (h₁ .1) s₄)) λ f r₅ h₅.
+        holds (bound-read l f (g l x y f) a (h₁ .1) s₄ h₅ (ok l x y f (h₂ .0) (h₃ .0) (h₁ .0)) (parts l x y f))
 
-    formula-of : (n : ℕ) (w : FormulaWord) (r : Reader) → Around S r → Post (FormulaRead S r) (formulaOf D F T′ L K S n w r)
+    formula-of : (p n : ℕ) (w : FormulaWord) (r : Reader) → Around S r → Post (FormulaRead S r) (formulaOf refusing D F T′ L K S p n w r)
     unfolding Ok binds
-    formula-of n trueWord r a = holds (record { ok = tt; binders = λ l b. absurd b; more = sub-refl (r .bound) })
-    formula-of n andWord r a = two-formulas and (λ G H x y. (x, y)) (λ G H l b. b) r a
-    formula-of n orWord r a = two-formulas or (λ G H x y. (x, y)) (λ G H l b. b) r a
-    formula-of n impWord r a = two-formulas (imp n) (λ G H x y. (x, y)) (λ G H l b. b) r a
-    formula-of n notWord r a =
+    formula-of p n trueWord r a = holds (record { ok = tt; binders = λ l b. absurd b; more = sub-refl (r .bound) })
+    formula-of p n andWord r a = two-formulas and (λ G H x y. (x, y)) (λ G H l b. b) r a
+    formula-of p n orWord r a = two-formulas or (λ G H x y. (x, y)) (λ G H l b. b) r a
+    formula-of p n impWord r a = two-formulas (imp n) (λ G H x y. (x, y)) (λ G H l b. b) r a
+    formula-of p n notWord r a =
         bind-post (sub-formula S r a) λ f r₁ h. holds (record { ok = h .ok; binders = h .binders; more = h .more })
-    formula-of n eqWord r a = two-terms (eq n) (λ x y b c. (b, c)) (λ x y l b. b) r
-    formula-of n (relWord c) r a = two-terms (compare n c) (λ x y b c. (b, c)) (λ x y l b. b) r
-    formula-of n exWord r a =
+    formula-of p n eqWord r a = two-terms (eq n) (λ x y b c. (b, c)) (λ x y l b. b) r
+    formula-of p n (relWord c) r a = two-terms (compare n c) (λ x y b c. (b, c)) (λ x y l b. b) r
+    formula-of p n exWord r a =
         bind-post (operand-post (r .bound) L (binder-post D (r .bound) k) r (sub-refl (r .bound))) λ l r₁ h₁.
         bind-post (sub-formula (l ∷ S) r₁ (around-bound l a (h₁ .1) (h₁ .2))) λ f r₂ h₂.
         holds (bound-read l f (ex l f) a (h₁ .1) (h₁ .2) h₂ (λ z o. (h₁ .0, z, o)) (λ j b. b))
-    formula-of n someWord r a = quantified (some n) (λ l x y G hx hy d z h. (hx, hy, d, z, h)) (λ l x y G j b. b) r a
-    formula-of n allWord r a = quantified (all n) (λ l x y G hx hy d z h. (hx, hy, d, z, h)) (λ l x y G j b. b) r a
-    formula-of n callWord r a =
+    formula-of p n someWord r a = quantified p (some n) (λ l x y G hx hy d z h. (hx, hy, d, z, h)) (λ l x y G j b. b) r a
+    formula-of p n allWord r a = quantified p (all n) (λ l x y G hx hy d z h. (hx, hy, d, z, h)) (λ l x y G j b. b) r a
+    formula-of p n callWord r a =
         bind-post (operand-post (r .bound) K (procedure-post D (r .bound) k) r (sub-refl (r .bound))) λ J r₁ h₁.
         bind-post (arguments-post D (r .bound) S k (procedureOf D J .parameters) r₁ (h₁ .1)) λ ts r₂ h₂.
         holds (call-read J ts (h₁ .0) (h₂ .0 .0) (h₂ .0 .1) a (h₂ .1))
 
-    formula-with : (t : Token) (w : Word) (r : Reader) → Around S r → Post (FormulaRead S r) (formulaWith D F T′ L K S t w r)
-    formula-with t (formulaWord w) r a = formula-of (t .number) w r a
+    formula-with : (t : Token) (w : Word) (r : Reader) → Around S r → Post (FormulaRead S r) (formulaWith refusing D F T′ L K S t w r)
+    formula-with t (formulaWord w) r a = formula-of (t .place) (t .number) w r a
     formula-with t (termWord w) r a = refusal tt
     formula-with t (numberWord n) r a = refusal tt
     formula-with t unknown r a = refusal tt
 
-  formula-around : (k : ℕ) (S : Locals) (r : Reader) → Around S r → Post (FormulaRead S r) (formula D k S r)
+  formula-around : (refusing : Bool) (k : ℕ) (S : Locals) (r : Reader) → Around S r → Post (FormulaRead S r) (formula refusing D k S r)
   unfolding formula
-  formula-around zero S r a = refusal tt
-  formula-around (suc k) S r a =
+  formula-around refusing zero S r a = refusal tt
+  formula-around refusing (suc k) S r a =
       bind-post (token-post (r .bound) (wordOf (D .edition)) (word-ok (D .edition)) r (λ j h. h)) λ t r₁ h.
-      post-more r (h .1) (formula-with k (λ S′ r′. formula-around k S′ r′) S t (t .word) r₁ (around-more a (h .1)))
+      post-more r (h .1) (formula-with refusing k (λ S′ r′. formula-around refusing k S′ r′) S t (t .word) r₁ (around-more a (h .1)))
 
   -- a line's formula
-  pub formula-post : (k : ℕ) (r : Reader) → Sub B (r .bound) → Post (FormulaRead [] r) (formula D k [] r)
+  pub formula-post : (refusing : Bool) (k : ℕ) (r : Reader) → Sub B (r .bound) → Post (FormulaRead [] r) (formula refusing D k [] r)
   unfolding has
-  formula-post k r s = formula-around k [] r (record { inside = λ j h. contradiction cc; before = s; apart = λ l h. contradiction cc })
+  formula-post refusing k r s =
+      formula-around refusing k [] r (record { inside = λ j h. contradiction cc; before = s; apart = λ l h. contradiction cc })

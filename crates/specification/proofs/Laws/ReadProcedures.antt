@@ -11,13 +11,13 @@ use lib.Dec.{ltb}
 use borrow.Author.Tests.{ltb-true, ltb-false}
 use Rattle.specification.specs.Lists.{Each}
 use Rattle.specification.specs.Bytes.{Bytes, bytes, Class, feed, colon, begins}
-use Rattle.specification.specs.Parser.{Reader, Read, Parser, give, next, mark, exactly, taken}
+use Rattle.specification.specs.Parser.{Reader, Parser, give, next, mark, exactly, taken}
 use Rattle.specification.specs.Lines.{count, Declared, procedureOf}
 use Rattle.specification.specs.Ast.{Procedure}
 use Rattle.specification.specs.Formula.{Locals, has, formula}
 use Rattle.specification.specs.Sheet.{withParameters, withProcedures, procedureLine, procedureLines}
 use Rattle.specification.specs.WellFormed.{nowhere, Ok, lineOf}
-use Rattle.specification.proofs.Laws.Parser.{Post, refusal, holds, of-found, bind-post, choose-post, pick-post}
+use Rattle.specification.proofs.Laws.Parser.{Post, refusal, holds, both-post, bind-post, choose-post, pick-post}
 use Rattle.specification.proofs.Laws.Lists.{each-++}
 use Rattle.specification.proofs.Laws.LineReaders.{Composed, count-by}
 use Rattle.specification.proofs.Laws.ReadLines.{count-post}
@@ -55,10 +55,6 @@ module _ (R : Locals) where
     taken = taken-keeps;
   }
 
-both-post : {A : Type 0} {P Q : A → Reader → Type 0} {x : Read A} → Post P x → Post Q x → Post (λ a r. P a r × Q a r) x
-both-post (refusal h) k = refusal tt
-both-post (holds h) k = holds (h, of-found k refl)
-
 -- ---- one line
 
 -- P is read from r on
@@ -68,15 +64,15 @@ record ProcedureRead (D : Declared) (r : Reader) (P : Procedure) (r′ : Reader)
   binders : Bounds (P .formula) (r′ .bound)
   more : Sub (r .bound) (r′ .bound)
 
-module _ (D : Declared) (B : Locals) (known : Known D B) where
-  line-post : (r : Reader) → Sub B (r .bound) → Post (ProcedureRead D r) (procedureLine D r)
+module _ (D : Declared) (B : Locals) (known : Known D B) (refusing : Bool) where
+  line-post : (r : Reader) → Sub B (r .bound) → Post (ProcedureRead D r) (procedureLine refusing D r)
   unfolding procedureLine has
   line-post r s =
       let R = r .bound in
       bind-post (exactly-keeps R 3 (bytes "proc=") r (λ j h. h)) λ u r₁ s₁.
       bind-post (both-post (count-post 0 8 r₁) (count-by (keeps-composed R) 0 8 r₁ s₁)) λ n r₂ h₂.
       bind-post (mark-keeps R colon r₂ (h₂ .1)) λ u r₃ s₃.
-      bind-post (formula-post (withParameters n D) B (in-line n) 64 r₃ (λ j h. s₃ j (s j h))) λ F r₄ h₄.
+      bind-post (formula-post (withParameters n D) B (in-line n) refusing 64 r₃ (λ j h. s₃ j (s j h))) λ F r₄ h₄.
       bind-post (mark-keeps (r₄ .bound) feed r₄ (λ j h. h)) λ u r₅ s₅.
       holds (record {
         few = h₂ .0 .1;
@@ -128,7 +124,7 @@ pub record ProceduresRead (n : ℕ) (D : Declared) (Ps : List Procedure) (r : Re
   pub count : length Ps ≤ n
   pub known : Known (withProcedures Ps D) (r .bound)
 
-module _ (n : ℕ) (E : Declared) where
+module _ (n : ℕ) (E : Declared) (refusing : Bool) where
   abbrev after : List Procedure → Declared
   after Ps = withProcedures Ps E
 
@@ -142,14 +138,14 @@ module _ (n : ℕ) (E : Declared) where
   }
 
   pub procedures-post : (k : ℕ) (Ps : List Procedure) (B : Locals) → Known (after Ps) B → Each (λ P. P .parameters ≤ 8) Ps →
-      length Ps + k ≤ n → (r : Reader) → Sub B (r .bound) → Post (ProceduresRead n E) (procedureLines k (after Ps) r)
+      length Ps + k ≤ n → (r : Reader) → Sub B (r .bound) → Post (ProceduresRead n E) (procedureLines refusing k (after Ps) r)
   unfolding procedureLines Each
   procedures-post zero Ps B known few h r s =
       let z : length Ps ≤ n = omega arith in holds (no-more Ps B known few z r s)
   procedures-post (suc k) Ps B known few h r s =
       let z : length Ps ≤ n = omega arith in
       choose-post (begins (bytes "p") (r .rest)) _ _ r
-      (bind-post (line-post (after Ps) B known r s) λ P r₁ p.
+      (bind-post (line-post (after Ps) B known refusing r s) λ P r₁ p.
       procedures-post k (Ps ++ (P ∷ [])) (r₁ .bound)
       (known-more (after Ps) P B (r₁ .bound) known (λ j e. p .more j (s j e)) (p .ok) (p .binders))
       (each-++ (λ Q. Q .parameters ≤ 8) Ps (P ∷ []) few (p .few, tt))

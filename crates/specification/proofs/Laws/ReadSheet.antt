@@ -12,7 +12,7 @@ use Rattle.specification.specs.Parser.{Reader, found}
 use Rattle.specification.specs.Formula.{Locals, has}
 use Rattle.specification.specs.Lists.{Each}
 use Rattle.specification.specs.Lines.{Declared, cells, rangeNumber, rangeOf, inRange}
-use Rattle.specification.specs.Sheet.{mostProcedures, Sheet, opened, read}
+use Rattle.specification.specs.Sheet.{mostProcedures, Sheet, refuses, opened, readWith}
 use Rattle.specification.specs.WellFormed.{WellFormed}
 use Rattle.specification.proofs.Laws.Contradiction.{contradiction}
 use Rattle.specification.proofs.Laws.Parser.{of-found}
@@ -38,15 +38,15 @@ few-procedures edition = go (eqb edition 1)
 none-known : (D : Declared) → Known (firstDeclared D) []
 none-known D = record { scoped = λ K h. absurd (omega arith); binders = λ K h. absurd (omega arith) }
 
-pub read-well-formed : (b : Bytes) (s : Sheet) (r : Reader) → read b ≡ found s r → WellFormed s
-unfolding read has Each inRange rangeOf rangeNumber cells
-read-well-formed b s r e =
+pub read-well-formed : (strict : Bool) (b : Bytes) (s : Sheet) (r : Reader) → readWith strict b ≡ found s r → WellFormed s
+unfolding readWith has Each inRange rangeOf rangeNumber cells
+read-well-formed strict b s r e =
     let l = sheet-lines e in
     let D = s .declared in
     let given = of-found (given-post (firstDeclared D) (l .ranges .after)) (l .given .is) in
     let procs =
     of-found
-    (procedures-post 16 (firstDeclared D) (mostProcedures (D .edition)) [] [] (none-known D) tt (omega (arith, few-procedures (D .edition))) (l .given .after)
+    (procedures-post 16 (firstDeclared D) (refuses strict (D .edition)) (mostProcedures (D .edition)) [] [] (none-known D) tt (omega (arith, few-procedures (D .edition))) (l .given .after)
     (no-locals (l .given .after .bound))) (l .procedures .is) in
     let known : Known D (l .procedures .after .bound) = record { scoped = procs .known .scoped; binders = procs .known .binders } in
     let start = of-found (exactly-keeps (l .procedures .after .bound) 3 (bytes "formula=") (l .procedures .after) (λ j h. h)) (l .start .is) in
@@ -62,5 +62,5 @@ read-well-formed b s r e =
       rising = given .2;
       procedures = procs .known .scoped;
       parameters = procs .few;
-      formula = of-found (formula-post D (l .procedures .after .bound) known 64 (l .start .after) start) (l .formula .is) .ok;
+      formula = of-found (formula-post D (l .procedures .after .bound) known (refuses strict (D .edition)) 64 (l .start .after) start) (l .formula .is) .ok;
     }

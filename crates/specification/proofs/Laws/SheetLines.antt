@@ -2,7 +2,8 @@
 -- only where its own facts are wanted. `Lines` and `sheet-lines` tell what was read, line by line; `sheet-by` puts together what holds of
 -- each line's reader (LineReaders), of refusals too. Assumes nothing.
 use Prim.Native.Nat.{ℕ, _+_}
-use mathlib.Core.Path.{_≡_, refl}
+use mathlib.Core.Path.{_≡_, refl, sym, ap, subst}
+use mathlib.Core.Bool.{Bool}
 use mathlib.Core.List.{List, []}
 use lib.ListN.{length}
 use Rattle.specification.specs.Bytes.{bytes, feed}
@@ -10,7 +11,7 @@ use Rattle.specification.specs.Parser.{Reader, Read, refused, found, Par
 use Rattle.specification.specs.Lines.{line, Declared, arraysLine, rangesLine}
 use Rattle.specification.specs.Given.{Item, givenLine}
 use Rattle.specification.specs.Formula.{formula}
-use Rattle.specification.specs.Sheet.{withProcedures, procedureLines, mostProcedures, Sheet, beginning, sheet}
+use Rattle.specification.specs.Sheet.{withParameters, withProcedures, procedureLines, mostProcedures, Sheet, beginning, refuses, sheet}
 use Rattle.specification.proofs.Laws.Parser.{Post, refusal, holds, of-found}
 use Rattle.specification.proofs.Laws.LineReaders.{Composed, line-by, arrays-by, ranges-by, given-by}
 
@@ -26,17 +27,19 @@ abbrev pub firstDeclared : Declared → Declared
 firstDeclared D = beginning (D .edition) (D .scalars) (D .locals) (D .arrays) (D .ranges)
 
 -- each line gives its part of the sheet, from where the line before it ended
-pub record Lines (r : Reader) (s : Sheet) : Type 0 where
+pub record Lines (strict : Bool) (r : Reader) (s : Sheet) : Type 0 where
   pub edition : Gives (line (bytes "edition=") 1 3) r (s .declared .edition)
   pub scalars : Gives (line (bytes "scalars=") 0 64) (edition .after) (s .declared .scalars)
   pub locals : Gives (line (bytes "locals=") 0 32) (scalars .after) (s .declared .locals)
   pub arrays : Gives (arraysLine (s .declared .scalars)) (locals .after) (s .declared .arrays)
   pub ranges : Gives (rangesLine (s .declared .edition) (s .declared .scalars + length (s .declared .arrays))) (arrays .after) (s .declared .ranges)
   pub given : Gives (givenLine (firstDeclared (s .declared))) (ranges .after) (s .given)
-  pub procedures : Gives (procedureLines (mostProcedures (s .declared .edition)) (firstDeclared (s .declared))) (given .after) (s .declared .procedures)
+  pub procedures :
+      Gives (procedureLines (refuses strict (s .declared .edition)) (mostProcedures (s .declared .edition)) (firstDeclared (s .declared)))
+      (given .after) (s .declared .procedures)
   pub parameters : s .declared .parameters ≡ 0
   pub start : Gives (key (bytes "formula=")) (procedures .after) tt
-  pub formula : Gives (formula (s .declared) 64 []) (start .after) (s .formula)
+  pub formula : Gives (formula (refuses strict (s .declared .edition)) (s .declared) 64 []) (start .after) (s .formula)
   pub feed : Gives (mark feed) (formula .after) tt
   pub end : Gives finish (feed .after) tt
 
@@ -45,9 +48,9 @@ module _ {A B : Type 0} {Q : B → Reader → Type 0} {f : A → Parser B} where
   known (refused n p) k = refusal tt
   known (found a r) k = k a r refl
 
-sheet-known : (r : Reader) → Post (λ s r′. Lines r s) (sheet r)
+sheet-known : (strict : Bool) (r : Reader) → Post (λ s r′. Lines strict r s) (sheet strict r)
 unfolding sheet
-sheet-known r =
+sheet-known strict r =
     known (line (bytes "edition=") 1 3 r) λ edition r₁ e.
     known (line (bytes "scalars=") 0 64 r₁) λ scalars r₂ v.
     known (line (bytes "locals=") 0 32 r₂) λ locals r₃ l.
@@ -55,10 +58,10 @@ sheet-known r =
     known (rangesLine edition (scalars + length arrays) r₄) λ ranges r₅ x.
     let E : Declared = beginning edition scalars locals arrays ranges in
     known (givenLine E r₅) λ is r₆ g.
-    known (procedureLines (mostProcedures edition) E r₆) λ Ps r₇ p.
+    known (procedureLines (refuses strict edition) (mostProcedures edition) E r₆) λ Ps r₇ p.
     let D : Declared = withProcedures Ps E in
     known (key (bytes "formula=") r₇) λ u r₈ k.
-    known (formula D 64 [] r₈) λ F r₉ f.
+    known (formula (refuses strict edition) D 64 [] r₈) λ F r₉ f.
     known (mark feed r₉) λ u r₁₀ m.
     known (finish r₁₀) λ u r₁₁ n.
     holds (record {
@@ -76,27 +79,51 @@ sheet-known r =
       end = record { after = r₁₁; is = n };
     })
 
-pub sheet-lines : {r : Reader} {s : Sheet} {r′ : Reader} → sheet r ≡ found s r′ → Lines r s
-sheet-lines {r} e = of-found (sheet-known r) e
+pub sheet-lines : {strict : Bool} {r : Reader} {s : Sheet} {r′ : Reader} → sheet strict r ≡ found s r′ → Lines strict r s
+sheet-lines {strict} {r} e = of-found (sheet-known strict r) e
+
+-- and the lines give the sheet
+pub lines-sheet : {strict : Bool} {r : Reader} {s : Sheet} (l : Lines strict r s) → sheet strict r ≡ found s (l .end .after)
+unfolding sheet
+lines-sheet {strict} {r} {s} l =
+    let D = s .declared in
+    let whole : Declared = withProcedures (D .procedures) (firstDeclared D) in
+    let is : D ≡ whole = ap (λ (n : ℕ). withParameters n D) (l .parameters) in
+    let formula : formula (refuses strict (D .edition)) whole 64 [] (l .start .after) ≡ found (s .formula) (l .formula .after) =
+    subst (λ C. formula (refuses strict (D .edition)) C 64 [] (l .start .after) ≡ found (s .formula) (l .formula .after)) is (l .formula .is) in
+    rw (
+      l .edition .is,
+      l .scalars .is,
+      l .locals .is,
+      l .arrays .is,
+      l .ranges .is,
+      l .given .is,
+      l .procedures .is,
+      l .start .is,
+      formula,
+      l .feed .is,
+      l .end .is,
+    ) (ap (λ C. found (record { declared = C; given = s .given; formula = s .formula }) (l .end .after)) (sym is))
 
 -- ---- what every line has
 
 -- from the formula's first token on
-abbrev pub fromFormula : Declared → List Item → Parser Sheet
-fromFormula D is =
-    formula D 64 [] >>= λ F. mark feed >> (finish >> give (record { declared = D; given = is; formula = F }))
+abbrev pub fromFormula : Bool → Declared → List Item → Parser Sheet
+fromFormula strict D is =
+    formula (refuses strict (D .edition)) D 64 [] >>= λ F. mark feed >> (finish >> give (record { declared = D; given = is; formula = F }))
 
 -- from the procedures on, where E is declared before them
-abbrev pub fromProcedures : Declared → List Item → Parser Sheet
-fromProcedures E is =
-    procedureLines (mostProcedures (E .edition)) E >>= λ Ps. key (bytes "formula=") >> fromFormula (withProcedures Ps E) is
+abbrev pub fromProcedures : Bool → Declared → List Item → Parser Sheet
+fromProcedures strict E is =
+    procedureLines (refuses strict (E .edition)) (mostProcedures (E .edition)) E >>= λ Ps.
+    key (bytes "formula=") >> fromFormula strict (withProcedures Ps E) is
 
 -- W of the whole sheet: it goes back over each line that has Q, and holds from the procedures on
 module _ {P : ℕ → Type 0} {Q : (A : Type 0) → Parser A → Type 0} (c : Composed P Q) (W : Parser Sheet → Type 0)
     (back : (A : Type 0) (m : Parser A) (f : A → Parser Sheet) → Q A m → ((a : A) → W (f a)) → W (m >>= f)) where
-  pub sheet-by : ((E : Declared) (is : List Item) → W (fromProcedures E is)) → W sheet
+  pub sheet-by : (strict : Bool) → ((E : Declared) (is : List Item) → W (fromProcedures strict E is)) → W (sheet strict)
   unfolding sheet
-  sheet-by rest =
+  sheet-by strict rest =
       back _ _ _ (line-by c (bytes "edition=") 1 3) λ edition.
       back _ _ _ (line-by c (bytes "scalars=") 0 64) λ scalars.
       back _ _ _ (line-by c (bytes "locals=") 0 32) λ locals.
