@@ -18,6 +18,7 @@ pub mod Outside
 pub mod Tree
 pub mod Listing
 pub mod Text
+pub mod Tidy
 pub mod Leaves
 pub mod Visits
 pub mod Run

@@ -1,6 +1,6 @@
--- Moving the catalogue (document 02, Eight): a sheet of edition 2 in edition 3, and the way back. The same cells, given values and formulas
--- stand in both; only the edition, the line of ranges and the spelling of two words are others. What holds of the two ways is in
--- specs/Moving.antt. Assumes nothing.
+-- Moving the catalogue (document 02, Eight and Nine): a sheet of edition 2 in edition 3, the way back, and a pass over sheets of edition 3. The
+-- same cells, given values and formulas stand in both; only the edition, the line of ranges and the spelling of two words are others. What is
+-- written in edition 3 has no empty range. What holds of the three is in specs/Moving.antt. Assumes nothing.
 use Prim.Native.Nat.{ℕ, _+_}
 use mathlib.Core.Bool.{Bool, true, false, _&&_}
 use mathlib.Core.List.{List, [], _∷_, _++_}
@@ -15,9 +15,10 @@ use Rattle.specification.specs.Parser.{Read, refused, found, andThen}
 use Rattle.specification.specs.Lines.{line, Range, Declared, everything}
 use Rattle.specification.specs.Ast.{Op, add, sub, mul, quo, rem, div, modulo, Formula, Procedure}
 use Rattle.specification.specs.Words.{constantWord, scalarWord, localWord, arrayWord, parameterWord, opWord, Word, formulaWord, termWord, numberWord, unknown}
-use Rattle.specification.specs.Sheet.{Sheet, opened, read}
+use Rattle.specification.specs.Sheet.{Sheet, opened, readWith}
 use Rattle.specification.specs.Arithmetic.{eqZ}
 use Rattle.specification.specs.Text.{wordText, formulaWords, rangeText, headText, rangesText, givenText, procedureKey, procedureText, textOf}
+use Rattle.specification.specs.Tidy.{tidied}
 
 -- ---- the same sheet in another edition
 
@@ -118,8 +119,8 @@ pub data Result : Type 0 where
   moved : Bytes → Result
 
 -- a sheet of this edition; another is 4 at the edition, while it is read
-unfoldable pub readOnly : ℕ → Bytes → Read Sheet
-readOnly edition sheet = andThen (λ e r. read sheet) (line (bytes "edition=") edition edition (opened sheet))
+unfoldable pub readOnly : Bool → ℕ → Bytes → Read Sheet
+readOnly strict edition sheet = andThen (λ e r. readWith strict sheet) (line (bytes "edition=") edition edition (opened sheet))
 
 abbrev pub longestSheet : ℕ
 longestSheet = 4096
@@ -128,9 +129,9 @@ abbrev pub wordsToMove : ℕ
 wordsToMove = 6144
 
 -- with so many work words and output bytes
-unfoldable pub admitted : ℕ → Bytes → ℕ → ℕ → Read Sheet
-admitted edition sheet words size =
-    let r = readOnly edition sheet in
+unfoldable pub admitted : Bool → ℕ → Bytes → ℕ → ℕ → Read Sheet
+admitted strict edition sheet words size =
+    let r = readOnly strict edition sheet in
     pick (leb longestSheet size && leb wordsToMove words) (pick (leb (length sheet) longestSheet) r (refused 2 longestSheet)) (refused 1 0)
 
 abbrev pub afterReading : (Sheet → Result) → Read Sheet → Result
@@ -146,12 +147,19 @@ abbrev pub unless : ℕ → Option ℕ → Result → Result
 unless n (just p) r = refusal n p
 unless n none r = r
 
+-- from the older edition: empty ranges are read and not written
 unfoldable pub moveUp : Bytes → ℕ → ℕ → Result
-moveUp sheet words size = afterReading (λ s. fitted (textOf (raised s))) (admitted older sheet words size)
+moveUp sheet words size = afterReading (λ s. fitted (textOf (raised (tidied s)))) (admitted false older sheet words size)
+
+-- a stored sheet of the newer edition: the same
+unfoldable pub tidy : Bytes → ℕ → ℕ → Result
+tidy sheet words size = afterReading (λ s. fitted (textOf (tidied s))) (admitted false newer sheet words size)
+
+-- back to the older edition: the sheet's own refusals, 17 among them, come first
 
 unfoldable pub moveDown : Bytes → ℕ → ℕ → Result
 moveDown sheet words size =
-    afterReading (λ s. unless 15 (narrowIn s) (unless 16 (roundingIn s) (fitted (textOf (lowered s))))) (admitted newer sheet words size)
+    afterReading (λ s. unless 15 (narrowIn s) (unless 16 (roundingIn s) (fitted (textOf (lowered s))))) (admitted true newer sheet words size)
 
 -- ---- what is returned, and the lent output afterwards; the work words are all zero
 

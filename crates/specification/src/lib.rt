@@ -37,7 +37,7 @@ pub enum Outcome {
     },
 }
 
-// What a call returns that moves a sheet to another edition: a refusal's number and byte place, or how many bytes the moved sheet has.
+// What a call returns that moves a sheet to another edition or tidies it: a refusal's number and byte place, or how many bytes it wrote.
 pub enum Move {
     Refused { number: u32, place: usize },
     Moved { written: usize },
