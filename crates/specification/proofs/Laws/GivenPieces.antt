@@ -19,7 +19,7 @@ use Rattle.specification.specs.Text.{led, parted, nameOf, itemText, give
 use Rattle.specification.specs.Moves.{declaredIn}
 use Rattle.specification.proofs.Laws.Contradiction.{contradiction}
 use Rattle.specification.proofs.Laws.Parser.{Post, holds, bind-post, require-post}
-use Rattle.specification.proofs.Laws.Pieces.{Anything, NoNumber, Same, give-piece, here-piece, look-piece, same-piece, bind-piece, then-piece, then-give, colon-piece, point-piece, exactly-piece, index-piece, value-piece, colon-ends, point-ends}
+use Rattle.specification.proofs.Laws.Pieces.{Anything, NoNumber, Piece, give-piece, here-piece, look-piece, same-piece, bind-piece, then-piece, then-give, colon-piece, point-piece, exactly-piece, index-piece, value-piece, colon-ends, point-ends}
 use Rattle.specification.proofs.Laws.LinePieces.{feed-number, ListPiece, list-piece, line-of}
 
 -- ---- the name of a cell by its number
@@ -86,14 +86,14 @@ module _ (D : Declared) where
 abbrev cellText : CellName → Bytes
 cellText n = labelText (cellLabel n)
 
-name-piece : (r : Reader) → Post (λ n r′. Same NoNumber name (cellText n) n r r′) (name r)
+name-piece : (r : Reader) → Post (λ n r′. Piece NoNumber name (cellText n) n r r′) (name r)
 unfolding name scalarName elementName labelText begins
 name-piece r = go (begins (bytes "v") (r .rest))
   where
     chosen : Bool → Parser CellName
     chosen v = pick v scalarName elementName
 
-    go : (v : Bool) → Post (λ n r′. Same NoNumber name (cellText n) n r r′) (chosen v r)
+    go : (v : Bool) → Post (λ n r′. Piece NoNumber name (cellText n) n r r′) (chosen v r)
     go true =
         bind-post (exactly-piece 5 (bytes "v") r) λ u r₁ h₁.
         bind-post (index-piece r₁) λ n r₂ h₂.
@@ -114,7 +114,7 @@ module _ (D : Declared) (edition : ℕ) (ranges : List Range) where
   other = declaredIn edition ranges D
 
   module _ (keeps : (c : ℕ) (z : ℤ) → inRange D c z ≡ true → inRange other c z ≡ true) where
-    item-piece : (floor : ℕ) (r : Reader) → Post (λ i r′. Same NoNumber (item other floor) (itemText D i) i r r′) (item D floor r)
+    item-piece : (floor : ℕ) (r : Reader) → Post (λ i r′. Piece NoNumber (item other floor) (itemText D i) i r r′) (item D floor r)
     unfolding item itemText isDeclared cellOf firstOf lengthOf
     item-piece floor r =
         bind-post (name-piece r) λ n r₁ h₁.
@@ -125,7 +125,7 @@ module _ (D : Declared) (edition : ℕ) (ranges : List Range) where
         require-post (inRange D (cellOf D n) z) _ _ _ _ tt λ i.
         let t : cellText n ++ (bytes ":" ++ printℤ z) ≡ cellText (nameOf D (cellOf D n)) ++ (bytes ":" ++ printℤ z) =
         ap (λ (x : CellName). cellText x ++ (bytes ":" ++ printℤ z)) (sym (name-cell D n d)) in
-        holds (here-piece λ p. same-piece t t
+        holds (here-piece λ p. same-piece t
         (bind-piece _ (λ w k. colon-ends _) h₁ (bind-piece _ (λ w k. tt) h₂
         (then-piece (checked n p) h₃ (λ q w. rw (d, e, keeps (cellOf D n) z i))))))
       where
@@ -152,6 +152,6 @@ module _ (D : Declared) (edition : ℕ) (ranges : List Range) where
         go (scalar n) = refl
         go (element a e) = refl
 
-    pub given-piece : (r : Reader) → Post (λ is r′. Same Anything (givenLine other) (givenText D is) is r r′) (givenLine D r)
+    pub given-piece : (r : Reader) → Post (λ is r′. Piece Anything (givenLine other) (givenText D is) is r r′) (givenLine D r)
     unfolding givenLine
     given-piece r = line-of (itemText D) (bytes "given=") (items D 512 0) (items other 512 0) (items-piece 512 0) item-feed r

@@ -1,5 +1,5 @@
 -- Each line before the procedures is the text of what it declares, and that text is read again. Assumes nothing.
-use Prim.Native.Nat.{ℕ, zero, suc, _-_}
+use Prim.Native.Nat.{ℕ, zero, suc, _+_, _-_}
 use native.Mathlib.Omega.{arith}
 use mathlib.Core.Path.{_≡_, refl, sym, _∙_, ap, subst}
 use mathlib.Core.Bool.{Bool, true, false}
@@ -10,15 +10,15 @@ use lib.Signed.{leZ}
 use Rattle.specification.specs.Lists.{Each}
 use Rattle.specification.specs.Bytes.{Bytes, bytes, pick, between, feed, comma, begins, classOf, classNumber, isIn, inNumber}
 use Rattle.specification.specs.Number.{in32, printℕ}
-use Rattle.specification.specs.Parser.{Reader, Parser, give, require, _>>=_, _>>_, next, sees, mark, exactly, taken, key}
+use Rattle.specification.specs.Parser.{Reader, found, Parser, give, require, _>>=_, _>>_, next, sees, mark, exactly, taken, key}
 use Rattle.specification.specs.Lines.{count, line, Range, lengths, arraysLine, range, ranges, firstRanged, rangesLine}
 use Rattle.specification.specs.Text.{led, parted, numberLine, arraysText, rangeText, rangesText}
 use Rattle.specification.proofs.Laws.Contradiction.{contradiction}
 use Rattle.specification.proofs.Laws.Parser.{Post, refusal, holds, map-post, bind-post, require-post, pick-post}
-use Rattle.specification.proofs.Laws.LineReaders.{Composed, line-by, ranges-by}
+use Rattle.specification.proofs.Laws.LineReaders.{Composed}
 use Rattle.specification.proofs.Laws.Print.{Lacks, printℕ-nonempty, printℕ-lacks}
 use Rattle.specification.proofs.Laws.Canonical.{starts}
-use Rattle.specification.proofs.Laws.Pieces.{is-in, Anything, NoNumber, Reads, Same, give-reads, here-reads, give-piece, here-piece, look-piece, same-piece, bind-reads, bind-piece, then-reads, then-piece, then-give, feed-reads, comma-reads, colon-reads, feed-piece, comma-piece, colon-piece, exactly-reads, exactly-piece, count-reads, count-piece, value-reads, value-piece, feed-ends, comma-ends, colon-ends}
+use Rattle.specification.proofs.Laws.Pieces.{is-in, at, Anything, NoNumber, Reads, Piece, give-reads, here-reads, give-piece, here-piece, look-piece, same-piece, bind-reads, bind-piece, then-reads, then-piece, then-give, feed-reads, comma-reads, colon-reads, feed-piece, comma-piece, colon-piece, exactly-reads, exactly-piece, count-reads, count-piece, value-reads, value-piece, feed-ends, comma-ends, colon-ends}
 
 -- ---- a line with one number
 
@@ -29,7 +29,7 @@ line-reads k lo hi n e r =
     (bind-reads _ (λ w i. feed-ends w) (count-reads lo hi n e r) (then-reads _ (feed-reads r) (λ p w. refl)))
 
 pub line-piece : (k : Bytes) (lo hi : ℕ) (r : Reader) →
-    Post (λ n r′. Same Anything (line k lo hi) (numberLine k n) n r r′) (line k lo hi r)
+    Post (λ n r′. Piece Anything (line k lo hi) (numberLine k n) n r r′) (line k lo hi r)
 unfolding line
 line-piece k lo hi r =
     bind-post (exactly-piece 3 k r) λ u r₁ h₁.
@@ -65,7 +65,7 @@ module _ {A : Type 0} (text : A → Bytes) where
 
   -- a list that is not empty
   abbrev pub ListPiece : Parser (List A) → Reader → List A → Reader → Type 0
-  ListPiece q r xs r′ = (¬ (xs ≡ [])) × Same Feed q (parted (bytes ",") text xs) xs r r′
+  ListPiece q r xs r′ = (¬ (xs ≡ [])) × Piece Feed q (parted (bytes ",") text xs) xs r r′
 
   -- one, and others after a comma
   abbrev more-of : Parser (List A) → A → Bool → Parser (List A)
@@ -78,22 +78,22 @@ module _ {A : Type 0} (text : A → Bytes) where
   cons-not x xs e = contradiction cc
 
   pub list-piece : (one one′ : Parser A) (rest rest′ : A → Parser (List A)) →
-      ((r : Reader) → Post (λ x r₁. Same NoNumber one′ (text x) x r r₁) (one r)) →
+      ((r : Reader) → Post (λ x r₁. Piece NoNumber one′ (text x) x r r₁) (one r)) →
       ((x : A) (r : Reader) → Post (ListPiece (rest′ x) r) (rest x r)) →
       (r : Reader) → Post (ListPiece (listed one′ rest′) r) (listed one rest r)
   unfolding led parted isIn classNumber classOf
   list-piece one one′ rest rest′ f g r = bind-post (f r) λ x r₁ h. go x r₁ h (next comma (r₁ .rest))
     where
-      go : (x : A) (r₁ : Reader) → Same NoNumber one′ (text x) x r r₁ → (more : Bool) →
+      go : (x : A) (r₁ : Reader) → Piece NoNumber one′ (text x) x r r₁ → (more : Bool) →
           Post (ListPiece (listed one′ rest′) r) (more-of (rest x) x more r₁)
       go x r₁ h true =
-          bind-post {P = λ xs r₃. (¬ (xs ≡ [])) × Same Feed (mark comma >> rest′ x) (bytes "," ++ parted (bytes ",") text xs) xs r₁ r₃}
+          bind-post {P = λ xs r₃. (¬ (xs ≡ [])) × Piece Feed (mark comma >> rest′ x) (bytes "," ++ parted (bytes ",") text xs) xs r₁ r₃}
           (bind-post (comma-piece r₁) λ u r₂ k. map-post (λ xs r₃ (n, l). (n, bind-piece (λ u. rest′ x) (λ w e. tt) k l)) (g x r₂)) λ xs r₃ (n, l).
           holds (
             cons-not x xs,
             bind-piece _ (λ w e. led-number xs w e) h
                 (look-piece (more-of (rest′ x) x) (next comma) true (λ w e. ap (λ (v : Bytes). next comma (v ++ w)) (sym (led-parted xs n)))
-                (same-piece (led-parted xs n) (led-parted xs n) (then-give (λ (ys : List A). x ∷ ys) l))),
+                (same-piece (led-parted xs n) (then-give (λ (ys : List A). x ∷ ys) l))),
           )
       go x r₁ h false =
           holds (
@@ -122,12 +122,12 @@ module _ {A : Type 0} (text : A → Bytes) where
 
   pub line-of : (k : Bytes) (list list′ : Parser (List A)) → ((r : Reader) → Post (ListPiece list′ r) (list r)) →
       ((x : A) (w : Bytes) → next feed (text x ++ w) ≡ false) →
-      (r : Reader) → Post (λ xs r′. Same Anything (listLine k list′) (lineText k xs) xs r r′) (listLine k list r)
+      (r : Reader) → Post (λ xs r′. Piece Anything (listLine k list′) (lineText k xs) xs r r′) (listLine k list r)
   unfolding parted isIn classNumber classOf
   line-of k list list′ f g r = bind-post (exactly-piece 3 k r) λ u r₁ h. go r₁ h (next feed (r₁ .rest))
     where
-      go : (r₁ : Reader) → Same Anything (key k) k tt r r₁ → (none : Bool) →
-          Post (λ xs r′. Same Anything (listLine k list′) (lineText k xs) xs r r′) (after-key list none r₁)
+      go : (r₁ : Reader) → Piece Anything (key k) k tt r r₁ → (none : Bool) →
+          Post (λ xs r′. Piece Anything (listLine k list′) (lineText k xs) xs r r′) (after-key list none r₁)
       go r₁ h true =
           bind-post (feed-piece r₁) λ u r₂ l.
           holds (bind-piece _ (λ w e. tt) h (look-piece (after-key list′) (next feed) true (λ w e. refl) (then-give (λ u. []) l)))
@@ -164,7 +164,7 @@ number-feed n w = go (printℕ n) (printℕ-nonempty n) (printℕ-lacks 10 (λ d
     go [] f h = absurd (f refl)
     go (b ∷ bs) f h = no-feed b (h .0)
 
-pub arrays-piece : (scalars : ℕ) (r : Reader) → Post (λ ns r′. Same Anything (arraysLine scalars) (arraysText ns) ns r r′) (arraysLine scalars r)
+pub arrays-piece : (scalars : ℕ) (r : Reader) → Post (λ ns r′. Piece Anything (arraysLine scalars) (arraysText ns) ns r r′) (arraysLine scalars r)
 unfolding arraysLine
 arrays-piece scalars r =
     line-of printℕ (bytes "arrays=") (lengths 16 (512 - scalars)) (lengths 16 (512 - scalars)) (lengths-piece 16 (512 - scalars)) number-feed r
@@ -179,7 +179,7 @@ module _ (x : Range) (i : in32 (x .low) ≡ true) (j : in32 (x .high) ≡ true) 
       bind-reads _ (λ w e. colon-ends _) (value-reads (x .low) i r)
       (bind-reads _ (λ w e. tt) (colon-reads r) (then-reads _ (value-reads (x .high) j r) (λ q w. rw l)))
 
-range-piece : (r : Reader) → Post (λ x r′. Same NoNumber range (rangeText x) x r r′) (range r)
+range-piece : (r : Reader) → Post (λ x r′. Piece NoNumber range (rangeText x) x r r′) (range r)
 unfolding range
 range-piece r =
     bind-post (value-piece r) λ lo r₁ h₁.
@@ -240,7 +240,7 @@ ranges-reads edition k rs n h r = go (ltb edition firstRanged) n
         (bind-reads _ (λ w f. (w, refl)) (parted-reads rs h r) (then-reads _ (feed-reads r) (λ p w. refl))))
 
 -- and where it was read its text stands
-led-piece : (k : ℕ) (r : Reader) → Post (λ rs r′. Same Feed (ranges (mark comma) k) (ledRanges rs) rs r r′) (ranges (mark comma) k r)
+led-piece : (k : ℕ) (r : Reader) → Post (λ rs r′. Piece Feed (ranges (mark comma) k) (ledRanges rs) rs r r′) (ranges (mark comma) k r)
 unfolding ranges led
 led-piece zero r = holds (give-piece [] r)
 led-piece (suc k) r =
@@ -250,7 +250,7 @@ led-piece (suc k) r =
     holds (bind-piece _ (λ w e. tt) h₁ (bind-piece _ (λ w e. led-number rangeText xs w e) h₂ (then-give (λ (ys : List Range). x ∷ ys) h₃)))
 
 parted-piece : (k : ℕ) (r : Reader) →
-    Post (λ rs r′. Same Feed (ranges (give tt) k) (parted (bytes ",") rangeText rs) rs r r′) (ranges (give tt) k r)
+    Post (λ rs r′. Piece Feed (ranges (give tt) k) (parted (bytes ",") rangeText rs) rs r r′) (ranges (give tt) k r)
 unfolding ranges parted
 parted-piece zero r = holds (give-piece [] r)
 parted-piece (suc k) r =
@@ -259,14 +259,14 @@ parted-piece (suc k) r =
     holds (bind-piece _ (λ w e. led-number rangeText xs w e) h₂ (then-give (λ (ys : List Range). x ∷ ys) h₃))
 
 pub ranges-piece : (edition k : ℕ) (r : Reader) →
-    Post (λ rs r′. Same Anything (rangesLine edition k) (rangesText edition rs) rs r r′) (rangesLine edition k r)
+    Post (λ rs r′. Piece Anything (rangesLine edition k) (rangesText edition rs) rs r r′) (rangesLine edition k r)
 unfolding rangesLine rangesText
 ranges-piece edition k r = go (ltb edition firstRanged)
   where
     line-if : Bool → Parser (List Range)
     line-if b = pick b (give []) (rangesAfter k)
 
-    go : (b : Bool) → Post (λ rs r′. Same Anything (line-if b) (pick b [] (rangesBytes rs)) rs r r′) (line-if b r)
+    go : (b : Bool) → Post (λ rs r′. Piece Anything (line-if b) (pick b [] (rangesBytes rs)) rs r r′) (line-if b r)
     go true = holds (give-piece [] r)
     go false =
         bind-post (exactly-piece 3 (bytes "ranges=") r) λ u r₁ h₁.
@@ -276,13 +276,13 @@ ranges-piece edition k r = go (ltb edition firstRanged)
 
 -- ---- readers that leave the tokens and the binders
 
-abbrev Still : Reader → Reader → Type 0
+abbrev pub Still : Reader → Reader → Type 0
 Still r r′ = (r .tokens ≡ r′ .tokens) × (r .bound ≡ r′ .bound)
 
-abbrev Stays : (A : Type 0) → Parser A → Type 0
+abbrev pub Stays : (A : Type 0) → Parser A → Type 0
 Stays A m = (r : Reader) → Post (λ a r′. Still r r′) (m r)
 
-stays : Composed (λ p. Unit {0}) Stays
+pub stays : Composed (λ p. Unit {0}) Stays
 unfolding mark exactly taken
 stays = record {
   give = λ A a r. holds (refl, refl);
@@ -296,13 +296,12 @@ stays = record {
   taken = λ f r. holds (refl, refl);
 }
 
-pub line-stays : (k : Bytes) (lo hi : ℕ) → Stays ℕ (line k lo hi)
-line-stays k lo hi = line-by stays k lo hi
-
-pub ranges-stays : (edition k : ℕ) → Stays (List Range) (rangesLine edition k)
-ranges-stays edition k = ranges-by stays edition k
-
--- a reader with the same tokens and binders does as well
-pub still-reads : {A : Type 0} {E : Bytes → Type 0} {q : Parser A} {t : Bytes} {a : A} {r : Reader} (r′ : Reader) →
-    Still r r′ → Reads E q t a r r → Reads E q t a r r′
-still-reads r′ s h = record { is = λ p w e. h .is p w e ∙ rw (s .0, s .1) }
+-- readers with the same tokens and binders do as well
+pub still-reads : {A : Type 0} {E : Bytes → Type 0} {q : Parser A} {t : Bytes} {a : A} {r r′ : Reader} (x y : Reader) →
+    Still x r → Still y r′ → Reads E q t a r r′ → Reads E q t a x y
+still-reads {q = q} {t} {a} {r} {r′} x y s u h = record {
+  is = λ p w e. ap q (still-at p (t ++ w) r x s) ∙ h .is p w e ∙ ap (found a) (sym (still-at (p + length t) w r′ y u));
+}
+  where
+    still-at : (p : ℕ) (w : Bytes) (r x : Reader) → Still x r → at p w x ≡ at p w r
+    still-at p w r x s = rw (s .0, s .1)

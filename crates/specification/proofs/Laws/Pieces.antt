@@ -1,5 +1,5 @@
 -- A piece of a sheet: the bytes that a reader reads are the text of what it gives, and another reader, that of the same sheet in another
--- edition, reads the text in its own spelling as the same. First the notion, then a law for each way in which readers are put together and for
+-- edition, reads this text as the same. First the notion, then a law for each way in which readers are put together and for
 -- the readers that others are put together from. Assumes nothing.
 use Prim.Native.Nat.{ℕ, _+_}
 use native.Mathlib.Omega.{arith}
@@ -39,14 +39,10 @@ module _ {A : Type 0} where
   pub record Reads (Ends : Bytes → Type 0) (q : Parser A) (t : Bytes) (a : A) (r r′ : Reader) : Type 0 where
     pub is : (p : ℕ) (w : Bytes) → Ends w → q (at p (t ++ w) r) ≡ found a (at (p + length t) w r′)
 
-  -- the bytes t stand between the readers r and r′, and q reads t′
-  pub record Piece (Ends : Bytes → Type 0) (q : Parser A) (t t′ : Bytes) (a : A) (r r′ : Reader) : Type 0 where
+  -- the bytes t stand between the readers r and r′, and q reads them
+  pub record Piece (Ends : Bytes → Type 0) (q : Parser A) (t : Bytes) (a : A) (r r′ : Reader) : Type 0 where
     pub rest : r .rest ≡ t ++ r′ .rest
-    pub again : Reads Ends q t′ a r r′
-
-  -- of which both editions have the same text
-  abbrev pub Same : (Bytes → Type 0) → Parser A → Bytes → A → Reader → Reader → Type 0
-  Same Ends q t a r r′ = Piece Ends q t t a r r′
+    pub again : Reads Ends q t a r r′
 
 -- ---- how readers are put together
 
@@ -57,40 +53,40 @@ module _ {A : Type 0} {E : Bytes → Type 0} where
   pub here-reads : {f : ℕ → Parser A} {t : Bytes} {a : A} {r r′ : Reader} → ((p : ℕ) → Reads E (f p) t a r r′) → Reads E (here >>= f) t a r r′
   here-reads h = record { is = λ p w e. h p .is p w e }
 
-  pub give-piece : (a : A) (r : Reader) → Same E (give a) [] a r r
+  -- what a look ahead finds is there again
+  pub look-reads : {t : Bytes} {a : A} {r r′ : Reader} (f : Bool → Parser A) (g : Bytes → Bool) (b : Bool) → ((w : Bytes) → E w → g (t ++ w) ≡ b) →
+      Reads E (f b) t a r r′ → Reads E (λ x. f (g (x .rest)) x) t a r r′
+  look-reads f g b e h = record { is = λ p w k. rw (e w k) (h .is p w k) }
+
+  pub give-piece : (a : A) (r : Reader) → Piece E (give a) [] a r r
   give-piece a r = record { rest = refl; again = give-reads a r }
 
-  module _ {t t′ : Bytes} {a : A} {r r′ : Reader} where
-    pub require-piece : {q : Parser A} (b : Bool) (n p : ℕ) → b ≡ true → Piece E q t t′ a r r′ → Piece E (require b n p q) t t′ a r r′
-    require-piece true n p e h = h
-    require-piece false n p e h = contradiction cc
-
-    pub here-piece : {f : ℕ → Parser A} → ((p : ℕ) → Piece E (f p) t t′ a r r′) → Piece E (here >>= f) t t′ a r r′
+  module _ {t : Bytes} {a : A} {r r′ : Reader} where
+    pub here-piece : {f : ℕ → Parser A} → ((p : ℕ) → Piece E (f p) t a r r′) → Piece E (here >>= f) t a r r′
     here-piece h = record { rest = h 0 .rest; again = here-reads λ p. h p .again }
 
-    -- what a look ahead finds is there again
-    pub look-piece : (f : Bool → Parser A) (g : Bytes → Bool) (b : Bool) → ((w : Bytes) → E w → g (t′ ++ w) ≡ b) →
-        Piece E (f b) t t′ a r r′ → Piece E (λ x. f (g (x .rest)) x) t t′ a r r′
-    look-piece f g b e h = record { rest = h .rest; again = record { is = λ p w k. rw (e w k) (h .again .is p w k) } }
+    pub look-piece : (f : Bool → Parser A) (g : Bytes → Bool) (b : Bool) → ((w : Bytes) → E w → g (t ++ w) ≡ b) →
+        Piece E (f b) t a r r′ → Piece E (λ x. f (g (x .rest)) x) t a r r′
+    look-piece f g b e h = record { rest = h .rest; again = look-reads f g b e (h .again) }
 
     -- the same bytes, written in another way
-    pub same-piece : {q : Parser A} {u u′ : Bytes} → t ≡ u → t′ ≡ u′ → Piece E q t t′ a r r′ → Piece E q u u′ a r r′
-    same-piece {q} {u} {u′} e f h = subst (λ x. Piece E q x u′ a r r′) e (subst (λ x. Piece E q t x a r r′) f h)
+    pub same-piece : {q : Parser A} {u : Bytes} → t ≡ u → Piece E q t a r r′ → Piece E q u a r r′
+    same-piece {q} e h = subst (λ x. Piece E q x a r r′) e h
 
 module _ {A B : Type 0} {E : Bytes → Type 0} where
   -- one and then another, where the second ends the first
-  module _ {E₁ : Bytes → Type 0} {q : Parser A} {t′ u′ : Bytes} {a : A} {b : B} {r r₁ r₂ : Reader} (f : A → Parser B)
-      (ends : (w : Bytes) → E w → E₁ (u′ ++ w)) where
-    pub bind-reads : Reads E₁ q t′ a r r₁ → Reads E (f a) u′ b r₁ r₂ → Reads E (q >>= f) (t′ ++ u′) b r r₂
+  module _ {E₁ : Bytes → Type 0} {q : Parser A} {t u : Bytes} {a : A} {b : B} {r r₁ r₂ : Reader} (f : A → Parser B)
+      (ends : (w : Bytes) → E w → E₁ (u ++ w)) where
+    pub bind-reads : Reads E₁ q t a r r₁ → Reads E (f a) u b r₁ r₂ → Reads E (q >>= f) (t ++ u) b r r₂
     bind-reads h k = record {
       is = λ p w e.
-          let x : q (at p ((t′ ++ u′) ++ w) r) ≡ found a (at (p + length t′) (u′ ++ w) r₁) =
-          ap (λ (v : Bytes). q (at p v r)) (append-assoc t′ u′ w) ∙ h .is p (u′ ++ w) (ends w e) in
-          ap (andThen f) x ∙ k .is (p + length t′) w e ∙ ap (λ (n : ℕ). found b (at n w r₂)) (omega (arith, length-append t′ u′));
+          let x : q (at p ((t ++ u) ++ w) r) ≡ found a (at (p + length t) (u ++ w) r₁) =
+          ap (λ (v : Bytes). q (at p v r)) (append-assoc t u w) ∙ h .is p (u ++ w) (ends w e) in
+          ap (andThen f) x ∙ k .is (p + length t) w e ∙ ap (λ (n : ℕ). found b (at n w r₂)) (omega (arith, length-append t u));
     }
 
-    pub bind-piece : {t u : Bytes} → Piece E₁ q t t′ a r r₁ → Piece E (f a) u u′ b r₁ r₂ → Piece E (q >>= f) (t ++ u) (t′ ++ u′) b r r₂
-    bind-piece {t} {u} h k = record {
+    pub bind-piece : Piece E₁ q t a r r₁ → Piece E (f a) u b r₁ r₂ → Piece E (q >>= f) (t ++ u) b r r₂
+    bind-piece h k = record {
       rest = h .rest ∙ ap (λ w. t ++ w) (k .rest) ∙ sym (append-assoc t u (r₂ .rest));
       again = bind-reads (h .again) (k .again);
     }
@@ -100,13 +96,13 @@ module _ {A B : Type 0} {E : Bytes → Type 0} where
       ((p : ℕ) (w : Bytes) → f a (at p w r₁) ≡ found b (at p w r₁)) → Reads E (q >>= f) t b r r₁
   then-reads f h k = record { is = λ p w e. ap (andThen f) (h .is p w e) ∙ k _ w }
 
-  pub then-piece : {q : Parser A} {t t′ : Bytes} {a : A} {b : B} {r r₁ : Reader} (f : A → Parser B) → Piece E q t t′ a r r₁ →
-      ((p : ℕ) (w : Bytes) → f a (at p w r₁) ≡ found b (at p w r₁)) → Piece E (q >>= f) t t′ b r r₁
+  pub then-piece : {q : Parser A} {t : Bytes} {a : A} {b : B} {r r₁ : Reader} (f : A → Parser B) → Piece E q t a r r₁ →
+      ((p : ℕ) (w : Bytes) → f a (at p w r₁) ≡ found b (at p w r₁)) → Piece E (q >>= f) t b r r₁
   then-piece f h k = record { rest = h .rest; again = then-reads f (h .again) k }
 
   -- what is read, made into something else
-  pub then-give : {q : Parser A} {t t′ : Bytes} {a : A} {r r₁ : Reader} (g : A → B) → Piece E q t t′ a r r₁ →
-      Piece E (q >>= λ x. give (g x)) t t′ (g a) r r₁
+  pub then-give : {q : Parser A} {t : Bytes} {a : A} {r r₁ : Reader} (g : A → B) → Piece E q t a r r₁ →
+      Piece E (q >>= λ x. give (g x)) t (g a) r r₁
   then-give g h = then-piece (λ x. give (g x)) h (λ p w. refl)
 
 -- ---- the byte of a class
@@ -182,7 +178,7 @@ MarkReads c n = (r : Reader) → Reads Anything (mark c) (n ∷ []) tt r r
 
 -- and where it was read it stands
 abbrev MarkPiece : Class → ℕ → Type 0
-MarkPiece c n = (r : Reader) → Post (λ u r′. Same Anything (mark c) (n ∷ []) tt r r′) (mark c r)
+MarkPiece c n = (r : Reader) → Post (λ u r′. Piece Anything (mark c) (n ∷ []) tt r r′) (mark c r)
 
 module _ (c : Class) (n : ℕ) (is : isIn c n ≡ true) (only : (b : ℕ) → isIn c b ≡ true → b ≡ n) where
   starts-with : (w : Bytes) → next c w ≡ true → w ≡ n ∷ drop 1 w
@@ -211,6 +207,10 @@ comma-reads = mark-reads comma 44 refl (is-in comma)
 pub colon-reads : MarkReads colon 58
 unfolding isIn classNumber classOf
 colon-reads = mark-reads colon 58 refl (is-in colon)
+
+pub space-reads : MarkReads space 32
+unfolding isIn classNumber classOf
+space-reads = mark-reads space 32 refl (is-in space)
 
 pub feed-piece : MarkPiece feed 10
 unfolding isIn classNumber classOf
@@ -250,7 +250,7 @@ pub exactly-reads : (n : ℕ) (k : Bytes) (r : Reader) → Reads Anything (exact
 unfolding exactly
 exactly-reads n k r = record { is = λ p w h. rw (begins-whole k w, drop-append-seam k w) }
 
-pub exactly-piece : (n : ℕ) (k : Bytes) (r : Reader) → Post (λ u r′. Same Anything (exactly n k) k tt r r′) (exactly n k r)
+pub exactly-piece : (n : ℕ) (k : Bytes) (r : Reader) → Post (λ u r′. Piece Anything (exactly n k) k tt r r′) (exactly n k r)
 unfolding exactly
 exactly-piece n k r =
     pick-post (begins k (r .rest)) _ _
@@ -268,7 +268,7 @@ index-reads n r = record {
   is = λ p w h. rw (run-whole inNumber (printℕ n) w (printℕ-number n) h, natural-printℕ n, drop-append-seam (printℕ n) w);
 }
 
-pub index-piece : (r : Reader) → Post (λ n r′. Same NoNumber index (printℕ n) n r r′) (index r)
+pub index-piece : (r : Reader) → Post (λ n r′. Piece NoNumber index (printℕ n) n r r′) (index r)
 unfolding index taken
 index-piece r =
     present-post 4 (r .place) (natural (run inNumber (r .rest))) _ tt λ n e.
@@ -283,7 +283,7 @@ pub count-reads : (lo hi n : ℕ) → between lo hi n ≡ true → (r : Reader) 
 unfolding count
 count-reads lo hi n e r = here-reads λ p. then-reads (λ m. require (between lo hi m) 4 p (give m)) (index-reads n r) (λ q w. rw e)
 
-pub count-piece : (lo hi : ℕ) (r : Reader) → Post (λ n r′. Same NoNumber (count lo hi) (printℕ n) n r r′) (count lo hi r)
+pub count-piece : (lo hi : ℕ) (r : Reader) → Post (λ n r′. Piece NoNumber (count lo hi) (printℕ n) n r r′) (count lo hi r)
 unfolding count
 count-piece lo hi r =
     bind-post (index-piece r) λ n r₁ h.
@@ -296,7 +296,7 @@ value-reads z i r = record {
   is = λ p w h. rw (run-whole inNumber (printℤ z) w (printℤ-number z) h, integer-printℤ z, i, drop-append-seam (printℤ z) w);
 }
 
-pub value-piece : (r : Reader) → Post (λ z r′. Same NoNumber value (printℤ z) z r r′) (value r)
+pub value-piece : (r : Reader) → Post (λ z r′. Piece NoNumber value (printℤ z) z r r′) (value r)
 unfolding value taken
 value-piece r =
     bind-post {P = λ z r′. (r′ ≡ past (length bs) r) × (bs ≡ printℤ z)}
