@@ -1,6 +1,7 @@
 -- A sheet in another edition has the same run where its ranges there allow the same values: tree and blocks depend on nothing else that
--- changes. A sheet without ranges, or with none narrower than 32 bits, keeps its values when it is moved up or down; and there is no narrower
--- range exactly where the search for one finds none. Assumes nothing.
+-- changes, nor on the lines of procedures, since a call has its procedure's formula in it. A sheet without ranges, or with none narrower than 32
+-- bits, keeps its values when it is moved up or down; and there is no narrower range exactly where the search for one finds none. Assumes
+-- nothing.
 use Prim.Native.Nat.{ℕ, zero, suc, _+_}
 use mathlib.Core.Path.{_≡_, refl, _∙_, ap, fun-ext}
 use mathlib.Core.Bool.{Bool, true, false}
@@ -16,9 +17,9 @@ use Rattle.specification.specs.Lists.{Each}
 use Rattle.specification.specs.Bytes.{Bytes, bytes, pick}
 use Rattle.specification.specs.Number.{least, greatest}
 use Rattle.specification.specs.Lines.{Range, Declared, everything, CellName, scalar, element, cells, firstOf, lengthOf, cellOf, rangeNumber, rangeOf, inRange}
-use Rattle.specification.specs.Ast.{Term, constant, scalarAt, localAt, parameter, elementAt, apply, Formula, truth, and, or, imp, neg, eq, compare, ex, some, all, call}
+use Rattle.specification.specs.Ast.{Term, constant, scalarAt, localAt, parameter, elementAt, apply, Formula, truth, and, or, imp, neg, eq, compare, ex, some, all, call, Procedure}
 use Rattle.specification.specs.Arithmetic.{eqZ}
-use Rattle.specification.specs.Sheet.{Sheet}
+use Rattle.specification.specs.Sheet.{withProcedures, Sheet}
 use Rattle.specification.specs.Place.{cell, local, put}
 use Rattle.specification.specs.Value.{empty, Valuation, Side, val, bare, err, elementSide, side}
 use Rattle.specification.specs.Outside.{gave}
@@ -34,14 +35,21 @@ use Rattle.specification.proofs.Laws.Contradiction.{contradiction}
 use Rattle.specification.proofs.Laws.Lists.{each-getD}
 use Rattle.specification.proofs.Laws.Range.{eqZ-eq}
 
--- ---- the same run: the two declarations differ in their edition and ranges alone
+-- ---- the same run: the two declarations differ in their edition, ranges and procedures alone
 
-module _ (edition : ℕ) (ranges : List Range) (s : Sheet) where
+-- with other procedures, and the same formula
+abbrev besides : List Procedure → Sheet → Sheet
+besides Ps s = record { declared = withProcedures Ps (s .declared); given = s .given; formula = s .formula }
+
+module _ (edition : ℕ) (ranges : List Range) (Ps : List Procedure) (s : Sheet) where
+  abbrev s′ : Sheet
+  s′ = inEdition edition ranges (besides Ps s)
+
   abbrev D : Declared
   D = s .declared
 
   abbrev D′ : Declared
-  D′ = inEdition edition ranges s .declared
+  D′ = s′ .declared
 
   -- ---- terms
 
@@ -127,9 +135,18 @@ module _ (edition : ℕ) (ranges : List Range) (s : Sheet) where
     tree-alike [] α = refl
     tree-alike (F ∷ Fs) α = rw (fun-ext (tree-alike Fs)) (grow-alike F (λ β. treeOf D Fs β) α)
 
-    pub run-alike : (S : Setting) (size : ℕ) → runOf (inEdition edition ranges s) S size ≡ runOf s S size
+    run-same : (S : Setting) (size : ℕ) → runOf s′ S size ≡ runOf s S size
     unfolding runOf visitsOf rootOf
-    run-alike S size = rw (tree-alike (s .formula ∷ []) (start (s .given))) (scan-alike S size (going (tallies 0 0 0 0) []) (visitsOf s))
+    run-same S size = rw (tree-alike (s .formula ∷ []) (start (s .given))) (scan-alike S size (going (tallies 0 0 0 0) []) (visitsOf s))
+
+pub run-alike : (edition : ℕ) (ranges : List Range) (s : Sheet) →
+    ((c : ℕ) (z : ℤ) → inRange (inEdition edition ranges s .declared) c z ≡ inRange (s .declared) c z) →
+    (S : Setting) (size : ℕ) → runOf (inEdition edition ranges s) S size ≡ runOf s S size
+run-alike edition ranges s same = run-same edition ranges (s .declared .procedures) s same
+
+pub procedures-alike : (Ps : List Procedure) (s : Sheet) (S : Setting) (size : ℕ) → runOf (besides Ps s) S size ≡ runOf s S size
+unfolding inRange rangeOf rangeNumber
+procedures-alike Ps s = run-same (s .declared .edition) (s .declared .ranges) Ps s (λ c z. refl)
 
 -- ---- the same values
 

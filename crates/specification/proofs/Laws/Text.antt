@@ -2,21 +2,21 @@
 -- Assumes nothing.
 use Prim.Native.Nat.{ℕ, _<_}
 use native.Mathlib.Omega.{arith}
-use mathlib.Core.Path.{_≡_, refl, sym, _∙_, ap}
-use mathlib.Core.Bool.{false}
+use mathlib.Core.Path.{_≡_, refl, sym, _∙_, ap, subst}
+use mathlib.Core.Bool.{Bool, false, not, _||_}
 use mathlib.Core.List.{List, [], _∷_, _++_}
 use mathlib.Core.Option.{Option, some}
 use lib.ListN.{getD, drop}
-use lib.Dec.{eqb}
+use lib.Dec.{T, T-not, eqb}
 use lib.IntN.{ℤ}
-use borrow.Author.Tests.{eq-eqb, ne-eqb}
-use Rattle.specification.specs.Bytes.{Bytes, pick}
+use borrow.Author.Tests.{le-leb, eq-eqb, ne-eqb}
+use Rattle.specification.specs.Bytes.{Bytes, pick, between}
 use Rattle.specification.specs.Number.{decimal, integer, printℕ, printℤ}
 use Rattle.specification.specs.Lines.{scalar, element}
 use Rattle.specification.specs.Listing.{Label, answerLabel, errorLabel, kindLabel, tokenLabel, cellLabel, Line, _is_, labelText, linesText}
 use Rattle.specification.specs.Lists.{Each}
 use Rattle.specification.proofs.Laws.Contradiction.{contradiction}
-use Rattle.specification.proofs.Laws.Lists.{each-++}
+use Rattle.specification.proofs.Laws.Lists.{each-map, each-++}
 use Rattle.specification.proofs.Laws.Print.{IsDigit, Lacks, printℕ-numeral, printℕ-lacks, printℤ-lacks, integer-printℤ}
 
 -- ---- what stands before the first byte c, and what after it
@@ -65,18 +65,30 @@ label-in (cellLabel (element a e)) =
       printℕ-numeral e .value,
     )
 
-number-lacks : (n : ℕ) → Lacks 61 (printℕ n)
-number-lacks n = printℕ-lacks 61 (λ h. omega (arith, h .1)) n
+-- digits, letters and the point: each byte of a label is one of them
+abbrev inLabel : ℕ → Bool
+inLabel b = between 48 57 b || (between 97 122 b || eqb b 46)
 
-label-lacks : (l : Label) → Lacks 61 (labelText l)
+digit-in : (b : ℕ) → IsDigit b → T (inLabel b)
+digit-in b h = rw (le-leb 48 b (h .0), le-leb b 57 (h .1)) tt
+
+number-bytes : (n : ℕ) → Each (λ b. T (inLabel b)) (printℕ n)
+number-bytes n = each-map digit-in (printℕ n) (printℕ-numeral n .all-digits)
+
+label-bytes : (l : Label) → Each (λ b. T (inLabel b)) (labelText l)
 unfolding labelText Each
-label-lacks answerLabel = (refl, (refl, (refl, (refl, (refl, (refl, tt))))))
-label-lacks errorLabel = (refl, (refl, (refl, (refl, (refl, tt)))))
-label-lacks kindLabel = (refl, (refl, (refl, (refl, tt))))
-label-lacks tokenLabel = (refl, (refl, tt))
-label-lacks (cellLabel (scalar n)) = (refl, number-lacks n)
-label-lacks (cellLabel (element a e)) =
-    (refl, each-++ (λ b. eqb b 61 ≡ false) (printℕ a) (46 ∷ printℕ e) (number-lacks a) (refl, number-lacks e))
+label-bytes answerLabel = (tt, (tt, (tt, (tt, (tt, (tt, tt))))))
+label-bytes errorLabel = (tt, (tt, (tt, (tt, (tt, tt)))))
+label-bytes kindLabel = (tt, (tt, (tt, (tt, tt))))
+label-bytes tokenLabel = (tt, (tt, tt))
+label-bytes (cellLabel (scalar n)) = (tt, number-bytes n)
+label-bytes (cellLabel (element a e)) =
+    (tt, each-++ (λ b. T (inLabel b)) (printℕ a) (46 ∷ printℕ e) (number-bytes a) (tt, number-bytes e))
+
+-- no other byte stands in a label
+pub label-lacks : (c : ℕ) → T (not (inLabel c)) → (l : Label) → Lacks c (labelText l)
+label-lacks c n l =
+    each-map (λ b t. ne-eqb b c (λ e. T-not (inLabel c) n (subst (λ (x : ℕ). T (inLabel x)) e t))) (labelText l) (label-bytes l)
 
 -- ---- lines
 
@@ -93,7 +105,7 @@ afterFirst t = halves 10 (halves 61 t .1) .1
 module _ (l : Line) (ls : List Line) where
   at-equals : halves 61 (linesText (l ∷ ls)) ≡ (labelText (l .label), printℤ (l .value) ++ 10 ∷ linesText ls)
   unfolding linesText
-  at-equals = halves-at 61 (labelText (l .label)) (printℤ (l .value) ++ 10 ∷ linesText ls) (label-lacks (l .label))
+  at-equals = halves-at 61 (labelText (l .label)) (printℤ (l .value) ++ 10 ∷ linesText ls) (label-lacks 61 tt (l .label))
 
   at-feed : halves 10 (printℤ (l .value) ++ 10 ∷ linesText ls) ≡ (printℤ (l .value), linesText ls)
   at-feed = halves-at 10 (printℤ (l .value)) (linesText ls) (printℤ-lacks 10 (λ h. omega (arith, h .0)) refl (l .value))
