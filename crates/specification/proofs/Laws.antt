@@ -20,6 +20,7 @@ pub mod Parser
 pub mod LineReaders
 pub mod FormulaReaders
 pub mod SheetLines
+pub mod Strict
 pub mod ReadLines
 pub mod ReadGiven
 pub mod Start
@@ -34,7 +35,17 @@ pub mod Spelling
 pub mod Pieces
 pub mod LinePieces
 pub mod GivenPieces
+pub mod Legible
+pub mod Taken
+pub mod WordPieces
 pub mod FormulaPieces
+pub mod Tidied
+pub mod TidiedSheet
+pub mod WordReads
+pub mod FormulaReads
+pub mod ProcedurePieces
+pub mod ProcedureReads
+pub mod SheetPieces
 pub mod SheetText
 pub mod Ranges
 pub mod Bounds
@@ -80,6 +91,12 @@ pub mod InRanges
 pub mod NoPattern
 pub mod Demand3
 pub mod Listed
--- of the moves between editions
+-- of the moves between editions and of tidying
 pub mod InEdition
+pub mod Alike
+pub mod RunsAlike
+pub mod MovedWords
+pub mod Admitted
+pub mod Shorter
 pub mod Moves
+pub mod AsBefore
