@@ -6,6 +6,7 @@ pub mod Marked
 pub mod Decided
 pub mod Calls
 pub mod Ranged
+pub mod Slips
 pub mod Divided
 pub mod Moved
 pub mod WrongBoxes

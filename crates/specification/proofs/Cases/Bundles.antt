@@ -6,8 +6,8 @@ use Rattle.specification.specs.Lines.{index, count, value, line, lengths
 use Rattle.specification.specs.Given.{scalarName, elementName, name, item, items, givenLine}
 use Rattle.specification.specs.Words.{commonWords, olderDivision, division, ownWords, words, nameOf, find, wordOf, numberOf}
 use Rattle.specification.specs.Fill.{fillTerm, fillTerms, fill}
-use Rattle.specification.specs.Formula.{token, has, binder, procedure, term, arguments, formula}
-use Rattle.specification.specs.Sheet.{procedureLine, procedureLines, sheet, read}
+use Rattle.specification.specs.Formula.{token, has, binder, procedure, term, arguments, above, emptyRange, formula}
+use Rattle.specification.specs.Sheet.{procedureLine, procedureLines, sheet, readWith}
 use Rattle.specification.specs.Place.{put}
 use Rattle.specification.specs.Arithmetic.{fit, compute, test}
 use Rattle.specification.specs.Value.{pairOf, elementSide, side}
@@ -16,13 +16,14 @@ use Rattle.specification.specs.Tree.{joined, verdict, equate, compared, 
 use Rattle.specification.specs.Visits.{_then_, each, inside, visits}
 use Rattle.specification.specs.Listing.{scalarNames, elementNames, arrayNames, cellNames, valued, blockOf, headLines, cellLines, blockLines, labelText, linesText, blockText, listingText}
 use Rattle.specification.specs.Run.{block, arrive, visit, scan}
-use Rattle.specification.specs.Outcome.{start, rootOf, visitsOf, runOf, call}
+use Rattle.specification.specs.Outcome.{start, rootOf, visitsOf, runOf, callWith}
 use Rattle.specification.specs.Printed.{closing, printed, box}
 use Rattle.specification.specs.Text.{led, parted, opText, relText, formulaWordText, termWordText, wordText, termWords, argumentWords, formulaWords, rangesText, itemText, procedureText, proceduresText, headText, textIn}
-use Rattle.specification.specs.Moves.{isEverything, narrowAt, roundsDown, isRounding, roundingAt, roundingFrom, narrowIn, roundingIn, readOnly, admitted, fitted, moveUp, moveDown}
+use Rattle.specification.specs.Tidy.{hasEmpty, anyEmpty, hasEmptyRange, dropped, numbered, tokensBefore, tidiedProcedures, tidied}
+use Rattle.specification.specs.Moves.{isEverything, narrowAt, roundsDown, isRounding, roundingAt, roundingFrom, narrowIn, roundingIn, readOnly, admitted, fitted, moveUp, tidy, moveDown}
 
 unfoldable pub read-defs : Type 0
-unfolding classOf classNumber isIn inNumber inToken run same begins allDigits decimal wellFormed natural integer mark exactly taken index count value line lengths arraysLine range ranges rangesLine contains sum arrayOf cells firstOf lengthOf isDeclared cellOf rangeNumber rangeOf inRange scalarName elementName name item items givenLine commonWords olderDivision division ownWords words nameOf find wordOf numberOf fillTerm fillTerms fill token has binder procedure term arguments formula procedureLine procedureLines sheet read
+unfolding classOf classNumber isIn inNumber inToken run same begins allDigits decimal wellFormed natural integer mark exactly taken index count value line lengths arraysLine range ranges rangesLine contains sum arrayOf cells firstOf lengthOf isDeclared cellOf rangeNumber rangeOf inRange scalarName elementName name item items givenLine commonWords olderDivision division ownWords words nameOf find wordOf numberOf fillTerm fillTerms fill token has binder procedure term arguments above emptyRange formula procedureLine procedureLines sheet readWith
 read-defs = Unit {0}
 
 unfoldable pub tree-defs : Type 0
@@ -30,9 +31,9 @@ unfolding put fit compute test pairOf elementSide side joined verdict binds some
 tree-defs = Unit {0}
 
 unfoldable pub run-defs : Type 0
-unfolding _then_ each inside visits digits printℕ printℤ scalarNames elementNames arrayNames cellNames valued blockOf headLines cellLines blockLines labelText linesText blockText listingText block arrive visit scan start rootOf visitsOf runOf call closing printed box
+unfolding _then_ each inside visits digits printℕ printℤ scalarNames elementNames arrayNames cellNames valued blockOf headLines cellLines blockLines labelText linesText blockText listingText block arrive visit scan start rootOf visitsOf runOf callWith closing printed box
 run-defs = Unit {0}
 
 unfoldable pub move-defs : Type 0
-unfolding digits printℕ printℤ scalarNames elementNames arrayNames cellNames labelText led parted opText relText formulaWordText termWordText wordText termWords argumentWords formulaWords rangesText itemText procedureText proceduresText headText textIn isEverything narrowAt roundsDown isRounding roundingAt roundingFrom narrowIn roundingIn readOnly admitted fitted moveUp moveDown
+unfolding digits printℕ printℤ scalarNames elementNames arrayNames cellNames labelText led parted opText relText formulaWordText termWordText wordText termWords argumentWords formulaWords rangesText itemText procedureText proceduresText headText textIn isEverything narrowAt roundsDown isRounding roundingAt roundingFrom narrowIn roundingIn readOnly admitted fitted hasEmpty anyEmpty hasEmptyRange dropped numbered tokensBefore tidiedProcedures tidied moveUp tidy moveDown
 move-defs = Unit {0}
