@@ -4,6 +4,7 @@ use Prim.Native.Nat.{ℕ, zero, suc, _+_, _≤_, _<_}
 use native.Mathlib.Nat.{add-zero}
 use native.Mathlib.Omega.{arith}
 use mathlib.Core.Path.{_≡_, refl, sym, subst}
+use mathlib.Core.Bool.{Bool}
 use mathlib.Core.List.{List, [], _∷_, _++_}
 use lib.ListN.{length, getD, take, length-append}
 use Rattle.specification.specs.Bytes.{bytes, feed, colon, begins}
@@ -68,11 +69,12 @@ pub record Read (Ps : List Procedure) (n : ℕ) : Type 0 where
   pub tokens : n ≡ length (proceduresTokens Ps)
   pub few : n ≤ maxTokens
 
-module _ (E : Declared) (locals : E .locals ≤ maxLocals) where
+module _ (refusing : Bool) (E : Declared) (locals : E .locals ≤ maxLocals) where
   abbrev after : List Procedure → Declared
   after Ps = withProcedures Ps E
 
-  line-body : (Ps : List Procedure) (r : Reader) → Read Ps (r .tokens) → Post (λ P r′. Read (Ps ++ (P ∷ [])) (r′ .tokens)) (procedureLine (after Ps) r)
+  line-body : (Ps : List Procedure) (r : Reader) → Read Ps (r .tokens) →
+      Post (λ P r′. Read (Ps ++ (P ∷ [])) (r′ .tokens)) (procedureLine refusing (after Ps) r)
   unfolding procedureLine Each
   line-body Ps r h =
       bind-post (exactly-stays (r .tokens) 3 (bytes "proc=") r refl) λ u r₁ t₁.
@@ -80,8 +82,8 @@ module _ (E : Declared) (locals : E .locals ≤ maxLocals) where
       bind-post (mark-stays (r .tokens) colon r₂ (h₂ .1)) λ u r₃ t₃.
       let D = withParameters n (after Ps) in
       bind-post
-      (both-post (formula-counts D maxNesting [] r₃)
-      (formula-shallow D (length Ps) (omega arith) (few-parameters Ps (h .parameters)) locals maxNesting (omega arith) [] r₃)) λ F r₄ h₄.
+      (both-post (formula-counts refusing D maxNesting [] r₃)
+      (formula-shallow D refusing (length Ps) (omega arith) (few-parameters Ps (h .parameters)) locals maxNesting (omega arith) [] r₃)) λ F r₄ h₄.
       bind-post (mark-stays (r₄ .tokens) feed r₄ refl) λ u r₅ t₅.
       let P : Procedure = record { parameters = n; formula = F } in
       let l : r₃ .tokens ≡ 0 + length (proceduresTokens Ps) = omega (arith, t₃, h .tokens) in
@@ -97,7 +99,8 @@ module _ (E : Declared) (locals : E .locals ≤ maxLocals) where
         few = omega (arith, t₅, h₄ .0 .1 .few);
       })
 
-  pub procedures-read : (k : ℕ) (Ps : List Procedure) (r : Reader) → Read Ps (r .tokens) → Post (λ Qs r′. Read Qs (r′ .tokens)) (procedureLines k (after Ps) r)
+  pub procedures-read : (k : ℕ) (Ps : List Procedure) (r : Reader) → Read Ps (r .tokens) →
+      Post (λ Qs r′. Read Qs (r′ .tokens)) (procedureLines refusing k (after Ps) r)
   unfolding procedureLines
   procedures-read zero Ps r h = holds h
   procedures-read (suc k) Ps r h =

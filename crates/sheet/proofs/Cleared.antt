@@ -9,7 +9,7 @@ use lib.Dec.{ltb}
 use borrow.Author.Tests.{ltb-true, ltb-false}
 use Rattle.specification.specs.Bytes.{Bytes}
 use Rattle.specification.specs.Parser.{Read, found}
-use Rattle.specification.specs.Sheet.{read}
+use Rattle.specification.specs.Sheet.{readWith}
 use Rattle.specification.proofs.Laws.ReadSheet.{read-well-formed}
 use Rattle.tables.specs.Layout.{duesAt, duesEnd, pathAt}
 use Rattle.sheet.specs.declared.formula.Limits.{Limits}
@@ -53,35 +53,39 @@ zeroed-all {w} {w′} z =
 
 -- ---- the reading of a sheet
 
-abbrev Leaves : Bytes → ℕ → Reading → Words → Type 0
-Leaves s n r w = (r ≡ readingOf (read s)) × (w ≡ wordsOf n (read s))
+abbrev Leaves : Bool → Bytes → ℕ → Reading → Words → Type 0
+Leaves strict s n r w = (r ≡ readingOf (readWith strict s)) × (w ≡ wordsOf n (readWith strict s))
 
 -- cleared words are zero, as many as there were
 pub cleared : (w w₁ : Words) → w₁ ≡ replicate (length w) 0 → (length w₁ ≡ length w) × (w₁ ≡ replicate (length w₁) 0)
 cleared w w₁ e = let l : length w₁ ≡ length w = ap length e ∙ length-replicate (length w) 0 in (l, e ∙ ap (λ n. replicate n 0) (sym l))
 
 -- the words are w after all lines, over n words, and w₁ at the end
-module _ (s : Bytes) (n : ℕ) (w : Words) (p : Progress) (h : Went 7 s n p w) (w₁ : Words) where
+module _ (strict : Bool) (s : Bytes) (n : ℕ) (w : Words) (p : Progress) (h : Went strict 7 s n p w) (w₁ : Words) where
   -- refused, and all words cleared
-  pub refused-whole : (k q : ℕ) → p ≡ progress.Refused k q → w₁ ≡ replicate (length w) 0 → Leaves s n (reading.Refused k q) w₁
-  unfolding read
+  pub refused-whole : (k q : ℕ) → p ≡ progress.Refused k q → w₁ ≡ replicate (length w) 0 → Leaves strict s n (reading.Refused k q) w₁
+  unfolding readWith
   refused-whole k q i e =
-      let x : Went 7 s n (progress.Refused k q) w = rw i at h in
+      let x : Went strict 7 s n (progress.Refused k q) w = rw i at h in
       (sym (ap readingOf (x .0)), e ∙ ap (λ m. replicate m 0) (x .1) ∙ sym (ap (wordsOf n) (x .0)))
 
   module _ (d : Limits) (x : Reached) (i : p ≡ progress.Read d x) (long : pathAt ≤ n) (z : Zeroed w w₁ duesAt duesEnd) where
-    f : Tabled s n d x w
-    f = rw i at h
+    went : (d .strict ≡ strict) × Tabled s n d x w
+    went = rw i at h
 
-    is : read s ≡ found (f .whole) (f .after)
-    unfolding read
-    is = f .is
+    abbrev f : Tabled s n d x w
+    f = went .1
+
+    is : readWith strict s ≡ found (f .whole) (f .after)
+    unfolding readWith
+    is = ap (λ b. readWith b s) (sym (went .0)) ∙ f .is
 
     abbrev T : Words
     T = tables (f .whole) n
 
     zero-there : (j : ℕ) → duesAt ≤ j → getD T j 0 ≡ 0
-    zero-there j a = rest-zero (f .whole) n long (read-counts s (f .whole) (f .after) is .few) (read-well-formed s (f .whole) (f .after) is) j a
+    zero-there j a =
+        rest-zero (f .whole) n long (read-counts strict s (f .whole) (f .after) is .few) (read-well-formed strict s (f .whole) (f .after) is) j a
 
     by-place : (j : ℕ) (a : Bool) → ltb j duesAt ≡ a → (b : Bool) → ltb j duesEnd ≡ b → getD w₁ j 0 ≡ getD T j 0
     by-place j true e b d = z .below j (ltb-true j duesAt e) ∙ f .words .below j (ltb-true j duesAt e)
@@ -89,5 +93,5 @@ module _ (s : Bytes) (n : ℕ) (w : Words) (p : Progress) (h : Went 7 s n p w) (
     by-place j false e false d = z .above j (ltb-false j duesEnd d) ∙ f .words .above j (ltb-false j duesEnd d)
 
     -- read, and what was due cleared
-    pub found-whole : Leaves s n (reading.Read (d .scalars) (d .arrays) (x .tokens) (x .first)) w₁
+    pub found-whole : Leaves strict s n (reading.Read (d .scalars) (d .arrays) (x .tokens) (x .first)) w₁
     found-whole = (rw (is, f .scalars, f .arrays, f .tokens, f .first), ext-getD 0 w₁ T (z .long ∙ f .words .long) (λ j _. by-place j (ltb j duesAt) refl (ltb j duesEnd) refl) ∙ sym (ap (wordsOf n) is))

@@ -97,6 +97,12 @@ pub operands-word : (c : ℕ) → c < procedureCode → wordOperands c ≡ opera
 unfolding operandsOf
 operands-word c h = rw (lt-leb procedureCode c h)
 
+pub operands-few : (c : ℕ) → c < procedureCode → operandsOf c .count ≤ 2
+operands-few c h =
+    operands-all (λ o. o .count ≤ 2) c (omega arith) (omega arith) (omega arith) (omega arith) (omega arith) (omega arith) (omega arith)
+    (λ e. omega arith)
+    (λ e. absurd (omega arith))
+
 pub operands-number : (c : ℕ) → procedureCode ≤ c → operandsOf c ≡ operands termSort (c - procedureCode)
 unfolding operandsOf
 operands-number c h = rw (le-leb procedureCode c h)

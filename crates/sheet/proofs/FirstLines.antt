@@ -2,7 +2,7 @@
 use Prim.Native.Nat.{ℕ, zero, suc, _+_, _≤_, _<_}
 use native.Mathlib.Omega.{arith}
 use mathlib.Core.Path.{_≡_, refl, sym, ap, subst, _∙_}
-use mathlib.Core.Bool.{true, false}
+use mathlib.Core.Bool.{Bool, true, false}
 use mathlib.Core.List.{List, []}
 use lib.ListN.{length, getD, replicate, length-replicate}
 use lib.Dec.{ltb, eqb}
@@ -30,16 +30,17 @@ use Rattle.sheet.specs.Firsts.{ArraysFound, ArraysDone}
 use Rattle.sheet.specs.Items.{Declares, Vacant}
 use Rattle.sheet.specs.RangeLine.{RangesFound, RangesDone}
 use Rattle.sheet.specs.Rest.{fromGiven, declaring, fromRanges, fromArrays, fromLocals, fromScalars, numberOf, limits, withNumber}
-use Rattle.sheet.specs.Whole.{NumberRead, Headed, Arrayed, Ranged, Went, reached, unread}
+use Rattle.sheet.specs.Whole.{NumberRead, Headed, Arrayed, Ranged, Stage, Went, reached, unread}
 use Rattle.sheet.proofs.Regions.{zeros, firsts-length, firsts-other}
 use Rattle.sheet.proofs.Marks.{span-limit, ranges-length, ranges-other}
 use Rattle.sheet.proofs.Ranged.{Fitting, marks-held, ranges-held}
 use Rattle.sheet.proofs.Declares.{arrays-few, found-declares}
 
 -- before the first line
-pub at-start : (s : Bytes) (n : ℕ) (w : Words) → w ≡ replicate n 0 → pathAt ≤ n → Went 0 s n unread w
+pub at-start : (strict : Bool) (s : Bytes) (n : ℕ) (w : Words) → w ≡ replicate n 0 → pathAt ≤ n → Went strict 0 s n (unread strict) w
 unfolding sheet fromGiven
-at-start s n w e l = record { rest = refl; scalars = omega arith; locals = omega arith; procedures = refl; parameters = refl; words = e; enough = l }
+at-start strict s n w e l =
+    (refl, record { rest = refl; scalars = omega arith; locals = omega arith; procedures = refl; parameters = refl; words = e; enough = l })
 
 -- ---- a line with one number
 
@@ -66,13 +67,16 @@ module _ (k : ℕ) (s : Bytes) (at : ℕ) (d : Limits) (r : Count) (e : countRea
     number-read : (l : Limits) → l ≡ withNumber k d n → NumberRead k s at d (progress.Read l x)
     number-read l h = record { number = n; read = sym e ∙ ap (countRead s) q ∙ ap (λ y. found n (lineAt s (y .at))) (sym there); known = h }
 
-    pub edition-read : eqb k 0 ≡ true → NumberRead k s at d (progress.Read (limits n (d .scalars) (d .locals) (d .arrays) (d .procedures) (d .parameters)) x)
+    pub edition-read : eqb k 0 ≡ true →
+        NumberRead k s at d (progress.Read (limits (d .strict) n (d .scalars) (d .locals) (d .arrays) (d .procedures) (d .parameters)) x)
     edition-read f = number-read _ (rw f)
 
-    pub scalars-read : eqb k 0 ≡ false → eqb k 1 ≡ true → NumberRead k s at d (progress.Read (limits (d .edition) n (d .locals) (d .arrays) (d .procedures) (d .parameters)) x)
+    pub scalars-read : eqb k 0 ≡ false → eqb k 1 ≡ true →
+        NumberRead k s at d (progress.Read (limits (d .strict) (d .edition) n (d .locals) (d .arrays) (d .procedures) (d .parameters)) x)
     scalars-read f g = number-read _ (rw (f, g))
 
-    pub locals-read : eqb k 0 ≡ false → eqb k 1 ≡ false → NumberRead k s at d (progress.Read (limits (d .edition) (d .scalars) n (d .arrays) (d .procedures) (d .parameters)) x)
+    pub locals-read : eqb k 0 ≡ false → eqb k 1 ≡ false →
+        NumberRead k s at d (progress.Read (limits (d .strict) (d .edition) (d .scalars) n (d .arrays) (d .procedures) (d .parameters)) x)
     locals-read f g = number-read _ (rw (f, g))
 
 -- the first three lines go on from one to the next
@@ -80,7 +84,8 @@ module _ (s : Bytes) (n : ℕ) (d : Limits) (w : Words) where
   headed-long : (k at : ℕ) → Headed k s n d at w → length w ≡ n
   headed-long k at h = ap length (h .words) ∙ length-replicate n 0
 
-  pub number-step : (k : ℕ) → k ≤ 2 → (x : Reached) → Went k s n (progress.Read d x) w → (r : Progress) → NumberRead k s (x .at) d r → Went (k + 1) s n r w
+  pub number-step : (k : ℕ) → k ≤ 2 → (x : Reached) → Stage k s n d x w → (r : Progress) → NumberRead k s (x .at) d r →
+      Went (d .strict) (k + 1) s n r w
   number-step zero small x h (progress.Refused e p) q = (h .rest ∙ ap (andThen (λ m. fromScalars (withNumber 0 d m))) q, headed-long 0 (x .at) h)
   number-step zero small x h (progress.Read l y) g =
       let z : Headed 1 s n (withNumber 0 d (g .number)) (y .at) w = record {
@@ -92,7 +97,7 @@ module _ (s : Bytes) (n : ℕ) (d : Limits) (w : Words) where
         words = h .words;
         enough = h .enough;
       } in
-      subst (λ v. Headed 1 s n v (y .at) w) (sym (g .known)) z
+      (ap (λ v. v .strict) (g .known), subst (λ v. Headed 1 s n v (y .at) w) (sym (g .known)) z)
   number-step (suc zero) small x h (progress.Refused e p) q = (h .rest ∙ ap (andThen (λ m. fromLocals (withNumber 1 d m))) q, headed-long 1 (x .at) h)
   number-step (suc zero) small x h (progress.Read l y) g =
       let z : Headed 2 s n (withNumber 1 d (g .number)) (y .at) w = record {
@@ -104,7 +109,7 @@ module _ (s : Bytes) (n : ℕ) (d : Limits) (w : Words) where
         words = h .words;
         enough = h .enough;
       } in
-      subst (λ v. Headed 2 s n v (y .at) w) (sym (g .known)) z
+      (ap (λ v. v .strict) (g .known), subst (λ v. Headed 2 s n v (y .at) w) (sym (g .known)) z)
   number-step (suc (suc zero)) small x h (progress.Refused e p) q = (h .rest ∙ ap (andThen (λ m. fromArrays (withNumber 2 d m))) q, headed-long 2 (x .at) h)
   number-step (suc (suc zero)) small x h (progress.Read l y) g =
       let z : Headed 3 s n (withNumber 2 d (g .number)) (y .at) w = record {
@@ -116,7 +121,7 @@ module _ (s : Bytes) (n : ℕ) (d : Limits) (w : Words) where
         words = h .words;
         enough = h .enough;
       } in
-      subst (λ v. Headed 3 s n v (y .at) w) (sym (g .known)) z
+      (ap (λ v. v .strict) (g .known), subst (λ v. Headed 3 s n v (y .at) w) (sym (g .known)) z)
   number-step (suc (suc (suc k))) small x h r q = absurd (omega arith)
 
 -- ---- the arrays
@@ -125,13 +130,13 @@ module _ (s : Bytes) (n : ℕ) (d : Limits) (at : ℕ) (w : Words) (h : Headed 3
   abbrev onArrays : Read (List ℕ) → Read Sheet
   onArrays x = andThen (fromRanges d) x
 
-  pub arrays-refused : (k p : ℕ) → r ≡ arrays.Refused k p → Went 4 s n (progress.Refused k p) w₁
+  pub arrays-refused : (k p : ℕ) → r ≡ arrays.Refused k p → Went (d .strict) 4 s n (progress.Refused k p) w₁
   arrays-refused k p q =
       let x : ArraysDone s at (d .scalars) w w₁ (arrays.Refused k p) = rw q at a in
       (h .rest ∙ ap onArrays (x .0), x .1 ∙ headed-long s n d w 3 at h)
 
   pub arrays-found : (m end c : ℕ) → r ≡ arrays.Read m end c →
-      Arrayed s n (limits (d .edition) (d .scalars) (d .locals) m (d .procedures) (d .parameters)) c w₁
+      Arrayed s n (limits (d .strict) (d .edition) (d .scalars) (d .locals) m (d .procedures) (d .parameters)) c w₁
   unfolding laidArrays
   arrays-found m end c q =
       let f : ArraysFound s at (d .scalars) w (record { arrays = m; end = end; words = w₁ }) c = rw q at a in
@@ -167,12 +172,12 @@ arrayed-long {s} {n} {m} {d} {at} {w} e h = subst (λ k. Arrayed s k d at w) e h
 module _ (s : Bytes) (n : ℕ) (d : Limits) (at : ℕ) (w : Words) (h : Arrayed s n d at w) (w₁ : Words) (r : Ranges)
     (a : RangesDone (d .edition) (d .scalars) (d .arrays) s at w w₁ r) where
   abbrev onRanges : Read (List Range) → Read Sheet
-  onRanges x = andThen (λ rs. fromGiven (declaring d (h .lengths) rs)) x
+  onRanges x = andThen (λ rs. fromGiven (d .strict) (declaring d (h .lengths) rs)) x
 
-  next-ranges : sheet (lineAt s 0) ≡ onRanges (rangesLine (d .edition) (d .scalars + d .arrays) (lineAt s at))
+  next-ranges : sheet (d .strict) (lineAt s 0) ≡ onRanges (rangesLine (d .edition) (d .scalars + d .arrays) (lineAt s at))
   next-ranges = h .rest ∙ ap (λ k. onRanges (rangesLine (d .edition) (d .scalars + k) (lineAt s at))) (h .counts [] .arrays)
 
-  pub ranges-refused : (k p : ℕ) → r ≡ ranges.Refused k p → Went 4 s n (progress.Refused k p) w₁
+  pub ranges-refused : (k p : ℕ) → r ≡ ranges.Refused k p → Went (d .strict) 4 s n (progress.Refused k p) w₁
   ranges-refused k p q =
       let x : RangesDone (d .edition) (d .scalars) (d .arrays) s at w w₁ (ranges.Refused k p) = rw q at a in
       (next-ranges ∙ ap onRanges (x .0), x .1 ∙ h .long)
@@ -244,7 +249,7 @@ module _ (s : Bytes) (n : ℕ) (d : Limits) (at : ℕ) (w : Words) (h : Arrayed 
       enough = h .enough;
     }
 
-  pub ranges-found : (c : ℕ) (x : Reached) → r ≡ ranges.Read c → x ≡ reached c → Went 4 s n (progress.Read d x) w₁
+  pub ranges-found : (c : ℕ) (x : Reached) → r ≡ ranges.Read c → x ≡ reached c → Went (d .strict) 4 s n (progress.Read d x) w₁
   ranges-found c x q there =
       let f : RangesFound (d .edition) (d .scalars) (d .arrays) s at w w₁ c = rw q at a in
-      subst (λ (y : Reached). Ranged s n d (y .at) w₁) (sym there) (ranged c f)
+      (refl, subst (λ (y : Reached). Ranged s n d (y .at) w₁) (sym there) (ranged c f))

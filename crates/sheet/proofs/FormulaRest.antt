@@ -21,7 +21,7 @@ use Rattle.sheet.specs.Codes.{formulaTokens}
 use Rattle.sheet.specs.Reader.{readerAt}
 use Rattle.sheet.specs.Tables.{Words, laidEnds}
 use Rattle.sheet.specs.Ends.{tokensIn}
-use Rattle.sheet.specs.FormulaLine.{lineFormula, formulaRest, Known, Begin, begin, atBegin, whole, Through, Scans, Within, Closed, Closes, Laid}
+use Rattle.sheet.specs.FormulaLine.{lineFormula, formulaRest, Known, Begin, begin, atBegin, refusingAt, whole, Through, Scans, Within, Closed, Closes, Laid}
 use Rattle.sheet.proofs.Left.{left-formula, spelled-found, spelled-refused}
 use Rattle.sheet.proofs.Laid.{tokens-length, ends-length}
 use Rattle.sheet.proofs.Beside.{beside-ends}
@@ -35,14 +35,14 @@ closing F = mark feed >> give F
 
 module _ (b : Begin) (D : Declared) where
   abbrev reads : Read Formula
-  reads = formula D maxNesting [] (atBegin b)
+  reads = formula (refusingAt b) D maxNesting [] (atBegin b)
 
-  line-read : (x : Read Formula) → reads ≡ x → lineFormula D (atBegin b) ≡ andThen closing x
+  line-read : (x : Read Formula) → reads ≡ x → lineFormula (refusingAt b) D (atBegin b) ≡ andThen closing x
   unfolding lineFormula
   line-read x e = ap (andThen closing) e
 
-  pub line-refused : (k p : ℕ) → whole b D ≡ refused k p → lineFormula D (atBegin b) ≡ refused k p
-  line-refused k p h = line-read (refused k p) (spelled-refused reads (left-formula D (atBegin b) ∙ h))
+  pub line-refused : (k p : ℕ) → whole b D ≡ refused k p → lineFormula (refusingAt b) D (atBegin b) ≡ refused k p
+  line-refused k p h = line-read (refused k p) (spelled-refused reads (left-formula (refusingAt b) D (atBegin b) ∙ h))
 
 pub within-read : (s : Bytes) (r : Scanned) (n e m : ℕ) → r ≡ scanned.Read n e m → Within s r → (n ≤ maxTokens) × (e ≤ length s)
 within-read s r n e m q h = rw q at h
@@ -57,7 +57,8 @@ module _ (b : Begin) (w w′ : Words) (r : Scanned) where
 
   -- and of the line
   module _ (D : Declared) where
-    pub closes-refused : (k p : ℕ) → r ≡ scanned.Refused k p → Closes b D w w′ r → (lineFormula D (atBegin b) ≡ refused k p) × (length w′ ≡ length w)
+    pub closes-refused : (k p : ℕ) → r ≡ scanned.Refused k p → Closes b D w w′ r →
+        (lineFormula (refusingAt b) D (atBegin b) ≡ refused k p) × (length w′ ≡ length w)
     closes-refused k p q h = rw q at h
 
     pub closes-read : (n e m : ℕ) → r ≡ scanned.Read n e m → Closes b D w w′ r → Closed b D w w′ n e m
@@ -69,9 +70,9 @@ module _ {b : Begin} {w w′ : Words} {n e m : ℕ} (p : Through b w w′ n e m)
 
   module _ (D : Declared) (g : Known (b .limits) w D) where
     spelt : (F : Formula) × (reads b D ≡ found F (readerAt (b .bytes) e n (p .locals))) × (formulaTokens F ≡ p .tokens)
-    spelt = spelled-found (reads b D) (left-formula D (atBegin b) ∙ p .all D g)
+    spelt = spelled-found (reads b D) (left-formula (refusingAt b) D (atBegin b) ∙ p .all D g)
 
-    pub through-no-feed : (classAt (b .bytes) e ≡ 4 → ⊥) → lineFormula D (atBegin b) ≡ refused 5 e
+    pub through-no-feed : (classAt (b .bytes) e ≡ 4 → ⊥) → lineFormula (refusingAt b) D (atBegin b) ≡ refused 5 e
     unfolding mark classNumber
     through-no-feed q = line-read b D _ (spelt .1) ∙ rw (class-not-next (b .bytes) e feed q)
 
@@ -99,23 +100,24 @@ abbrev ending : Formula → Reader → Read Formula
 ending F = finish >> give F
 
 module _ (b : Begin) (D : Declared) where
-  pub rest-no-key : begins (bytes "formula=") (drop (b .from) (b .bytes)) ≡ false → formulaRest D (atBegin b) ≡ refused 3 (b .from)
+  pub rest-no-key : begins (bytes "formula=") (drop (b .from) (b .bytes)) ≡ false → formulaRest (refusingAt b) D (atBegin b) ≡ refused 3 (b .from)
   unfolding formulaRest exactly
   rest-no-key e = rw e
 
   module _ (e : begins (bytes "formula=") (drop (b .from) (b .bytes)) ≡ true) where
-    rest-key : (x : Read Formula) → lineFormula D (atBegin (keyed b)) ≡ x → formulaRest D (atBegin b) ≡ andThen ending x
+    rest-key : (x : Read Formula) → lineFormula (refusingAt b) D (atBegin (keyed b)) ≡ x → formulaRest (refusingAt b) D (atBegin b) ≡ andThen ending x
     unfolding formulaRest exactly
     rest-key x h = rw (e, drop-drop) (ap (andThen ending) h)
 
-    pub rest-refused : (k p : ℕ) → lineFormula D (atBegin (keyed b)) ≡ refused k p → formulaRest D (atBegin b) ≡ refused k p
+    pub rest-refused : (k p : ℕ) → lineFormula (refusingAt b) D (atBegin (keyed b)) ≡ refused k p →
+        formulaRest (refusingAt b) D (atBegin b) ≡ refused k p
     rest-refused k p h = rest-key (refused k p) h
 
     module _ {w w′ : Words} {n c m : ℕ} (p : Closed (keyed b) D w w′ n c m) where
       pub rest-long : length w′ ≡ length w
       rest-long = p .words .long ∙ tokens-length (b .tokens) (formulaTokens (p .formula)) w
 
-      pub rest-more : c < length (b .bytes) → formulaRest D (atBegin b) ≡ refused 5 c
+      pub rest-more : c < length (b .bytes) → formulaRest (refusingAt b) D (atBegin b) ≡ refused 5 c
       rest-more l = rest-key _ (p .is) ∙ rw (drop-cons (b .bytes) c 0 l)
 
       pub rest-end : length (b .bytes) ≤ c → pathAt ≤ length w → (w″ : Words) → w″ ≡ laidEnds 0 (tokensIn w′ 0 n) w′ →

@@ -5,6 +5,7 @@ pub mod CodeOperands
 pub mod Operands
 pub mod FormulaWord
 pub mod TermWord
+pub mod RangeBounds
 pub mod Dues
 pub mod Turn
 pub mod Bounds
@@ -42,6 +43,7 @@ pub mod Spelt
 pub mod Bits
 pub mod Entries
 pub mod Opened
+pub mod RangeDues
 pub mod Faults
 pub mod Beside
 pub mod Loop

@@ -18,21 +18,21 @@ use Rattle.sheet.specs.declared.Token.{Token}
 use Rattle.sheet.specs.declared.formula.Limits.{Limits}
 use Rattle.sheet.specs.Reader.{readerAt}
 use Rattle.sheet.specs.Sorts.{formulaSort}
-use Rattle.sheet.specs.Dues.{Due, dueFormula}
-use Rattle.sheet.specs.Turn.{room, left, leftHere, Fits}
+use Rattle.sheet.specs.Dues.{Due, dueFormula, left, leftHere}
 use Rattle.sheet.specs.Tables.{Words, laidTokens}
-use Rattle.sheet.specs.Stack.{Bits, entry, entered, Stacked, Beside}
-use Rattle.sheet.specs.FormulaLine.{Small, Sized, Known, Begin, whole, Through}
+use Rattle.sheet.specs.Stack.{Bits, Kept, entry, entered, Stacked, Beside}
+use Rattle.sheet.specs.FormulaLine.{Small, Sized, Known, Begin, refusingAt, whole, Through}
 use Rattle.sheet.proofs.Left.{left-none, left-space, left-no-space}
-use Rattle.sheet.proofs.Bounds.{fits-start, fits-length}
+use Rattle.sheet.proofs.Bounds.{Fits, fits-start, fits-length}
 use Rattle.sheet.proofs.Bits.{bits-none}
 use Rattle.sheet.proofs.Entries.{stacked-put, beside-self, beside-then, beside-put}
+use Rattle.sheet.proofs.RangeDues.{Plains, Tops}
 use Rattle.sheet.proofs.Beside.{beside-tokens}
 use Rattle.sheet.proofs.Procs.{sized-same, known-same}
 
 -- ---- what the variables stand for
 
-module _ (b : Begin) (w₀ w : Words) (n count bound at : ℕ) where
+module _ (b : Begin) (w₀ w : Words) (n count bound at word : ℕ) where
   -- before a token: the first entry of the stack is due here
   pub record Reading : Type 0 where
     pub locals : Locals
@@ -48,8 +48,10 @@ module _ (b : Begin) (w₀ w : Words) (n count bound at : ℕ) where
     pub set : Bits bound locals
     pub fits : Fits (due ∷ dues)
     pub stack : Stacked w (due ∷ dues)
+    pub first : Kept w count word due
+    pub later : Plains dues
     pub table : Beside (laidTokens (b .tokens) read w₀) w
-    pub rest : (D : Declared) → Known (b .limits) w₀ D → whole b D ≡ leftHere D due dues read (readerAt (b .bytes) at count locals)
+    pub rest : (D : Declared) → Known (b .limits) w₀ D → whole b D ≡ leftHere (refusingAt b) D due dues read (readerAt (b .bytes) at count locals)
 
   -- behind a token
   pub record Taken : Type 0 where
@@ -64,14 +66,15 @@ module _ (b : Begin) (w₀ w : Words) (n count bound at : ℕ) where
     pub set : Bits bound locals
     pub fits : Fits dues
     pub stack : Stacked w dues
+    pub tops : Tops w count word dues
     pub table : Beside (laidTokens (b .tokens) read w₀) w
-    pub rest : (D : Declared) → Known (b .limits) w₀ D → whole b D ≡ left D dues read (readerAt (b .bytes) at count locals)
+    pub rest : (D : Declared) → Known (b .limits) w₀ D → whole b D ≡ left (refusingAt b) D dues read (readerAt (b .bytes) at count locals)
 
 -- ---- the start
 
 pub reading-start : (b : Begin) (w : Words) (m : ℕ) → Bits m (b .bound) → b .from ≤ length (b .bytes) → b .tokens ≤ maxTokens → pathAt ≤ length w →
-    Reading b (entered w 0 (entry formulaSort maxNesting 0)) (entered w 0 (entry formulaSort maxNesting 0)) 1 (b .tokens) m (b .from)
-unfolding laidTokens Stacked
+    Reading b (entered w 0 (entry formulaSort maxNesting 0)) (entered w 0 (entry formulaSort maxNesting 0)) 1 (b .tokens) m (b .from) (b .from)
+unfolding laidTokens Stacked Plains
 reading-start b w m set h few k = record {
   locals = b .bound;
   due = dueFormula maxNesting [];
@@ -86,13 +89,15 @@ reading-start b w m set h few k = record {
   set = set;
   fits = fits-start;
   stack = stacked-put w (dueFormula maxNesting []) [] 0 (entry formulaSort maxNesting 0) refl (omega arith) (record { sort = refl; room = refl; scope = bits-none }) tt;
+  first = tt;
+  later = tt;
   table = beside-self _;
   rest = λ D g. refl;
 }
 
 -- ---- behind a token
 
-module _ {b : Begin} {w₀ w : Words} {n count bound e : ℕ} (i : Taken b w₀ w n count bound e) where
+module _ {b : Begin} {w₀ w : Words} {n count bound e word : ℕ} (i : Taken b w₀ w n count bound e word) where
   pub taken-last : n ≡ 0 → Through b w₀ w count e bound
   taken-last z = record {
     tokens = i .read;
@@ -102,7 +107,8 @@ module _ {b : Begin} {w₀ w : Words} {n count bound e : ℕ} (i : Taken b w₀ 
     within = i .within;
     set = i .set;
     words = i .table;
-    all = λ D g. i .rest D g ∙ ap (λ ds. left D ds (i .read) (readerAt (b .bytes) e count (i .locals))) (none (i .dues) (sym (i .depth) ∙ z)) ∙ left-none D (i .read) _;
+    all = λ D g. i .rest D g ∙ ap (λ ds. left (refusingAt b) D ds (i .read) (readerAt (b .bytes) e count (i .locals)))
+        (none (i .dues) (sym (i .depth) ∙ z)) ∙ left-none (refusingAt b) D (i .read) _;
   }
     where
       none : (ds : List Due) → length ds ≡ 0 → ds ≡ []
@@ -114,18 +120,19 @@ module _ {b : Begin} {w₀ w : Words} {n count bound e : ℕ} (i : Taken b w₀ 
     unfolding classNumber
     taken-stops c D g = i .rest D g ∙ by (i .dues) (i .depth)
       where
-        by : (ds : List Due) → n ≡ length ds → left D ds (i .read) (readerAt (b .bytes) e count (i .locals)) ≡ refused 5 e
+        by : (ds : List Due) → n ≡ length ds → left (refusingAt b) D ds (i .read) (readerAt (b .bytes) e count (i .locals)) ≡ refused 5 e
         by [] q = absurd (h q)
-        by (d ∷ ds) q = left-no-space D d ds (i .read) (readerAt (b .bytes) e count (i .locals)) (class-not-next (b .bytes) e space c)
+        by (d ∷ ds) q = left-no-space (refusingAt b) D d ds (i .read) (readerAt (b .bytes) e count (i .locals)) (class-not-next (b .bytes) e space c)
 
-    pub taken-next : classAt (b .bytes) e ≡ 3 → Reading b w₀ w n count bound (e + 1)
-    unfolding classNumber
-    taken-next c = by (i .dues) (i .depth) (i .fits) (i .stack) (i .rest)
+    pub taken-next : classAt (b .bytes) e ≡ 3 → Reading b w₀ w n count bound (e + 1) word
+    unfolding classNumber Tops
+    taken-next c = by (i .dues) (i .depth) (i .fits) (i .stack) (i .tops) (i .rest)
       where
-        by : (ds : List Due) → n ≡ length ds → Fits ds → Stacked w ds →
-            ((D : Declared) → Known (b .limits) w₀ D → whole b D ≡ left D ds (i .read) (readerAt (b .bytes) e count (i .locals))) → Reading b w₀ w n count bound (e + 1)
-        by [] q f k r = absurd (h q)
-        by (d ∷ ds) q f k r = record {
+        by : (ds : List Due) → n ≡ length ds → Fits ds → Stacked w ds → Tops w count word ds →
+            ((D : Declared) → Known (b .limits) w₀ D → whole b D ≡ left (refusingAt b) D ds (i .read) (readerAt (b .bytes) e count (i .locals))) →
+            Reading b w₀ w n count bound (e + 1) word
+        by [] q f k o r = absurd (h q)
+        by (d ∷ ds) q f k o r = record {
           locals = i .locals;
           due = d;
           dues = ds;
@@ -139,8 +146,11 @@ module _ {b : Begin} {w₀ w : Words} {n count bound e : ℕ} (i : Taken b w₀ 
           set = i .set;
           fits = f;
           stack = k;
+          first = o .0;
+          later = o .1;
           table = i .table;
-          rest = λ D g. r D g ∙ left-space D d ds (i .read) (readerAt (b .bytes) e count (i .locals)) (class-next (b .bytes) e space c) ∙ rw drop-drop;
+          rest = λ D g. r D g ∙ left-space (refusingAt b) D d ds (i .read) (readerAt (b .bytes) e count (i .locals))
+              (class-next (b .bytes) e space c) ∙ rw drop-drop;
         }
 
 -- the words before the first entry was put

@@ -2,18 +2,23 @@
 -- Assumes nothing.
 use Prim.Native.Nat.{ℕ, zero, suc, pred, _+_, _-_, _^_, _<_, _≤_}
 use native.Mathlib.Omega.{arith}
-use mathlib.Core.Path.{_≡_, refl, sym, ap, _∙_}
-use mathlib.Core.List.{List, _∷_, _++_}
+use mathlib.Core.Path.{_≡_, refl, sym, ap, subst, _∙_}
+use mathlib.Core.Bool.{not}
+use mathlib.Core.List.{List, [], _∷_, _++_, append-assoc}
 use lib.ListN.{length, length-append, length-replicate}
 use lib.Bits.{bitOr}
+use lib.Dec.{T}
+use borrow.Author.Tests.{ne-eqb}
+use Rattle.specification.specs.Bytes.{between}
 use Rattle.specification.specs.Formula.{Locals}
 use Rattle.tables.specs.Layout.{maxDues, pathAt}
+use Rattle.tables.specs.Codes.{constantCode}
 use Rattle.sheet.specs.declared.Token.{Token}
 use Rattle.sheet.specs.declared.stack.Entry.{Entry}
 use Rattle.sheet.specs.declared.sorts.Operands.{Operands}
-use Rattle.sheet.specs.Sorts.{formulaSort, termSort, procedureSort, exSort, rangeSort, operandsOf}
-use Rattle.sheet.specs.Dues.{Due, dueFormula, dueTerm, dueProcedure, dueEx, dueRange}
-use Rattle.sheet.specs.Turn.{room, dueBy, dues, opens}
+use Rattle.sheet.specs.Sorts.{formulaSort, termSort, upperSort, boundsSort, procedureSort, exSort, rangeSort, wordOperands, operandsOf}
+use Rattle.sheet.specs.Dues.{Due, dueFormula, dueTerm, dueProcedure, dueEx, dueRange, dueBounds, dueUpper}
+use Rattle.sheet.specs.Turn.{room, dueBy, dues, upper, opens}
 use Rattle.sheet.specs.Tables.{Words}
 use Rattle.sheet.specs.Stack.{Bits, sortOf, scopeOf, Means, entry, entered, Stacked, Beside, Repeated, Opened}
 use Rattle.sheet.proofs.CodeOperands.{operands-all}
@@ -22,22 +27,28 @@ use Rattle.sheet.proofs.Entries.{stacked-put, beside-then, beside-put}
 
 -- ---- as what is due
 
--- of a sort that there is
+-- of a sort that operands have
+abbrev Usual : ℕ → Type 0
+Usual s = (s ≤ rangeSort) × T (not (between upperSort boundsSort s))
+
 abbrev Plain : Operands → Type 0
-Plain o = o .sort ≤ rangeSort
+Plain o = Usual (o .sort)
 
 plain : (c : ℕ) → Plain (operandsOf c)
 plain c =
-    operands-all Plain c (omega arith) (omega arith) (omega arith) (omega arith) (omega arith) (omega arith) (omega arith) (λ e. omega arith) (λ e. omega arith)
+    operands-all Plain c (omega arith, tt) (omega arith, tt) (omega arith, tt) (omega arith, tt) (omega arith, tt) (omega arith, tt) (omega arith, tt)
+    (λ e. (omega arith, tt)) (λ e. (omega arith, tt))
 
-means-by : (s k m : ℕ) (S : Locals) → s ≤ rangeSort → Bits m S → Means (entry s k m) (dueBy s k S)
+means-by : (p s k m : ℕ) (S : Locals) → Usual s → Bits m S → Means (entry s k m) (dueBy p s k S)
 unfolding dueBy
-means-by zero k m S h b = record { sort = refl; room = refl; scope = b }
-means-by (suc zero) k m S h b = record { sort = refl; room = refl; scope = b }
-means-by (suc (suc zero)) k m S h b = record { sort = refl; room = refl; scope = b }
-means-by (suc (suc (suc zero))) k m S h b = record { sort = refl; room = refl; scope = b }
-means-by (suc (suc (suc (suc zero)))) k m S h b = record { sort = refl; room = refl; scope = b }
-means-by (suc (suc (suc (suc (suc s))))) k m S h b = absurd (omega arith)
+means-by p zero k m S h b = record { sort = refl; room = refl; scope = b }
+means-by p (suc zero) k m S h b = record { sort = refl; room = refl; scope = b }
+means-by p (suc (suc zero)) k m S h b = absurd (h .1)
+means-by p (suc (suc (suc zero))) k m S h b = absurd (h .1)
+means-by p (suc (suc (suc (suc zero)))) k m S h b = record { sort = refl; room = refl; scope = b }
+means-by p (suc (suc (suc (suc (suc zero))))) k m S h b = record { sort = refl; room = refl; scope = b }
+means-by p (suc (suc (suc (suc (suc (suc zero)))))) k m S h b = record { sort = refl; room = refl; scope = b }
+means-by p (suc (suc (suc (suc (suc (suc (suc s))))))) k m S h b = absurd (omega arith)
 
 -- how much deeper nesting may go at a token's operands: the arguments of a call stand beside its procedure's number
 abbrev below : Due → ℕ
@@ -45,15 +56,23 @@ below (dueFormula k S) = pred k
 below (dueTerm k S) = pred k
 below (dueProcedure k S) = k
 below (dueEx k S) = k
-below (dueRange k S) = k
+below (dueRange k S p) = k
+below (dueBounds k S p) = pred k
+below (dueUpper k S p x) = pred k
 
-opens-operands : (d : Due) (t : Token) → sortOf d ≤ procedureSort → opens d t ≡ dues (below d) (scopeOf d) (operandsOf (t .code))
+-- sorts whose tokens make due their operands and nothing else
+abbrev Direct : ℕ → Type 0
+Direct s = (s ≤ procedureSort) × (s ≡ boundsSort → ⊥)
+
+opens-operands : (p : ℕ) (d : Due) (t : Token) → Direct (sortOf d) → opens p d t ≡ dues p (below d) (scopeOf d) (operandsOf (t .code))
 unfolding opens
-opens-operands (dueFormula k S) t h = refl
-opens-operands (dueTerm k S) t h = refl
-opens-operands (dueProcedure k S) t h = refl
-opens-operands (dueEx k S) t h = absurd (omega arith)
-opens-operands (dueRange k S) t h = absurd (omega arith)
+opens-operands p (dueFormula k S) t h = refl
+opens-operands p (dueTerm k S) t h = refl
+opens-operands p (dueProcedure k S) t h = refl
+opens-operands p (dueEx k S) t h = absurd (omega arith)
+opens-operands p (dueRange k S q) t h = absurd (omega arith)
+opens-operands p (dueBounds k S q) t h = absurd (h .1 refl)
+opens-operands p (dueUpper k S q x) t h = refl
 
 -- how much deeper nesting may go at the operands, by the entry
 module _ (e : Entry) (d : Due) (m : Means e d) where
@@ -65,46 +84,100 @@ module _ (e : Entry) (d : Due) (m : Means e d) where
       by (dueTerm k S) q = absurd (omega arith)
       by (dueProcedure k S) q = refl
       by (dueEx k S) q = absurd (omega arith)
-      by (dueRange k S) q = absurd (omega arith)
+      by (dueRange k S p) q = absurd (omega arith)
+      by (dueBounds k S p) q = absurd (omega arith)
+      by (dueUpper k S p x) q = absurd (omega arith)
 
   pub below-other : (e .sort ≡ procedureSort → ⊥) → sortOf d ≤ procedureSort → e .room - 1 ≡ below d
   below-other n h = ap (λ (k : ℕ). k - 1) (m .room) ∙ by d (λ q. n (m .sort ∙ q)) h
     where
+      less : (k : ℕ) → k - 1 ≡ pred k
+      less zero = refl
+      less (suc k) = omega arith
+
       by : (d : Due) → (sortOf d ≡ procedureSort → ⊥) → sortOf d ≤ procedureSort → room d - 1 ≡ below d
-      by (dueFormula zero S) q l = refl
-      by (dueFormula (suc k) S) q l = omega arith
-      by (dueTerm zero S) q l = refl
-      by (dueTerm (suc k) S) q l = omega arith
+      by (dueFormula k S) q l = less k
+      by (dueTerm k S) q l = less k
       by (dueProcedure k S) q l = absurd (q refl)
       by (dueEx k S) q l = absurd (omega arith)
-      by (dueRange k S) q l = absurd (omega arith)
+      by (dueRange k S p) q l = absurd (omega arith)
+      by (dueBounds k S p) q l = less k
+      by (dueUpper k S p x) q l = less k
 
-pub opens-length : (d : Due) (t : Token) (ds : List Due) → sortOf d ≤ procedureSort → length (opens d t ++ ds) ≡ operandsOf (t .code) .count + length ds
-unfolding dues
-opens-length d t ds h = rw (opens-operands d t h, length-append, length-replicate)
+pub opens-length : (p : ℕ) (d : Due) (t : Token) (ds : List Due) → sortOf d ≤ procedureSort →
+    operandsOf (t .code) .count + length ds ≤ length (opens p d t ++ ds)
+unfolding opens dues
+opens-length p (dueFormula k S) t ds h = rw (length-append, length-replicate) (omega arith)
+opens-length p (dueTerm k S) t ds h = rw (length-append, length-replicate) (omega arith)
+opens-length p (dueProcedure k S) t ds h = rw (length-append, length-replicate) (omega arith)
+opens-length p (dueEx k S) t ds h = absurd (omega arith)
+opens-length p (dueRange k S q) t ds h = absurd (omega arith)
+opens-length p (dueBounds k S q) t ds h = rw (length-append, length-append, length-replicate) (omega arith)
+opens-length p (dueUpper k S q x) t ds h = rw (length-append, length-replicate) (omega arith)
+
+-- what is due where the entry is of a sort that one due alone has
+module _ (P : Due → Type 0) (e : Entry) where
+  only-ex : e .sort ≡ exSort → ((k : ℕ) (S : Locals) → Means e (dueEx k S) → P (dueEx k S)) → (d : Due) → Means e d → P d
+  only-ex z h (dueFormula k S) m = absurd (omega (arith, m .sort))
+  only-ex z h (dueTerm k S) m = absurd (omega (arith, m .sort))
+  only-ex z h (dueProcedure k S) m = absurd (omega (arith, m .sort))
+  only-ex z h (dueEx k S) m = h k S m
+  only-ex z h (dueRange k S p) m = absurd (omega (arith, m .sort))
+  only-ex z h (dueBounds k S p) m = absurd (omega (arith, m .sort))
+  only-ex z h (dueUpper k S p x) m = absurd (omega (arith, m .sort))
+
+  only-range : procedureSort < e .sort → (e .sort ≡ exSort → ⊥) → ((k : ℕ) (S : Locals) (p : ℕ) → Means e (dueRange k S p) → P (dueRange k S p)) →
+      (d : Due) → Means e d → P d
+  only-range y z h (dueFormula k S) m = absurd (omega (arith, m .sort))
+  only-range y z h (dueTerm k S) m = absurd (omega (arith, m .sort))
+  only-range y z h (dueProcedure k S) m = absurd (omega (arith, m .sort))
+  only-range y z h (dueEx k S) m = absurd (z (m .sort))
+  only-range y z h (dueRange k S p) m = h k S p m
+  only-range y z h (dueBounds k S p) m = absurd (omega (arith, m .sort))
+  only-range y z h (dueUpper k S p x) m = absurd (omega (arith, m .sort))
+
+  only-bounds : e .sort ≡ boundsSort → ((k : ℕ) (S : Locals) (p : ℕ) → Means e (dueBounds k S p) → P (dueBounds k S p)) → (d : Due) → Means e d → P d
+  only-bounds z h (dueFormula k S) m = absurd (omega (arith, m .sort))
+  only-bounds z h (dueTerm k S) m = absurd (omega (arith, m .sort))
+  only-bounds z h (dueProcedure k S) m = absurd (omega (arith, m .sort))
+  only-bounds z h (dueEx k S) m = absurd (omega (arith, m .sort))
+  only-bounds z h (dueRange k S p) m = absurd (omega (arith, m .sort))
+  only-bounds z h (dueBounds k S p) m = h k S p m
+  only-bounds z h (dueUpper k S p x) m = absurd (omega (arith, m .sort))
+
+-- what a token of the lower bound makes due
+pub constant-opens : (i k : ℕ) (S : Locals) (q : ℕ) (t : Token) → t .code ≡ constantCode →
+    opens i (dueBounds k S q) t ≡ dueUpper k S q (t .operand) ∷ []
+unfolding opens upper dues operandsOf wordOperands
+constant-opens i k S q t c = rw c
+
+pub lower-opens : (i k : ℕ) (S : Locals) (q : ℕ) (t : Token) (ds : List Due) → (t .code ≡ constantCode → ⊥) →
+    opens i (dueBounds k S q) t ++ ds ≡ opens i (dueTerm k S) t ++ (dueTerm k S ∷ ds)
+unfolding opens upper
+lower-opens i k S q t ds c = rw (ne-eqb (t .code) constantCode c, append-assoc)
 
 -- ---- put on the stack
 
 -- operands: k is how much deeper nesting may go at them
-module _ (w w′ : Words) (n : ℕ) (e : Entry) (t : Token) (f : e .sort ≤ procedureSort) (o : Operands) (q : o ≡ operandsOf (t .code)) (k : ℕ)
+module _ (w w′ : Words) (n : ℕ) (e : Entry) (t : Token) (f : Direct (e .sort)) (o : Operands) (q : o ≡ operandsOf (t .code)) (k : ℕ)
     (deep : (d : Due) → Means e d → sortOf d ≤ procedureSort → k ≡ below d) (p : Repeated w w′ n (entry (o .sort) k (e .scope)) (o .count)) where
-  low : (d : Due) → Means e d → sortOf d ≤ procedureSort
-  low d m = omega (arith, m .sort)
+  direct : (d : Due) → Means e d → Direct (sortOf d)
+  direct d m = (omega (arith, m .sort), λ z. f .1 (m .sort ∙ z))
 
-  first : (d : Due) → Means e d → opens d t ≡ dues (below d) (scopeOf d) o
-  first d m = opens-operands d t (low d m) ∙ rw q
+  first : (i : ℕ) (d : Due) → Means e d → opens i d t ≡ dues i (below d) (scopeOf d) o
+  first i d m = opens-operands i d t (direct d m) ∙ rw q
 
-  means-operand : (d : Due) → Means e d → Means (entry (o .sort) k (e .scope)) (dueBy (o .sort) (below d) (scopeOf d))
-  means-operand d m =
-      let s : o .sort ≤ rangeSort = omega (arith, ap (λ (x : Operands). x .sort) q, plain (t .code)) in
-      rw (deep d m (low d m)) (means-by (o .sort) (below d) (e .scope) (scopeOf d) s (m .scope))
+  means-operand : (i : ℕ) (d : Due) → Means e d → Means (entry (o .sort) k (e .scope)) (dueBy i (o .sort) (below d) (scopeOf d))
+  means-operand i d m =
+      let s : Plain o = subst Plain (sym q) (plain (t .code)) in
+      rw (deep d m (direct d m .0)) (means-by i (o .sort) (below d) (e .scope) (scopeOf d) s (m .scope))
 
   pub opened-operands : Opened w w′ n e t (n + o .count)
   unfolding dues
   opened-operands = record {
     beside = p .beside;
-    count = λ d ds m r. rw (first d m, length-append, length-replicate) (omega arith);
-    stack = λ d ds m r s. rw (first d m) (p .stack (dueBy (o .sort) (below d) (scopeOf d)) ds (means-operand d m) r s);
+    count = λ i d ds m r. rw (first i d m, length-append, length-replicate) (omega arith);
+    stack = λ i d ds m r s. rw (first i d m) (p .stack (dueBy i (o .sort) (below d) (scopeOf d)) ds (means-operand i d m) r s);
   }
 
 module _ (w : Words) (n : ℕ) (e : Entry) (t : Token) (h : n + 3 ≤ maxDues) (l : pathAt ≤ length w) where
@@ -120,61 +193,61 @@ module _ (w : Words) (n : ℕ) (e : Entry) (t : Token) (h : n + 3 ≤ maxDues) (
     unfolding opens
     opened-ex z = record {
       beside = beside-put w n body (omega arith);
-      count = count-ex;
-      stack = stack-ex;
+      count = λ i d ds p r. only-ex (λ d. n + 1 ≡ length (opens i d t ++ ds)) e z (λ k S p. omega arith) d p;
+      stack = λ i d ds p r s.
+          only-ex (λ d. Stacked (entered w n body) (opens i d t ++ ds)) e z
+          (λ k S p. stacked-put w _ ds n body r (omega arith) (means-body (dueEx k S) p) s) d p;
     }
-      where
-        count-ex : (d : Due) (ds : List Due) → Means e d → length ds ≡ n → n + 1 ≡ length (opens d t ++ ds)
-        count-ex (dueFormula k S) ds p r = absurd (omega (arith, p .sort))
-        count-ex (dueTerm k S) ds p r = absurd (omega (arith, p .sort))
-        count-ex (dueProcedure k S) ds p r = absurd (omega (arith, p .sort))
-        count-ex (dueEx k S) ds p r = omega arith
-        count-ex (dueRange k S) ds p r = absurd (omega (arith, p .sort))
 
-        stack-ex : (d : Due) (ds : List Due) → Means e d → length ds ≡ n → Stacked w ds → Stacked (entered w n body) (opens d t ++ ds)
-        stack-ex (dueFormula k S) ds p r s = absurd (omega (arith, p .sort))
-        stack-ex (dueTerm k S) ds p r s = absurd (omega (arith, p .sort))
-        stack-ex (dueProcedure k S) ds p r s = absurd (omega (arith, p .sort))
-        stack-ex (dueEx k S) ds p r s = stacked-put w _ ds n body r (omega arith) (means-body (dueEx k S) p) s
-        stack-ex (dueRange k S) ds p r s = absurd (omega (arith, p .sort))
+    abbrev limits : Entry
+    limits = entry boundsSort (e .room) (e .scope)
 
-    abbrev limit : Entry
-    limit = entry termSort (e .room) (e .scope)
-
-    pub opened-range : procedureSort < e .sort → (e .sort ≡ exSort → ⊥) → Opened w (entered (entered (entered w n body) (n + 1) limit) (n + 2) limit) n e t (n + 3)
+    pub opened-range : procedureSort < e .sort → (e .sort ≡ exSort → ⊥) → Opened w (entered (entered w n body) (n + 1) limits) n e t (n + 2)
     unfolding opens
-    opened-range y z = record {
-      beside = beside-then b₁ (beside-then b₂ (beside-put w₂ (n + 2) limit (omega arith)));
-      count = count-range;
-      stack = stack-range;
+    opened-range y z =
+        let w₁ = entered w n body in
+        let b₁ : Beside w w₁ = beside-put w n body (omega arith) in
+        record {
+          beside = beside-then b₁ (beside-put w₁ (n + 1) limits (omega arith));
+          count = λ i d ds p r. only-range (λ d. n + 2 ≡ length (opens i d t ++ ds)) e y z (λ k S q p. omega arith) d p;
+          stack = λ i d ds p r s.
+              only-range (λ d. Stacked (entered w₁ (n + 1) limits) (opens i d t ++ ds)) e y z
+              (λ k S q p.
+              stacked-put w₁ _ (_ ∷ ds) (n + 1) limits (omega arith) (omega (arith, b₁ .long))
+              (record { sort = refl; room = p .room; scope = p .scope })
+              (stacked-put w _ ds n body r (omega arith) (means-body (dueRange k S q) p) s)) d p;
+        }
+
+  -- where both bounds are due
+  module _ (z : e .sort ≡ boundsSort) where
+    abbrev highest : Entry
+    highest = entry upperSort (e .room) (e .scope)
+
+    pub opened-constant : t .code ≡ constantCode → Opened w (entered w n highest) n e t (n + 1)
+    opened-constant c = record {
+      beside = beside-put w n highest (omega arith);
+      count = λ i d ds p r. only-bounds (λ d. n + 1 ≡ length (opens i d t ++ ds)) e z (λ k S q p. rw (constant-opens i k S q t c) (omega arith)) d p;
+      stack = λ i d ds p r s.
+          only-bounds (λ d. Stacked (entered w n highest) (opens i d t ++ ds)) e z
+          (λ k S q p. rw (constant-opens i k S q t c)
+          (stacked-put w _ ds n highest r (omega arith) (record { sort = refl; room = p .room; scope = p .scope }) s)) d p;
+    }
+
+    abbrev other : Entry
+    other = entry termSort (e .room) (e .scope)
+
+    pub opened-lower : (t .code ≡ constantCode → ⊥) → (w′ : Words) (r : ℕ) → Opened (entered w n other) w′ (n + 1) other t r → Opened w w′ n e t r
+    opened-lower c w′ r o = record {
+      beside = beside-then (beside-put w n other (omega arith)) (o .beside);
+      count = λ i d ds p g.
+          only-bounds (λ d. r ≡ length (opens i d t ++ ds)) e z
+          (λ k S q p. rw (lower-opens i k S q t ds c) (o .count i (dueTerm k S) (dueTerm k S ∷ ds) (means p) (omega arith))) d p;
+      stack = λ i d ds p g s.
+          only-bounds (λ d. Stacked w′ (opens i d t ++ ds)) e z
+          (λ k S q p.
+          rw (lower-opens i k S q t ds c)
+          (o .stack i (dueTerm k S) (dueTerm k S ∷ ds) (means p) (omega arith) (stacked-put w _ ds n other g (omega arith) (means p) s))) d p;
     }
       where
-        w₁ : Words
-        w₁ = entered w n body
-
-        w₂ : Words
-        w₂ = entered w₁ (n + 1) limit
-
-        b₁ : Beside w w₁
-        b₁ = beside-put w n body (omega arith)
-
-        b₂ : Beside w₁ w₂
-        b₂ = beside-put w₁ (n + 1) limit (omega arith)
-
-        count-range : (d : Due) (ds : List Due) → Means e d → length ds ≡ n → n + 3 ≡ length (opens d t ++ ds)
-        count-range (dueFormula k S) ds p r = absurd (omega (arith, p .sort))
-        count-range (dueTerm k S) ds p r = absurd (omega (arith, p .sort))
-        count-range (dueProcedure k S) ds p r = absurd (omega (arith, p .sort))
-        count-range (dueEx k S) ds p r = absurd (z (p .sort))
-        count-range (dueRange k S) ds p r = omega arith
-
-        stack-range : (d : Due) (ds : List Due) → Means e d → length ds ≡ n → Stacked w ds → Stacked (entered w₂ (n + 2) limit) (opens d t ++ ds)
-        stack-range (dueFormula k S) ds p r s = absurd (omega (arith, p .sort))
-        stack-range (dueTerm k S) ds p r s = absurd (omega (arith, p .sort))
-        stack-range (dueProcedure k S) ds p r s = absurd (omega (arith, p .sort))
-        stack-range (dueEx k S) ds p r s = absurd (z (p .sort))
-        stack-range (dueRange k S) ds p r s =
-            let x : Means limit (dueTerm k S) = record { sort = refl; room = p .room; scope = p .scope } in
-            stacked-put w₂ _ (_ ∷ _ ∷ ds) (n + 2) limit (omega arith) (omega (arith, b₁ .long, b₂ .long)) x
-            (stacked-put w₁ _ (_ ∷ ds) (n + 1) limit (omega arith) (omega (arith, b₁ .long)) x
-            (stacked-put w _ ds n body r (omega arith) (means-body (dueRange k S) p) s))
+        means : {k : ℕ} {S : Locals} {q : ℕ} → Means e (dueBounds k S q) → Means other (dueTerm k S)
+        means p = record { sort = refl; room = p .room; scope = p .scope }

@@ -19,7 +19,7 @@ use Rattle.sheet.specs.Codes.{formulaTokens, proceduresTokens}
 use Rattle.sheet.specs.Reader.{readerAt}
 use Rattle.sheet.specs.Tables.{Words, laidFirsts, laidArrays, rangeFirst, rangeWidth, laidRange, laidRanges, laidCells, laidGiven, laidProcs, laidTokens, declaredTables}
 use Rattle.sheet.specs.Stack.{Beside}
-use Rattle.sheet.specs.FormulaLine.{lineFormula, Small, Sized, Known, Begin, begin, atBegin, Closed}
+use Rattle.sheet.specs.FormulaLine.{lineFormula, refusesIn, Small, Sized, Known, Begin, begin, atBegin, Closed}
 use Rattle.sheet.specs.Rest.{fromProcedures, oneMore, limits}
 use Rattle.sheet.specs.Whole.{Filled, Went, leftLines, Begun, Nearer}
 use Rattle.sheet.proofs.Laid.{tokens-other, tokens-length}
@@ -51,7 +51,7 @@ module _ (k : ℕ) (s : Bytes) (n : ℕ) (d : Limits) (x : Reached) (w : Words) 
 
 -- in the line with m parameters
 abbrev pub inLine : Limits → ℕ → Limits
-inLine d m = limits (d .edition) (d .scalars) (d .locals) (d .arrays) (d .procedures) m
+inLine d m = limits (d .strict) (d .edition) (d .scalars) (d .locals) (d .arrays) (d .procedures) m
 
 module _ (s : Bytes) (n : ℕ) (d : Limits) (x : Reached) (m from : ℕ) (w : Words) (h : Begun s n d x m from w) where
   abbrev f : Filled (leftLines d) s n d x w
@@ -115,10 +115,15 @@ module _ (s : Bytes) (n : ℕ) (d : Limits) (x : Reached) (m from : ℕ) (w : Wo
   abbrev own : Declared
   own = withParameters m (before .declared)
 
-  pub body-refused : (w₁ : Words) (k p : ℕ) → (lineFormula own (atBegin here) ≡ refused k p) × (length w₁ ≡ length w) →
-      Nearer d (progress.Refused k p) × Went 5 s n (progress.Refused k p) w₁
-  body-refused w₁ k p y =
-      (tt, (h .rest ∙ ap (andThen (λ F. fromProcedures (pred (leftLines d)) (oneMore (before .declared) m F) (before .items))) (y .0), y .1 ∙ before .long))
+  pub body-refused : (w₁ : Words) (k p : ℕ) → (lineFormula (refusesIn d) own (atBegin here) ≡ refused k p) × (length w₁ ≡ length w) →
+      Nearer d (progress.Refused k p) × Went (d .strict) 5 s n (progress.Refused k p) w₁
+  body-refused w₁ k p y = (
+    tt,
+    (
+      h .rest ∙ ap (andThen (λ F. fromProcedures (refusesIn d) (pred (leftLines d)) (oneMore (before .declared) m F) (before .items))) (y .0),
+      y .1 ∙ before .long,
+    ),
+  )
 
   module _ (w₁ w₂ : Words) (t e b : ℕ) (c : Closed here own w w₁ t e b)
       (put : w₂ ≡ set (set w₁ (procSlot (d .procedures)) (x .tokens)) (procSlot (d .procedures) + 1) m) where
@@ -132,7 +137,7 @@ module _ (s : Bytes) (n : ℕ) (d : Limits) (x : Reached) (m from : ℕ) (w : Wo
     more = oneMore (before .declared) m (c .formula)
 
     abbrev after : Limits
-    after = limits (d .edition) (d .scalars) (d .locals) (d .arrays) (d .procedures + 1) 0
+    after = limits (d .strict) (d .edition) (d .scalars) (d .locals) (d .arrays) (d .procedures + 1) 0
 
     abbrev there : Reached
     there = record { first = x .tokens; tokens = t; bound = b; at = e }
@@ -198,8 +203,10 @@ module _ (s : Bytes) (n : ℕ) (d : Limits) (x : Reached) (m from : ℕ) (w : Wo
           declared = more;
           items = before .items;
           locals = c .locals;
-          rest = h .rest ∙ ap (andThen (λ F. fromProcedures (pred (leftLines d)) (oneMore (before .declared) m F) (before .items))) (c .is) ∙
-              ap (λ k. fromProcedures k more (before .items) (readerAt s e t (c .locals))) (omega arith);
+          rest =
+              h .rest ∙ ap (andThen (λ F. fromProcedures (refusesIn d) (pred (leftLines d)) (oneMore (before .declared) m F) (before .items)))
+              (c .is) ∙
+              ap (λ k. fromProcedures (refusesIn d) k more (before .items) (readerAt s e t (c .locals))) (omega arith);
           counts = record {
             edition = before .counts .edition;
             scalars = before .counts .scalars;
@@ -226,5 +233,5 @@ module _ (s : Bytes) (n : ℕ) (d : Limits) (x : Reached) (m from : ℕ) (w : Wo
           enough = before .enough;
         }
 
-    pub body-found : Nearer d (progress.Read after there) × Went 5 s n (progress.Read after there) w₂
-    body-found = (add-one (d .procedures), found-more)
+    pub body-found : Nearer d (progress.Read after there) × Went (d .strict) 5 s n (progress.Read after there) w₂
+    body-found = (add-one (d .procedures), (refl, found-more))

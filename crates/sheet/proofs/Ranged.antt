@@ -28,7 +28,7 @@ use Rattle.sheet.specs.Held.{RangesAt}
 use Rattle.sheet.proofs.Marks.{span-limit, cell-ranged, ranges-other, ranges-at, ranges-mark}
 
 -- words compare as their values do
-biased-le : (x y : ℤ) → T (in32 x) → T (in32 y) → leb (biased x) (biased y) ≡ leZ x y
+pub biased-le : (x y : ℤ) → T (in32 x) → T (in32 y) → leb (biased x) (biased y) ≡ leZ x y
 biased-le x y s t = sym (signed-le (biased x) (biased y)) ∙ rw (signed-biased x s, signed-biased y t)
 
 -- ranges for no cell or for all, within the limits

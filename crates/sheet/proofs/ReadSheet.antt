@@ -3,13 +3,14 @@
 use Prim.Native.Nat.{ℕ, _+_, _≤_}
 use native.Mathlib.Omega.{arith}
 use mathlib.Core.Path.{_≡_, refl, sym, subst, _∙_}
+use mathlib.Core.Bool.{Bool}
 use mathlib.Core.List.{[]}
 use lib.ListN.{length, length-append}
 use Rattle.specification.specs.Bytes.{Bytes, bytes}
 use Rattle.specification.specs.Lists.{Each}
 use Rattle.specification.specs.Parser.{Reader, found}
 use Rattle.specification.specs.Lines.{procedureOf}
-use Rattle.specification.specs.Sheet.{mostProcedures, Sheet, opened, read}
+use Rattle.specification.specs.Sheet.{mostProcedures, Sheet, refuses, opened, readWith}
 use Rattle.specification.specs.WellFormed.{WellFormed}
 use Rattle.specification.specs.Outcome.{start}
 use Rattle.specification.proofs.Laws.Parser.{of-found}
@@ -38,7 +39,7 @@ pub record FromZero (s : Sheet) : Type 0 where
   pub shallow : Shallow maxProcs (s .formula)
   pub few : length (sheetTokens s) ≤ maxTokens
 
-module _ (b : Bytes) (s : Sheet) (l : Lines (opened b) s) (ok : WellFormed s) where
+module _ (strict : Bool) (b : Bytes) (s : Sheet) (l : Lines strict (opened b) s) (ok : WellFormed s) where
   -- no token before the procedures
   fresh : l .given .after .tokens ≡ 0
   fresh =
@@ -54,7 +55,8 @@ module _ (b : Bytes) (s : Sheet) (l : Lines (opened b) s) (ok : WellFormed s) wh
   unfolding Bodies Each proceduresTokens
   procedures =
       of-found
-      (procedures-read (firstDeclared (s .declared)) (ok .limits .locals) (mostProcedures (s .declared .edition)) [] (l .given .after)
+      (procedures-read (refuses strict (s .declared .edition)) (firstDeclared (s .declared)) (ok .limits .locals)
+      (mostProcedures (s .declared .edition)) [] (l .given .after)
       (record { bodies = tt; parameters = tt; tokens = fresh; few = omega (arith, fresh) }))
       (l .procedures .is)
 
@@ -63,20 +65,21 @@ module _ (b : Bytes) (s : Sheet) (l : Lines (opened b) s) (ok : WellFormed s) wh
       let D = s .declared in
       let p = procedures in
       let t = of-found (exactly-stays (l .procedures .after .tokens) 3 (bytes "formula=") (l .procedures .after) refl) (l .start .is) in
-      let c = of-found (formula-counts D maxNesting [] (l .start .after)) (l .formula .is) in
+      let c = of-found (formula-counts (refuses strict (D .edition)) D maxNesting [] (l .start .after)) (l .formula .is) in
       let e : l .start .after .tokens ≡ formulaStart s = t ∙ p .tokens in
       record {
         bodies = p .bodies;
         formula = renumbered (s .formula) e (c .0);
         shallow = of-found
-            (formula-shallow D maxProcs (ok .limits .procedures) (few-parameters (D .procedures) (ok .parameters)) (ok .limits .locals) maxNesting (omega arith) [] (l .start .after))
+            (formula-shallow D (refuses strict (D .edition)) maxProcs (ok .limits .procedures) (few-parameters (D .procedures) (ok .parameters))
+            (ok .limits .locals) maxNesting (omega arith) [] (l .start .after))
             (l .formula .is);
         few = omega (arith, length-append (proceduresTokens (D .procedures)) (formulaTokens (s .formula)), c .1 .tokens, c .1 .few, e);
       }
 
-pub read-counts : (b : Bytes) (s : Sheet) (r : Reader) → read b ≡ found s r → FromZero s
-unfolding read
-read-counts b s r e = lines-count b s (sheet-lines e) (read-well-formed b s r e)
+pub read-counts : (strict : Bool) (b : Bytes) (s : Sheet) (r : Reader) → readWith strict b ≡ found s r → FromZero s
+unfolding readWith
+read-counts strict b s r e = lines-count strict b s (sheet-lines e) (read-well-formed strict b s r e)
 
 -- ---- what a walk leans on
 
@@ -104,10 +107,10 @@ bodies-held s n h c ok K l =
       shallow = subst (λ k. Shallow k F) (omega arith) (b .shallow);
     }
 
-pub read-ready : (b : Bytes) (s : Sheet) (r : Reader) (n : ℕ) → read b ≡ found s r → pathAt ≤ n → Ready s n
-read-ready b s r n e h =
-    let c = read-counts b s r e in
-    let ok = read-well-formed b s r e in
+pub read-ready : (strict : Bool) (b : Bytes) (s : Sheet) (r : Reader) (n : ℕ) → readWith strict b ≡ found s r → pathAt ≤ n → Ready s n
+read-ready strict b s r n e h =
+    let c = read-counts strict b s r e in
+    let ok = read-well-formed strict b s r e in
     record {
       formula = held s n h (c .few) (c .formula);
       shallow = c .shallow;

@@ -3,17 +3,18 @@
 use Prim.Native.Nat.{ℕ, zero, suc, _≤_, _<_, max}
 use native.Mathlib.Omega.{arith}
 use mathlib.Core.Path.{_≡_, refl, ap}
+use mathlib.Core.Bool.{Bool}
 use mathlib.Core.List.{List, [], _∷_}
 use lib.ListN.{length}
 use lib.Dec.{ltb}
 use borrow.Author.Tests.{ltb-true}
 use Rattle.specification.specs.Bytes.{space}
-use Rattle.specification.specs.Parser.{Reader, Parser, give, _>>=_, mark}
+use Rattle.specification.specs.Parser.{Reader, Parser, give, _>>=_, _>>_, mark}
 use Rattle.specification.specs.Lists.{Each}
 use Rattle.specification.specs.Lines.{Declared, procedureOf}
 use Rattle.specification.specs.Ast.{Term, Formula, and, or, imp, eq, compare, some, all as every}
 use Rattle.specification.specs.Words.{FormulaWord, trueWord, andWord, orWord, impWord, notWord, eqWord, exWord, someWord, allWord, callWord, relWord, TermWord, constantWord, scalarWord, localWord, arrayWord, parameterWord, opWord, Word, formulaWord, termWord, numberWord, unknown, wordOf, numberOf}
-use Rattle.specification.specs.Formula.{Token, token, operand, Locals, has, binderOf, binderWith, binder, procedureWith, procedure, termOf, termWith, term, arguments, formulaOf, formulaWith, formula}
+use Rattle.specification.specs.Formula.{Token, token, operand, Locals, has, binderOf, binderWith, binder, procedureWith, procedure, termOf, termWith, term, arguments, nonEmpty, formulaOf, formulaWith, formula}
 use Rattle.specification.proofs.Laws.Parser.{Post, refusal, holds, bind-post, after, require-post, pick-post}
 use Rattle.specification.proofs.Laws.Lists.{each-map}
 use Rattle.tables.specs.Layout.{maxNesting, maxLocals, maxParameters}
@@ -117,9 +118,11 @@ module _ (D : Declared) where
     abbrev Flat : Formula → Reader → Type 0
     Flat F r = Shallow m F
 
-  module _ (m : ℕ) (all : length (D .procedures) ≤ m) (each : (K : ℕ) → procedureOf D K .parameters ≤ maxParameters) (few : D .locals ≤ maxLocals) (k : ℕ) (deep : k ≤ maxNesting) (ih : (S : Locals) (r : Reader) → Post (Flat m) (formula D k S r)) (S : Locals) where
+  module _ (refusing : Bool) (m : ℕ) (all : length (D .procedures) ≤ m) (each : (K : ℕ) → procedureOf D K .parameters ≤ maxParameters)
+      (few : D .locals ≤ maxLocals) (k : ℕ) (deep : k ≤ maxNesting) (ih : (S : Locals) (r : Reader) → Post (Flat m) (formula refusing D k S r))
+      (S : Locals) where
     abbrev sub : Locals → Parser Formula
-    sub S′ r = formula D k S′ r
+    sub S′ r = formula refusing D k S′ r
 
     abbrev side : Parser Term
     side r = term D k S r
@@ -142,44 +145,47 @@ module _ (D : Declared) where
         bind-post (operand-post side (term-low k S) r) λ s r₁ h₁.
         bind-post (operand-post side (term-low k S) r₁) λ t r₂ h₂. holds (ok s t (omega (arith, h₁)) (omega (arith, h₂)))
 
-    quantified : (g : ℕ → Term → Term → Formula → Formula) →
+    quantified : (p : ℕ) (g : ℕ → Term → Term → Formula → Formula) →
         ((l : ℕ) (a b : Term) (F : Formula) → height a ≤ maxNesting → height b ≤ maxNesting → l < maxLocals → Shallow m F → Shallow m (g l a b F)) → (r : Reader) →
-        Post (Flat m) ((operand local >>= λ l. operand side >>= λ a. operand side >>= λ b. operand (sub (l ∷ S)) >>= λ f. give (g l a b f)) r)
-    quantified g ok r =
+        Post (Flat m) ((operand local >>= λ l. operand side >>= λ a. operand side >>= λ b. nonEmpty refusing p a b >>
+        (operand (sub (l ∷ S)) >>= λ f. give (g l a b f))) r)
+    quantified p g ok r =
         bind-post (operand-post local (binder-small k) r) λ l r₁ h₁.
         bind-post (operand-post side (term-low k S) r₁) λ a r₂ h₂.
         bind-post (operand-post side (term-low k S) r₂) λ b r₃ h₃.
-        bind-post (operand-post (sub (l ∷ S)) (ih (l ∷ S)) r₃) λ f r₄ h₄.
-        holds (ok l a b f (omega (arith, h₂)) (omega (arith, h₃)) (omega (arith, h₁)) h₄)
+        after (nonEmpty refusing p a b r₃) λ u r₄.
+        bind-post (operand-post (sub (l ∷ S)) (ih (l ∷ S)) r₄) λ f r₅ h₅.
+        holds (ok l a b f (omega (arith, h₂)) (omega (arith, h₃)) (omega (arith, h₁)) h₅)
 
-    formula-of : (n : ℕ) (w : FormulaWord) (r : Reader) → Post (Flat m) (formulaOf D sub side local number S n w r)
-    formula-of n trueWord r = holds tt
-    formula-of n andWord r = two-formulas and (λ F G a b. (a, b)) r
-    formula-of n orWord r = two-formulas or (λ F G a b. (a, b)) r
-    formula-of n impWord r = two-formulas (imp n) (λ F G a b. (a, b)) r
-    formula-of n notWord r = bind-post (operand-post (sub S) (ih S) r) λ f r₁ h. holds h
-    formula-of n eqWord r = two-terms (eq n) (λ s t a b. (a, b)) r
-    formula-of n (relWord c) r = two-terms (compare n c) (λ s t a b. (a, b)) r
-    formula-of n exWord r =
+    formula-of : (p n : ℕ) (w : FormulaWord) (r : Reader) → Post (Flat m) (formulaOf refusing D sub side local number S p n w r)
+    formula-of p n trueWord r = holds tt
+    formula-of p n andWord r = two-formulas and (λ F G a b. (a, b)) r
+    formula-of p n orWord r = two-formulas or (λ F G a b. (a, b)) r
+    formula-of p n impWord r = two-formulas (imp n) (λ F G a b. (a, b)) r
+    formula-of p n notWord r = bind-post (operand-post (sub S) (ih S) r) λ f r₁ h. holds h
+    formula-of p n eqWord r = two-terms (eq n) (λ s t a b. (a, b)) r
+    formula-of p n (relWord c) r = two-terms (compare n c) (λ s t a b. (a, b)) r
+    formula-of p n exWord r =
         bind-post (operand-post local (binder-small k) r) λ l r₁ h₁.
         bind-post (operand-post (sub (l ∷ S)) (ih (l ∷ S)) r₁) λ f r₂ h₂. holds (omega (arith, h₁), h₂)
-    formula-of n someWord r = quantified (some n) (λ l a b F x y z h. (x, y, z, h)) r
-    formula-of n allWord r = quantified (every n) (λ l a b F x y z h. (x, y, z, h)) r
-    formula-of n callWord r =
+    formula-of p n someWord r = quantified p (some n) (λ l a b F x y z h. (x, y, z, h)) r
+    formula-of p n allWord r = quantified p (every n) (λ l a b F x y z h. (x, y, z, h)) r
+    formula-of p n callWord r =
         bind-post (operand-post number (procedure-earlier k) r) λ K r₁ h₁.
         bind-post (arguments-low k S (procedureOf D K .parameters) r₁) λ ts r₂ h₂.
         holds (omega (arith, h₁), omega (arith, h₂ .0, each K), each-map (λ t h. omega (arith, h)) ts (h₂ .1))
 
-    formula-with : (t : Token) (w : Word) (r : Reader) → Post (Flat m) (formulaWith D sub side local number S t w r)
-    formula-with t (formulaWord w) r = formula-of (t .number) w r
+    formula-with : (t : Token) (w : Word) (r : Reader) → Post (Flat m) (formulaWith refusing D sub side local number S t w r)
+    formula-with t (formulaWord w) r = formula-of (t .place) (t .number) w r
     formula-with t (termWord w) r = refusal tt
     formula-with t (numberWord n) r = refusal tt
     formula-with t unknown r = refusal tt
 
-  pub formula-shallow : (m : ℕ) → length (D .procedures) ≤ m → ((K : ℕ) → procedureOf D K .parameters ≤ maxParameters) → D .locals ≤ maxLocals →
-      (k : ℕ) → k ≤ maxNesting → (S : Locals) (r : Reader) → Post (Flat m) (formula D k S r)
+  pub formula-shallow : (refusing : Bool) (m : ℕ) → length (D .procedures) ≤ m → ((K : ℕ) → procedureOf D K .parameters ≤ maxParameters) →
+      D .locals ≤ maxLocals →
+      (k : ℕ) → k ≤ maxNesting → (S : Locals) (r : Reader) → Post (Flat m) (formula refusing D k S r)
   unfolding formula
-  formula-shallow m all each few zero deep S r = refusal tt
-  formula-shallow m all each few (suc k) deep S r =
+  formula-shallow refusing m all each few zero deep S r = refusal tt
+  formula-shallow refusing m all each few (suc k) deep S r =
       after (token (wordOf (D .edition)) r) λ t r₁.
-      formula-with m all each few k (omega arith) (λ S′ r′. formula-shallow m all each few k (omega arith) S′ r′) S t (t .word) r₁
+      formula-with refusing m all each few k (omega arith) (λ S′ r′. formula-shallow refusing m all each few k (omega arith) S′ r′) S t (t .word) r₁

@@ -17,7 +17,7 @@ use Rattle.sheet.specs.declared.Token.{Token}
 use Rattle.sheet.specs.declared.formula.Limits.{Limits}
 use Rattle.sheet.specs.Codes.{token, tokenOf}
 use Rattle.sheet.specs.Sorts.{procedureSort}
-use Rattle.sheet.specs.Dues.{Due, dueFormula, dueTerm, dueProcedure, dueEx, dueRange}
+use Rattle.sheet.specs.Dues.{Due, dueFormula, dueTerm, dueProcedure, dueEx, dueRange, dueBounds, dueUpper}
 use Rattle.sheet.specs.Turn.{wordFor, counting, tokenIn}
 use Rattle.sheet.specs.Tables.{Words}
 use Rattle.sheet.specs.Stack.{sortOf}
@@ -32,14 +32,18 @@ module _ (D : Declared) where
   word-token (dueTerm k S) n (just w) = refl
   word-token (dueProcedure k S) n (just w) = absurd (n refl)
   word-token (dueEx k S) n (just w) = refl
-  word-token (dueRange k S) n (just w) = refl
+  word-token (dueRange k S p) n (just w) = refl
+  word-token (dueBounds k S p) n (just w) = refl
+  word-token (dueUpper k S p x) n (just w) = refl
 
   word-for : (d : Due) → (sortOf d ≡ procedureSort → ⊥) → (bs : Bytes) → wordFor D d bs ≡ wordOf (D .edition) bs
   word-for (dueFormula k S) n bs = refl
   word-for (dueTerm k S) n bs = refl
   word-for (dueProcedure k S) n bs = absurd (n refl)
   word-for (dueEx k S) n bs = refl
-  word-for (dueRange k S) n bs = refl
+  word-for (dueRange k S p) n bs = refl
+  word-for (dueBounds k S p) n bs = refl
+  word-for (dueUpper k S p x) n bs = refl
 
   number-token : (k : ℕ) (S : Locals) (o : Option Word) → tokenIn D (dueProcedure k S) o ≡ counting D (tokenOf o)
   unfolding tokenOf
@@ -51,7 +55,9 @@ module _ (D : Declared) where
   number-in (dueTerm k S) e bs = absurd (omega arith)
   number-in (dueProcedure k S) e bs = number-token k S (numberOf bs)
   number-in (dueEx k S) e bs = absurd (omega arith)
-  number-in (dueRange k S) e bs = absurd (omega arith)
+  number-in (dueRange k S p) e bs = absurd (omega arith)
+  number-in (dueBounds k S p) e bs = absurd (omega arith)
+  number-in (dueUpper k S p x) e bs = absurd (omega arith)
 
 -- a number that no procedure has
 beyond : {A : Type 0} (xs : List A) (n : ℕ) (d : A) → length xs ≤ n → getD xs n d ≡ d

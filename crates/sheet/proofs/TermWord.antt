@@ -19,8 +19,8 @@ use Rattle.tables.specs.Codes.{constantCode, scalarCode, localCode, arrayCode, 
 use Rattle.sheet.specs.declared.Token.{Token}
 use Rattle.sheet.specs.Codes.{token, opCode, indexWord, termToken, tokenOf, termTokens}
 use Rattle.sheet.specs.Sorts.{wordOperands, operandsOf}
-use Rattle.sheet.specs.Dues.{Due, dueTerm, dueEx, parse}
-use Rattle.sheet.specs.Turn.{Limited, declared, undeclared, faultOf, dueBy, dues, opens, left}
+use Rattle.sheet.specs.Dues.{Due, dueTerm, dueEx, parse, left}
+use Rattle.sheet.specs.Turn.{Limited, declared, undeclared, faultOf, dueBy, dues, opens}
 use Rattle.sheet.proofs.Left.{left-none}
 use Rattle.sheet.proofs.Operands.{judged, admitted, spellTerm, one-due, two-terms}
 
@@ -53,33 +53,35 @@ module _ {C : Type 0} (g : C → Parser (List Token)) (p : ℕ) where
 
 -- ---- terms
 
-module _ (D : Declared) (small : Limited D) (k : ℕ) (S : Locals) where
+module _ (refusing : Bool) (D : Declared) (small : Limited D) (k : ℕ) (S : Locals) where
   abbrev T : Parser Term
   T = operand (term D k S)
 
   operation : (o : Op) (r : Reader) →
-      andThen spellTerm ((T >>= λ s. T >>= λ t. give (apply o s t)) r) ≡ left D (dueTerm k S ∷ dueTerm k S ∷ []) (token (opCode o) 0 ∷ []) r
+      andThen spellTerm ((T >>= λ s. T >>= λ t. give (apply o s t)) r) ≡ left refusing D (dueTerm k S ∷ dueTerm k S ∷ []) (token (opCode o) 0 ∷ []) r
   unfolding termTokens
-  operation o = two-terms D k S termTokens (apply o) (token (opCode o) 0) (λ x y. refl)
+  operation o = two-terms refusing D k S termTokens (apply o) (token (opCode o) 0) (λ x y. refl)
 
   pub term-word : (p : ℕ) (w : TermWord) (r : Reader) →
-      andThen spellTerm (termOf D (λ r. term D k S r) S p w r) ≡ admitted D (dueTerm (suc k) S) p (tokenOf (just (termWord w))) r
+      andThen spellTerm (termOf D (λ r. term D k S r) S p w r) ≡ admitted refusing D (dueTerm (suc k) S) p (tokenOf (just (termWord w))) r
   unfolding admitted faultOf declared undeclared opens operandsOf wordOperands dues dueBy tokenOf parse termTokens
-  term-word p (constantWord z) r = sym (left-none D (token constantCode (biased z) ∷ []) r)
+  term-word p (constantWord z) r = sym (left-none refusing D (token constantCode (biased z) ∷ []) r)
   term-word p (scalarWord n) r =
-      declared-index spellTerm p 6 n (D .scalars) (give (scalarAt n)) (λ i. 0) (λ i. left D [] (token scalarCode i ∷ []) r) r (omega arith)
-      (sym (left-none D (token scalarCode n ∷ []) r))
+      declared-index spellTerm p 6 n (D .scalars) (give (scalarAt n)) (λ i. 0) (λ i. left refusing D [] (token scalarCode i ∷ []) r) r (omega arith)
+      (sym (left-none refusing D (token scalarCode n ∷ []) r))
   term-word p (localWord l) r =
       declared-index spellTerm p 6 l (D .locals) (require (has l S) 8 p (give (localAt l))) (λ i. pick (has i S) 0 8)
-      (λ i. left D [] (token localCode i ∷ []) r) r (omega arith)
-      (placed-local spellTerm p (has l S) (give (localAt l)) (left D [] (token localCode l ∷ []) r) r (sym (left-none D (token localCode l ∷ []) r)))
+      (λ i. left refusing D [] (token localCode i ∷ []) r) r (omega arith)
+      (placed-local spellTerm p (has l S) (give (localAt l)) (left refusing D [] (token localCode l ∷ []) r) r
+      (sym (left-none refusing D (token localCode l ∷ []) r)))
   term-word p (parameterWord n) r =
-      declared-index spellTerm p 11 n (D .parameters) (give (parameter n)) (λ i. 0) (λ i. left D [] (token parameterCode i ∷ []) r) r (omega (arith, small .parameters))
-      (sym (left-none D (token parameterCode n ∷ []) r))
+      declared-index spellTerm p 11 n (D .parameters) (give (parameter n)) (λ i. 0) (λ i. left refusing D [] (token parameterCode i ∷ []) r) r
+      (omega (arith, small .parameters))
+      (sym (left-none refusing D (token parameterCode n ∷ []) r))
   term-word p (arrayWord a) r =
       declared-index spellTerm p 6 a (length (D .arrays)) (T >>= λ i. give (elementAt a i)) (λ i. 0)
-      (λ i. left D (dueTerm k S ∷ []) (token arrayCode i ∷ []) r) r (omega arith)
-      (one-due D (dueTerm k S) (term D k S) termTokens (λ r′. refl) termTokens (token arrayCode a ∷ []) (elementAt a) (λ t. refl) r)
+      (λ i. left refusing D (dueTerm k S ∷ []) (token arrayCode i ∷ []) r) r (omega arith)
+      (one-due refusing D (dueTerm k S) (term D k S) termTokens (λ r′. refl) termTokens (token arrayCode a ∷ []) (elementAt a) (λ t. refl) r)
   term-word p (opWord add) r = operation add r
   term-word p (opWord sub) r = operation sub r
   term-word p (opWord mul) r = operation mul r
@@ -93,20 +95,20 @@ module _ (D : Declared) (small : Limited D) (k : ℕ) (S : Locals) where
 abbrev bindIn : Reader → ℕ → Reader
 bindIn r l = record { place = r .place; rest = r .rest; tokens = r .tokens; bound = l ∷ r .bound }
 
-module _ (D : Declared) (ds : ℕ → List Due) where
+module _ (refusing : Bool) (D : Declared) (ds : ℕ → List Due) where
   -- the token t, which begins at p, and what its local makes due
   abbrev pub admitLocal : ℕ → Token → Parser (List Token)
-  admitLocal p t r = judged (faultOf D (dueEx 0 []) (r .bound) t) p (left D (ds (t .operand)) (t ∷ []) (bindIn r (t .operand)))
+  admitLocal p t r = judged (faultOf D (dueEx 0 []) (r .bound) t) p (left refusing D (ds (t .operand)) (t ∷ []) (bindIn r (t .operand)))
 
   module _ (small : Limited D) (κ : ℕ → Parser (List Token))
-      (brings : (l : ℕ) (r : Reader) → κ l r ≡ left D (ds l) (token localCode l ∷ []) r) where
+      (brings : (l : ℕ) (r : Reader) → κ l r ≡ left refusing D (ds l) (token localCode l ∷ []) r) where
     free-local : (p l : ℕ) (r : Reader) →
-        andThen κ (bind p l r) ≡ judged (pick (not (has l (r .bound))) 0 8) p (left D (ds l) (token localCode l ∷ []) (bindIn r l))
+        andThen κ (bind p l r) ≡ judged (pick (not (has l (r .bound))) 0 8) p (left refusing D (ds l) (token localCode l ∷ []) (bindIn r l))
     free-local p l r = go (has l (r .bound))
       where
         go : (b : Bool) →
             andThen κ (pick b (refused 8 p) (found l (bindIn r l))) ≡
-            judged (pick (not b) 0 8) p (left D (ds l) (token localCode l ∷ []) (bindIn r l))
+            judged (pick (not b) 0 8) p (left refusing D (ds l) (token localCode l ∷ []) (bindIn r l))
         go true = refl
         go false = brings l (bindIn r l)
 
@@ -114,7 +116,7 @@ module _ (D : Declared) (ds : ℕ → List Due) where
     unfolding faultOf declared undeclared
     binder-word p (localWord l) r =
         declared-index κ p 6 l (D .locals) (bind p l) (λ i. pick (not (has i (r .bound))) 0 8)
-        (λ i. left D (ds i) (token localCode i ∷ []) (bindIn r i)) r (omega arith) (free-local p l r)
+        (λ i. left refusing D (ds i) (token localCode i ∷ []) (bindIn r i)) r (omega arith) (free-local p l r)
     binder-word p (constantWord z) r = refl
     binder-word p (scalarWord n) r = refl
     binder-word p (arrayWord a) r = refl

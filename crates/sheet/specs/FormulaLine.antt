@@ -2,6 +2,7 @@
 -- of their subtrees. Assumes nothing.
 use Prim.Native.Nat.{ℕ, _+_, _≤_, _<_}
 use mathlib.Core.Path.{_≡_}
+use mathlib.Core.Bool.{Bool}
 use mathlib.Core.List.{List, [], _++_}
 use lib.ListN.{length, replicate}
 use lib.Dec.{eqb, ltb}
@@ -10,6 +11,7 @@ use Rattle.specification.specs.Parser.{Reader, Read, refused, found, Parser, gi
 use Rattle.specification.specs.Lines.{Declared, procedureOf}
 use Rattle.specification.specs.Ast.{truth, Formula}
 use Rattle.specification.specs.Formula.{Locals, formula}
+use Rattle.specification.specs.Sheet.{refuses}
 use Rattle.tables.specs.Layout.{maxTokens, maxScalars, maxLocals, maxArrays, maxNesting, maxProcs, maxParameters, parametersAt}
 use Rattle.sheet.specs.declared.Token.{Token}
 use Rattle.sheet.specs.declared.stack.Entry.{Entry}
@@ -20,21 +22,25 @@ use Rattle.sheet.specs.declared.formula.Scanned.{Scanned}
 use Rattle.sheet.specs.declared.formula.Scanned.the-variants as scanned
 use Rattle.sheet.specs.Codes.{formulaTokens}
 use Rattle.sheet.specs.Reader.{readerAt}
-use Rattle.sheet.specs.Dues.{Due, dueFormula}
-use Rattle.sheet.specs.Turn.{Limited, room, faultOf, binds, wordFor, tokenIn, leftHere}
+use Rattle.sheet.specs.Dues.{Due, dueFormula, leftHere}
+use Rattle.sheet.specs.Turn.{Limited, room, faultOf, binds, wordFor, tokenIn}
 use Rattle.sheet.specs.Tables.{Words, laidTokens, laidEnds}
 use Rattle.sheet.specs.Ends.{tokensIn}
 use Rattle.sheet.specs.Stack.{Bits, sortOf, Means, Beside}
 
 -- a formula and the line feed after it
-unfoldable pub lineFormula : Declared → Parser Formula
-lineFormula D = formula D maxNesting [] >>= λ F. mark feed >> give F
+unfoldable pub lineFormula : Bool → Declared → Parser Formula
+lineFormula refusing D = formula refusing D maxNesting [] >>= λ F. mark feed >> give F
 
 -- the sheet from the formula's line on
-unfoldable pub formulaRest : Declared → Parser Formula
-formulaRest D = key (bytes "formula=") >> (lineFormula D >>= λ F. finish >> give F)
+unfoldable pub formulaRest : Bool → Declared → Parser Formula
+formulaRest refusing D = key (bytes "formula=") >> (lineFormula refusing D >>= λ F. finish >> give F)
 
 -- ---- what is declared, by its numbers
+
+-- whether empty ranges are refused
+abbrev pub refusesIn : Limits → Bool
+refusesIn d = refuses (d .strict) (d .edition)
 
 -- within the documents' limits
 pub record Small (d : Limits) : Type 0 where
@@ -106,13 +112,17 @@ pub record Begin : Type 0 where
 abbrev pub begin : Bytes → Limits → ℕ → ℕ → Locals → Begin
 begin s l p n B = record { bytes = s; limits = l; from = p; tokens = n; bound = B }
 
+-- whether empty ranges are refused there
+abbrev pub refusingAt : Begin → Bool
+refusingAt b = refusesIn (b .limits)
+
 -- the reader there
 abbrev pub atBegin : Begin → Reader
 atBegin b = readerAt (b .bytes) (b .from) (b .tokens) (b .bound)
 
 -- the reading of the formula from there on
 abbrev pub whole : Begin → Declared → Read (List Token)
-whole b D = leftHere D (dueFormula maxNesting []) [] [] (atBegin b)
+whole b D = leftHere (refusingAt b) D (dueFormula maxNesting []) [] [] (atBegin b)
 
 -- it was read up to the place e: n tokens were read then, and the set m of locals have a binder
 pub record Through (b : Begin) (w w′ : Words) (n e m : ℕ) : Type 0 where
@@ -135,7 +145,7 @@ Scans b w w′ (scanned.Read n e m) = Through b w w′ n e m
 pub record Closed (b : Begin) (D : Declared) (w w′ : Words) (n e m : ℕ) : Type 0 where
   pub formula : Formula
   pub locals : Locals
-  pub is : lineFormula D (atBegin b) ≡ found formula (readerAt (b .bytes) e n locals)
+  pub is : lineFormula (refusingAt b) D (atBegin b) ≡ found formula (readerAt (b .bytes) e n locals)
   pub count : b .tokens + length (formulaTokens formula) ≡ n
   pub few : n ≤ maxTokens
   pub within : e ≤ length (b .bytes)
@@ -148,14 +158,14 @@ Within s (scanned.Refused k p) = Unit {0}
 Within s (scanned.Read n e m) = (n ≤ maxTokens) × (e ≤ length s)
 
 abbrev pub Closes : Begin → Declared → Words → Words → Scanned → Type 0
-Closes b D w w′ (scanned.Refused k p) = (lineFormula D (atBegin b) ≡ refused k p) × (length w′ ≡ length w)
+Closes b D w w′ (scanned.Refused k p) = (lineFormula (refusingAt b) D (atBegin b) ≡ refused k p) × (length w′ ≡ length w)
 Closes b D w w′ (scanned.Read n e m) = Closed b D w w′ n e m
 
 -- the formula's line was read, and the table has n tokens: those before it, and its own
 pub record Laid (b : Begin) (D : Declared) (w w′ : Words) (n : ℕ) : Type 0 where
   pub formula : Formula
   pub after : Reader
-  pub is : formulaRest D (atBegin b) ≡ found formula after
+  pub is : formulaRest (refusingAt b) D (atBegin b) ≡ found formula after
   pub count : b .tokens + length (formulaTokens formula) ≡ n
   pub few : n ≤ maxTokens
   pub long : length w′ ≡ length w
@@ -163,5 +173,5 @@ pub record Laid (b : Begin) (D : Declared) (w w′ : Words) (n : ℕ) : Type 0 w
       Beside (laidEnds 0 (tokensIn w 0 (b .tokens) ++ formulaTokens formula) (laidTokens (b .tokens) (formulaTokens formula) w)) w′
 
 abbrev pub LineRead : Begin → Declared → Words → Words → Parsed → Type 0
-LineRead b D w w′ (parsed.Refused k p) = (formulaRest D (atBegin b) ≡ refused k p) × (length w′ ≡ length w)
+LineRead b D w w′ (parsed.Refused k p) = (formulaRest (refusingAt b) D (atBegin b) ≡ refused k p) × (length w′ ≡ length w)
 LineRead b D w w′ (parsed.Read n) = Laid b D w w′ n

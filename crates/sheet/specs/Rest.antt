@@ -1,6 +1,7 @@
 -- The rest of the sheet after some of its lines, as a reader of its own: from each line on the specification reads as this says.
 -- Assumes nothing.
 use Prim.Native.Nat.{ℕ, zero, suc, _+_}
+use mathlib.Core.Bool.{Bool}
 use mathlib.Core.List.{List, [], _∷_, _++_}
 use lib.ListN.{length}
 use lib.Dec.{eqb}
@@ -10,7 +11,7 @@ use Rattle.specification.specs.Lines.{line, Range, Declared, arraysLine, ranges
 use Rattle.specification.specs.Given.{Item, givenLine}
 use Rattle.specification.specs.Ast.{Formula}
 use Rattle.specification.specs.Formula.{formula}
-use Rattle.specification.specs.Sheet.{withParameters, withProcedures, procedureLines, mostProcedures, Sheet, beginning}
+use Rattle.specification.specs.Sheet.{withParameters, withProcedures, procedureLines, mostProcedures, Sheet, beginning, refuses}
 use Rattle.tables.specs.Layout.{maxScalars, maxLocals, maxNesting}
 use Rattle.sheet.specs.declared.formula.Limits.{Limits}
 use Rattle.sheet.specs.FormulaLine.{lineFormula, formulaRest}
@@ -19,34 +20,34 @@ abbrev pub sheetOf : Declared → List Item → Formula → Sheet
 sheetOf D is F = record { declared = D; given = is; formula = F }
 
 -- from the formula on
-abbrev pub fromFormula : Declared → List Item → Parser Sheet
-fromFormula D is r = andThen (λ F. give (sheetOf D is F)) (formulaRest D r)
+abbrev pub fromFormula : Bool → Declared → List Item → Parser Sheet
+fromFormula refusing D is r = andThen (λ F. give (sheetOf D is F)) (formulaRest refusing D r)
 
 -- from the lines of procedures on, of which up to k may follow
-abbrev pub fromProcedures : ℕ → Declared → List Item → Parser Sheet
-fromProcedures k D is = procedureLines k D >>= λ Ps. fromFormula (withProcedures Ps D) is
+abbrev pub fromProcedures : Bool → ℕ → Declared → List Item → Parser Sheet
+fromProcedures refusing k D is = procedureLines refusing k D >>= λ Ps. fromFormula refusing (withProcedures Ps D) is
 
 -- from the formula of a procedure on, which has m parameters
 abbrev pub oneMore : Declared → ℕ → Formula → Declared
 oneMore D m F = withProcedures (D .procedures ++ (record { parameters = m; formula = F } ∷ [])) D
 
-abbrev pub fromBody : ℕ → Declared → List Item → ℕ → Parser Sheet
-fromBody k D is m = lineFormula (withParameters m D) >>= λ F. fromProcedures k (oneMore D m F) is
+abbrev pub fromBody : Bool → ℕ → Declared → List Item → ℕ → Parser Sheet
+fromBody refusing k D is m = lineFormula refusing (withParameters m D) >>= λ F. fromProcedures refusing k (oneMore D m F) is
 
 -- from the given values on
-unfoldable pub fromGiven : Declared → Parser Sheet
-fromGiven D =
+unfoldable pub fromGiven : Bool → Declared → Parser Sheet
+fromGiven strict D =
     givenLine D >>= λ given.
-    procedureLines (mostProcedures (D .edition)) D >>= λ Ps.
+    procedureLines (refuses strict (D .edition)) (mostProcedures (D .edition)) D >>= λ Ps.
     (let E = withProcedures Ps D in
-    key (bytes "formula=") >> (formula E maxNesting [] >>= λ F. mark feed >> (finish >> give (sheetOf E given F))))
+    key (bytes "formula=") >> (formula (refuses strict (D .edition)) E maxNesting [] >>= λ F. mark feed >> (finish >> give (sheetOf E given F))))
 
 -- from the ranges on
 abbrev pub declaring : Limits → List ℕ → List Range → Declared
 declaring d ns rs = beginning (d .edition) (d .scalars) (d .locals) ns rs
 
 abbrev pub fromRanges : Limits → List ℕ → Parser Sheet
-fromRanges d ns = rangesLine (d .edition) (d .scalars + length ns) >>= λ rs. fromGiven (declaring d ns rs)
+fromRanges d ns = rangesLine (d .edition) (d .scalars + length ns) >>= λ rs. fromGiven (d .strict) (declaring d ns rs)
 
 -- from the arrays on
 abbrev pub fromArrays : Limits → Parser Sheet
@@ -59,14 +60,14 @@ numberOf k =
     (pick (eqb k 1) (line (bytes "scalars=") 0 maxScalars)
     (line (bytes "locals=") 0 maxLocals))
 
-abbrev pub limits : ℕ → ℕ → ℕ → ℕ → ℕ → ℕ → Limits
-limits e v l a p m = record { edition = e; scalars = v; locals = l; arrays = a; procedures = p; parameters = m }
+abbrev pub limits : Bool → ℕ → ℕ → ℕ → ℕ → ℕ → ℕ → Limits
+limits b e v l a p m = record { strict = b; edition = e; scalars = v; locals = l; arrays = a; procedures = p; parameters = m }
 
 abbrev pub withNumber : ℕ → Limits → ℕ → Limits
 withNumber k d n =
-    pick (eqb k 0) (limits n (d .scalars) (d .locals) (d .arrays) (d .procedures) (d .parameters))
-    (pick (eqb k 1) (limits (d .edition) n (d .locals) (d .arrays) (d .procedures) (d .parameters))
-    (limits (d .edition) (d .scalars) n (d .arrays) (d .procedures) (d .parameters)))
+    pick (eqb k 0) (limits (d .strict) n (d .scalars) (d .locals) (d .arrays) (d .procedures) (d .parameters))
+    (pick (eqb k 1) (limits (d .strict) (d .edition) n (d .locals) (d .arrays) (d .procedures) (d .parameters))
+    (limits (d .strict) (d .edition) (d .scalars) n (d .arrays) (d .procedures) (d .parameters)))
 
 abbrev pub fromLocals : Limits → Parser Sheet
 fromLocals d = numberOf 2 >>= λ n. fromArrays (withNumber 2 d n)

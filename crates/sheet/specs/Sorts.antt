@@ -14,17 +14,25 @@ formulaSort = 0
 abbrev pub termSort : ℕ
 termSort = 1
 
+-- the upper bound after a lower one that is a constant
+abbrev pub upperSort : ℕ
+upperSort = 2
+
+-- both bounds
+abbrev pub boundsSort : ℕ
+boundsSort = 3
+
 -- a procedure's number
 abbrev pub procedureSort : ℕ
-procedureSort = 2
+procedureSort = 4
 
 -- the local of `ex`
 abbrev pub exSort : ℕ
-exSort = 3
+exSort = 5
 
 -- the local of `some` or `all`
 abbrev pub rangeSort : ℕ
-rangeSort = 4
+rangeSort = 6
 
 -- ---- operands
 

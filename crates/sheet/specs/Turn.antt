@@ -1,23 +1,23 @@
 -- One token's turn, by its code and operand: whether it may stand where something is due, what it makes due, and the locals that have a
 -- binder after it. The laws that this is the specification's reading are in proofs/Turn.antt. Assumes nothing.
-use Prim.Native.Nat.{ℕ, suc, pred, _+_, _*_, _≤_}
-use mathlib.Core.Bool.{Bool, true, not}
+use Prim.Native.Nat.{ℕ, suc, pred, _+_, _≤_}
+use mathlib.Core.Bool.{Bool, true, false, not, _&&_}
 use mathlib.Core.List.{List, [], _∷_, _++_}
 use mathlib.Core.Option.{Option, none, some as just}
 use lib.ListN.{length, drop, replicate}
 use lib.Dec.{ltb, eqb}
 use Rattle.specification.specs.Bytes.{Bytes, pick, between, inToken, run}
-use Rattle.specification.specs.Parser.{Reader, Parser, give, _>>=_}
+use Rattle.specification.specs.Parser.{Reader}
 use Rattle.specification.specs.Lines.{Declared, procedureOf}
 use Rattle.specification.specs.Words.{Word, wordOf, numberOf}
 use Rattle.specification.specs.Formula.{Locals, has}
-use Rattle.tables.specs.Layout.{maxTokens, maxScalars, maxLocals, maxArrays, maxProcs, maxParameters, maxDues}
-use Rattle.tables.specs.Codes.{firstFormula, lastFormula, firstTerm, lastTerm, scalarCode, localCode, arrayCode, parameterCode, badConstantCode, procedureCode, lastCode}
+use Rattle.tables.specs.Layout.{maxTokens, maxScalars, maxLocals, maxArrays, maxProcs, maxParameters}
+use Rattle.tables.specs.Codes.{firstFormula, lastFormula, firstTerm, lastTerm, constantCode, scalarCode, localCode, arrayCode, parameterCode, badConstantCode, procedureCode, lastCode}
 use Rattle.sheet.specs.declared.Token.{Token}
 use Rattle.sheet.specs.Codes.{token, tokenOf}
 use Rattle.sheet.specs.declared.sorts.Operands.{Operands}
 use Rattle.sheet.specs.Sorts.{formulaSort, termSort, procedureSort, exSort, operandsOf}
-use Rattle.sheet.specs.Dues.{Due, dueFormula, dueTerm, dueProcedure, dueEx, dueRange, parse, parseAll}
+use Rattle.sheet.specs.Dues.{Due, dueFormula, dueTerm, dueProcedure, dueEx, dueRange, dueBounds, dueUpper}
 
 -- the documents' limits on what is declared
 pub record Limited (D : Declared) : Type 0 where
@@ -36,7 +36,9 @@ room (dueFormula k S) = k
 room (dueTerm k S) = k
 room (dueProcedure k S) = k
 room (dueEx k S) = k
-room (dueRange k S) = k
+room (dueRange k S p) = k
+room (dueBounds k S p) = k
+room (dueUpper k S p x) = k
 
 -- the code is of the sort that is due
 abbrev pub suits : Due → ℕ → Bool
@@ -44,7 +46,9 @@ suits (dueFormula k S) c = between firstFormula lastFormula c
 suits (dueTerm k S) c = between firstTerm lastTerm c
 suits (dueProcedure k S) c = between procedureCode lastCode c
 suits (dueEx k S) c = eqb c localCode
-suits (dueRange k S) c = eqb c localCode
+suits (dueRange k S p) c = eqb c localCode
+suits (dueBounds k S p) c = between firstTerm lastTerm c
+suits (dueUpper k S p x) c = between firstTerm lastTerm c
 
 unfoldable pub declared : Declared → Token → Bool
 declared D t =
@@ -64,7 +68,9 @@ placed (dueFormula k S) B l = true
 placed (dueTerm k S) B l = has l S
 placed (dueProcedure k S) B l = true
 placed (dueEx k S) B l = not (has l B)
-placed (dueRange k S) B l = not (has l B)
+placed (dueRange k S p) B l = not (has l B)
+placed (dueBounds k S p) B l = has l S
+placed (dueUpper k S p x) B l = has l S
 
 -- the number of the token's refusal; 0 where it may stand
 unfoldable pub faultOf : Declared → Due → Locals → Token → ℕ
@@ -76,33 +82,63 @@ faultOf D d B t =
     (undeclared (t .code)))
     6)
 
--- ---- what a token makes due, and binds
+-- ---- an upper bound that makes a range empty
 
-unfoldable pub dueBy : ℕ → ℕ → Locals → Due
-dueBy s k S =
+-- a constant below the lower one
+abbrev pub empties : Bool → Due → Token → Bool
+empties refusing (dueFormula k S) t = false
+empties refusing (dueTerm k S) t = false
+empties refusing (dueProcedure k S) t = false
+empties refusing (dueEx k S) t = false
+empties refusing (dueRange k S p) t = false
+empties refusing (dueBounds k S p) t = false
+empties refusing (dueUpper k S p x) t = refusing && (eqb (t .code) constantCode && ltb (t .operand) x)
+
+-- its refusal is at the quantifier's word
+abbrev pub wordPlace : Due → ℕ
+wordPlace (dueFormula k S) = 0
+wordPlace (dueTerm k S) = 0
+wordPlace (dueProcedure k S) = 0
+wordPlace (dueEx k S) = 0
+wordPlace (dueRange k S p) = p
+wordPlace (dueBounds k S p) = p
+wordPlace (dueUpper k S p x) = p
+
+-- ---- what a token at the place p makes due, and binds
+
+unfoldable pub dueBy : ℕ → ℕ → ℕ → Locals → Due
+dueBy p s k S =
     pick (eqb s formulaSort) (dueFormula k S)
     (pick (eqb s termSort) (dueTerm k S)
     (pick (eqb s procedureSort) (dueProcedure k S)
-    (pick (eqb s exSort) (dueEx k S) (dueRange k S))))
+    (pick (eqb s exSort) (dueEx k S) (dueRange k S p))))
 
 -- k is how much deeper nesting may go at them
-unfoldable pub dues : ℕ → Locals → Operands → List Due
-dues k S o = replicate (o .count) (dueBy (o .sort) k S)
+unfoldable pub dues : ℕ → ℕ → Locals → Operands → List Due
+dues p k S o = replicate (o .count) (dueBy p (o .sort) k S)
+
+-- the upper bound after a token of the lower one
+unfoldable pub upper : ℕ → Locals → ℕ → Token → Due
+upper k S p t = pick (eqb (t .code) constantCode) (dueUpper k S p (t .operand)) (dueTerm k S)
 
 -- a binder's local makes due the other operands of the binder, beside it, and so does a procedure's number with the arguments
-unfoldable pub opens : Due → Token → List Due
-opens (dueFormula k S) t = dues (pred k) S (operandsOf (t .code))
-opens (dueTerm k S) t = dues (pred k) S (operandsOf (t .code))
-opens (dueProcedure k S) t = dues k S (operandsOf (t .code))
-opens (dueEx k S) t = dueFormula k (t .operand ∷ S) ∷ []
-opens (dueRange k S) t = dueTerm k S ∷ dueTerm k S ∷ dueFormula k (t .operand ∷ S) ∷ []
+unfoldable pub opens : ℕ → Due → Token → List Due
+opens p (dueFormula k S) t = dues p (pred k) S (operandsOf (t .code))
+opens p (dueTerm k S) t = dues p (pred k) S (operandsOf (t .code))
+opens p (dueProcedure k S) t = dues p k S (operandsOf (t .code))
+opens p (dueEx k S) t = dueFormula k (t .operand ∷ S) ∷ []
+opens p (dueRange k S q) t = dueBounds k S q ∷ dueFormula k (t .operand ∷ S) ∷ []
+opens p (dueBounds k S q) t = dues p (pred k) S (operandsOf (t .code)) ++ (upper k S q t ∷ [])
+opens p (dueUpper k S q x) t = dues p (pred k) S (operandsOf (t .code))
 
 abbrev pub binds : Due → Token → Locals → Locals
 binds (dueFormula k S) t B = B
 binds (dueTerm k S) t B = B
 binds (dueProcedure k S) t B = B
 binds (dueEx k S) t B = t .operand ∷ B
-binds (dueRange k S) t B = t .operand ∷ B
+binds (dueRange k S p) t B = t .operand ∷ B
+binds (dueBounds k S p) t B = B
+binds (dueUpper k S p x) t B = B
 
 -- ---- the token at a reader's place
 
@@ -115,7 +151,9 @@ wordFor D (dueFormula k S) bs = wordOf (D .edition) bs
 wordFor D (dueTerm k S) bs = wordOf (D .edition) bs
 wordFor D (dueProcedure k S) bs = numberOf bs
 wordFor D (dueEx k S) bs = wordOf (D .edition) bs
-wordFor D (dueRange k S) bs = wordOf (D .edition) bs
+wordFor D (dueRange k S p) bs = wordOf (D .edition) bs
+wordFor D (dueBounds k S p) bs = wordOf (D .edition) bs
+wordFor D (dueUpper k S p x) bs = wordOf (D .edition) bs
 
 -- the code of a procedure's number tells how many parameters it has
 abbrev pub counting : Declared → Token → Token
@@ -127,7 +165,9 @@ tokenBy D (dueFormula k S) w = tokenOf (just w)
 tokenBy D (dueTerm k S) w = tokenOf (just w)
 tokenBy D (dueProcedure k S) w = counting D (tokenOf (just w))
 tokenBy D (dueEx k S) w = tokenOf (just w)
-tokenBy D (dueRange k S) w = tokenOf (just w)
+tokenBy D (dueRange k S p) w = tokenOf (just w)
+tokenBy D (dueBounds k S p) w = tokenOf (just w)
+tokenBy D (dueUpper k S p x) w = tokenOf (just w)
 
 abbrev pub tokenIn : Declared → Due → Option Word → Token
 tokenIn D d none = token badConstantCode 0
@@ -150,41 +190,3 @@ behind D d r = record {
   tokens = suc (r .tokens);
   bound = binds d (tokenAt D d r) (r .bound);
 }
-
--- ---- what is left to read, after the tokens that were read
-
-module _ (D : Declared) where
-  -- where the space of the first that is due is still to come
-  unfoldable pub left : List Due → List Token → Parser (List Token)
-  left ds ts = parseAll D ds >>= λ ys. give (ts ++ ys)
-
-  -- where d is due here
-  unfoldable pub leftHere : Due → List Due → List Token → Parser (List Token)
-  leftHere d ds ts = parse D d >>= λ xs. left ds (ts ++ xs)
-
--- ---- how many can be due at once
-
--- a range's local counts for the three that it makes due, a procedure's number for its arguments
-abbrev pub weight : Due → ℕ
-weight (dueFormula k S) = 1
-weight (dueTerm k S) = 1
-weight (dueProcedure k S) = maxParameters
-weight (dueEx k S) = 1
-weight (dueRange k S) = 3
-
-unfoldable pub weights : List Due → ℕ
-weights [] = 0
-weights (d ∷ ds) = weight d + weights ds
-
--- a call's arguments are five more than another word's operands: what can still become a call, or a formula with one in it, leaves room
-abbrev pub slack : Due → ℕ
-slack (dueFormula k S) = 5
-slack (dueTerm k S) = 0
-slack (dueProcedure k S) = 0
-slack (dueEx k S) = 5
-slack (dueRange k S) = 5
-
--- each, with those after it, leaves two for each nesting that may still come
-unfoldable pub Fits : List Due → Type 0
-Fits [] = Unit {0}
-Fits (d ∷ ds) = (weights (d ∷ ds) + 2 * room d + slack d ≤ maxDues) × Fits ds

@@ -24,7 +24,7 @@ use Rattle.sheet.specs.Reader.{readerAt, lineAt}
 use Rattle.sheet.specs.Tables.{Words, laidArrays, laidCells, laidTokens, declaredTables, sheetTokens, formulaStart, tables}
 use Rattle.sheet.specs.Stack.{Bits, Beside}
 use Rattle.sheet.specs.Items.{Declares, Vacant}
-use Rattle.sheet.specs.FormulaLine.{Small, Counts}
+use Rattle.sheet.specs.FormulaLine.{refusesIn, Small, Counts}
 use Rattle.sheet.specs.Rest.{fromProcedures, fromBody, fromGiven, fromRanges, declaring, numberOf, limits, withNumber, afterNumbers}
 
 -- ---- what a sheet is read as
@@ -61,7 +61,7 @@ NumberRead k s at d (progress.Read l x) = Numbered k s at d l (x .at)
 
 -- numbers of the first lines
 pub record Headed (k : ℕ) (s : Bytes) (n : ℕ) (d : Limits) (at : ℕ) (w : Words) : Type 0 where
-  pub rest : sheet (lineAt s 0) ≡ afterNumbers k d (lineAt s at)
+  pub rest : sheet (d .strict) (lineAt s 0) ≡ afterNumbers k d (lineAt s at)
   pub scalars : d .scalars ≤ maxScalars
   pub locals : d .locals ≤ maxLocals
   pub procedures : d .procedures ≡ 0
@@ -72,7 +72,7 @@ pub record Headed (k : ℕ) (s : Bytes) (n : ℕ) (d : Limits) (at : ℕ) (w : W
 -- the arrays, of these lengths; what is declared with ranges as well has the same first cells
 pub record Arrayed (s : Bytes) (n : ℕ) (d : Limits) (at : ℕ) (w : Words) : Type 0 where
   pub lengths : List ℕ
-  pub rest : sheet (lineAt s 0) ≡ fromRanges d lengths (lineAt s at)
+  pub rest : sheet (d .strict) (lineAt s 0) ≡ fromRanges d lengths (lineAt s at)
   pub counts : (rs : List Range) → Counts d (declaring d lengths rs)
   pub small : Small d
   pub declares : (rs : List Range) → Declares (declaring d lengths rs) (d .scalars) (d .arrays) w
@@ -83,7 +83,7 @@ pub record Arrayed (s : Bytes) (n : ℕ) (d : Limits) (at : ℕ) (w : Words) : T
 -- the ranges
 pub record Ranged (s : Bytes) (n : ℕ) (d : Limits) (at : ℕ) (w : Words) : Type 0 where
   pub declared : Declared
-  pub rest : sheet (lineAt s 0) ≡ fromGiven declared (lineAt s at)
+  pub rest : sheet (d .strict) (lineAt s 0) ≡ fromGiven (d .strict) declared (lineAt s at)
   pub none : declared .procedures ≡ []
   pub plain : declared .parameters ≡ 0
   pub counts : Counts d declared
@@ -98,7 +98,7 @@ pub record Filled (k : ℕ) (s : Bytes) (n : ℕ) (d : Limits) (x : Reached) (w 
   pub declared : Declared
   pub items : List Item
   pub locals : Locals
-  pub rest : sheet (lineAt s 0) ≡ fromProcedures k declared items (readerAt s (x .at) (x .tokens) locals)
+  pub rest : sheet (d .strict) (lineAt s 0) ≡ fromProcedures (refusesIn d) k declared items (readerAt s (x .at) (x .tokens) locals)
   pub counts : Counts d declared
   pub plain : declared .parameters ≡ 0
   pub small : Small d
@@ -113,7 +113,7 @@ pub record Filled (k : ℕ) (s : Bytes) (n : ℕ) (d : Limits) (x : Reached) (w 
 pub record Tabled (s : Bytes) (n : ℕ) (d : Limits) (x : Reached) (w : Words) : Type 0 where
   pub whole : Sheet
   pub after : Reader
-  pub is : sheet (lineAt s 0) ≡ found whole after
+  pub is : sheet (d .strict) (lineAt s 0) ≡ found whole after
   pub scalars : whole .declared .scalars ≡ d .scalars
   pub arrays : length (whole .declared .arrays) ≡ d .arrays
   pub tokens : length (sheetTokens whole) ≡ x .tokens
@@ -124,25 +124,39 @@ pub record Tabled (s : Bytes) (n : ℕ) (d : Limits) (x : Reached) (w : Words) :
 abbrev pub leftLines : Limits → ℕ
 leftLines d = mostProcedures (d .edition) - d .procedures
 
--- k lines are read, of which p tells; the fourth stage is that of the arrays and their ranges, the fifth that of the given values and some
--- procedures, the sixth that of all procedures
-abbrev pub Went : ℕ → Bytes → ℕ → Progress → Words → Type 0
-Went k s n (progress.Refused e p) w = (sheet (lineAt s 0) ≡ refused e p) × (length w ≡ n)
-Went zero s n (progress.Read d x) w = Headed 0 s n d (x .at) w
-Went (suc zero) s n (progress.Read d x) w = Headed 1 s n d (x .at) w
-Went (suc (suc zero)) s n (progress.Read d x) w = Headed 2 s n d (x .at) w
-Went (suc (suc (suc zero))) s n (progress.Read d x) w = Headed 3 s n d (x .at) w
-Went (suc (suc (suc (suc zero)))) s n (progress.Read d x) w = Ranged s n d (x .at) w
-Went (suc (suc (suc (suc (suc zero))))) s n (progress.Read d x) w = Filled (leftLines d) s n d x w
-Went (suc (suc (suc (suc (suc (suc zero)))))) s n (progress.Read d x) w = Filled 0 s n d x w
-Went (suc (suc (suc (suc (suc (suc (suc k))))))) s n (progress.Read d x) w = Tabled s n d x w
+-- what is known after k lines; the fourth stage is that of the arrays and their ranges, the fifth that of the given values and some procedures,
+-- the sixth that of all procedures
+abbrev pub Stage : ℕ → Bytes → ℕ → Limits → Reached → Words → Type 0
+Stage zero s n d x w = Headed 0 s n d (x .at) w
+Stage (suc zero) s n d x w = Headed 1 s n d (x .at) w
+Stage (suc (suc zero)) s n d x w = Headed 2 s n d (x .at) w
+Stage (suc (suc (suc zero))) s n d x w = Headed 3 s n d (x .at) w
+Stage (suc (suc (suc (suc zero)))) s n d x w = Ranged s n d (x .at) w
+Stage (suc (suc (suc (suc (suc zero))))) s n d x w = Filled (leftLines d) s n d x w
+Stage (suc (suc (suc (suc (suc (suc zero)))))) s n d x w = Filled 0 s n d x w
+Stage (suc (suc (suc (suc (suc (suc (suc k))))))) s n d x w = Tabled s n d x w
+
+-- k lines are read, strictly or not, of which p tells
+abbrev pub Went : Bool → ℕ → Bytes → ℕ → Progress → Words → Type 0
+Went strict k s n (progress.Refused e p) w = (sheet strict (lineAt s 0) ≡ refused e p) × (length w ≡ n)
+Went strict k s n (progress.Read d x) w = (d .strict ≡ strict) × Stage k s n d x w
+
+-- what the next line needs of it
+abbrev pub Goes : ℕ → Bytes → ℕ → Progress → Words → Type 0
+Goes k s n (progress.Refused e p) w = Unit {0}
+Goes k s n (progress.Read d x) w = Stage k s n d x w
+
+-- and what it leads to: a refusal stays, else k lines are read
+abbrev pub Leads : ℕ → Bytes → ℕ → Progress → Progress → Words → Type 0
+Leads k s n (progress.Refused e p) r w = (r ≡ progress.Refused e p) × (length w ≡ n)
+Leads k s n (progress.Read d x) r w = Went (d .strict) k s n r w
 
 -- before the first line
 abbrev pub reached : ℕ → Reached
 reached at = record { first = 0; tokens = 0; bound = 0; at = at }
 
-abbrev pub unread : Progress
-unread = progress.Read (limits 0 0 0 0 0 0) (reached 0)
+abbrev pub unread : Bool → Progress
+unread strict = progress.Read (limits strict 0 0 0 0 0 0) (reached 0)
 
 -- ---- one line of a procedure
 
@@ -160,7 +174,8 @@ pub record Begun (s : Bytes) (n : ℕ) (d : Limits) (x : Reached) (m from : ℕ)
   pub filled : Filled (leftLines d) s n d x w
   pub parameters : m ≤ maxParameters
   pub within : from ≤ length s
-  pub rest : sheet (lineAt s 0) ≡ fromBody (pred (leftLines d)) (filled .declared) (filled .items) m (readerAt s from (x .tokens) (filled .locals))
+  pub rest : sheet (d .strict) (lineAt s 0) ≡
+      fromBody (refusesIn d) (pred (leftLines d)) (filled .declared) (filled .items) m (readerAt s from (x .tokens) (filled .locals))
 
 -- after it there is one procedure more
 abbrev pub Nearer : Limits → Progress → Type 0

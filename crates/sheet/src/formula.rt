@@ -1,17 +1,18 @@
 // A formula in its line: its tokens into the table, one token a turn. What is due stands on the stack.
 ghost use mathlib.Core.Path.{_≡_};
-ghost use Prim.Native.Nat.{_≤_, _<_};
+ghost use Prim.Native.Nat.{ℕ, _≤_, _<_};
 ghost use lib.ListN.{length};
+ghost use lib.Dec.{eqb};
 ghost use Rattle.specification.specs.Lines.{Declared};
 ghost use Rattle.specification.specs.Formula.{Locals};
-ghost use Rattle.specification.specs.Bytes.{between};
+ghost use Rattle.specification.specs.Bytes.{pick, between};
 ghost use Rattle.tables.specs.Layout.{maxTokens, maxLocals, pathAt};
 ghost use Rattle.tables.specs.Codes.{procedureCode, lastCode};
-ghost use Rattle.sheet.specs.Sorts.{procedureSort};
+ghost use Rattle.sheet.specs.Sorts.{formulaSort, upperSort, procedureSort};
 ghost use Rattle.sheet.specs.Dues.{Due};
-ghost use Rattle.sheet.specs.Turn.{suits, declared, undeclared, placed, faultOf};
-ghost use Rattle.sheet.specs.Stack.{Bits, sortOf, Means};
-ghost use Rattle.sheet.specs.FormulaLine.{Small, Sized, Known, counted, Spells, Refuses, Binds, begin, Scans, Within, Closes, LineRead};
+ghost use Rattle.sheet.specs.Turn.{suits, declared, undeclared, placed, faultOf, empties};
+ghost use Rattle.sheet.specs.Stack.{Bits, sortOf, Means, Kept};
+ghost use Rattle.sheet.specs.FormulaLine.{refusesIn, Small, Sized, Known, counted, Spells, Refuses, Binds, begin, Scans, Within, Closes, LineRead};
 use crate::Token;
 use crate::ends;
 use crate::refusals;
@@ -21,9 +22,10 @@ use crate::stack::Entry;
 use crate::words;
 use tables::codes;
 
-// What is declared where a formula stands: the edition, how many scalars, locals and arrays there are, how many procedures stand in the lines
-// before, and how many parameters the line has.
+// Whether reading is strict, and what is declared where a formula stands: the edition, how many scalars, locals and arrays there are, how many
+// procedures stand in the lines before, and how many parameters the line has.
 pub(crate) struct Limits {
+    pub strict: bool,
     pub edition: u32,
     pub scalars: u32,
     pub locals: u32,
@@ -93,7 +95,7 @@ fn suits(sort: u32, code: u32) -> bool
 {
     match sort {
         sorts::FORMULA => codes::is_formula(code),
-        sorts::TERM => codes::is_term(code),
+        sorts::TERM..=sorts::BOUNDS => codes::is_term(code),
         sorts::PROCEDURE => is_number(code),
         _ => code == codes::LOCAL,
     }
@@ -134,7 +136,7 @@ fn in_place(e: Entry, bound: u32, l: u32) -> bool
     let sort = e.sort;
     match sort {
         sorts::FORMULA => true,
-        sorts::TERM => tables::locals::has(e.scope, l),
+        sorts::TERM..=sorts::BOUNDS => tables::locals::has(e.scope, l),
         sorts::PROCEDURE => true,
         _ => !tables::locals::has(bound, l),
     }
@@ -188,6 +190,47 @@ fn bound_after(e: Entry, t: Token, bound: u32) -> u32
     tables::locals::with(bound, t.operand)
 }
 
+// ---- empty ranges
+
+// The first edition that refuses them.
+const FIRST_STRICT: u32 = 3;
+
+fn refuses(d: Limits) -> bool
+    ensures { λ r. ⌜ r ≡ refusesIn d ⌝ }
+{
+    if d.edition < FIRST_STRICT {
+        return false;
+    }
+    d.strict
+}
+
+// Whether a token after so many others is an upper bound below the lower one, which is the token before it, and this is refused.
+fn is_empty(refusing: bool, e: Entry, t: Token, count: u32, w: &[u32]) -> bool
+    requires { ⌜ (count ≤ maxTokens) × (pathAt ≤ length (now w)) × (e .sort ≡ upperSort → 0 < count) ⌝ }
+    ensures { λ r. ⌜ ((d : Due) (p : ℕ) → Means e d → Kept (now (w .entry)) count p d → r ≡ empties refusing d t) ⌝ }
+{
+    if e.sort != sorts::UPPER {
+        return false;
+    }
+    if !refusing {
+        return false;
+    }
+    if t.code != codes::CONSTANT {
+        return false;
+    }
+    t.operand < tables::operand(w, count - 1)
+}
+
+// The place of the last token where a formula was due, after one more.
+fn word_after(e: Entry, at: usize, word: usize) -> usize
+    ensures { λ r. ⌜ r ≡ pick (eqb (e .sort) formulaSort) at word ⌝ }
+{
+    if e.sort == sorts::FORMULA {
+        return at;
+    }
+    word
+}
+
 // ---- the tokens
 
 // A formula's tokens from a place on, into the table behind those that stand there, where some locals have a binder already.
@@ -196,19 +239,13 @@ fn scan(s: &[u8], from: usize, d: Limits, tokens: u32, binders: u32, w: &mut [u3
     ensures { λ r. ⌜ ((B : Locals) → Bits binders B
         → Scans (begin (now (s .entry)) d from tokens B) (now (w .entry)) (now (w .exit)) r) ⌝ }
 {
-    stack::put(
-        w,
-        0,
-        Entry {
-            sort: sorts::FORMULA,
-            room: tables::MAX_NESTING,
-            scope: 0,
-        },
-    );
+    stack::begin(w);
+    let refusing = refuses(d);
     let mut n: usize = 1;
     let mut count: u32 = tokens;
     let mut bound: u32 = binders;
     let mut at = from;
+    let mut word = from;
     loop {
         let due = stack::get(w, n - 1);
         let e = text::run_end(s, at, text::TOKEN);
@@ -217,6 +254,10 @@ fn scan(s: &[u8], from: usize, d: Limits, tokens: u32, binders: u32, w: &mut [u3
         if k != 0 {
             return Scanned::Refused(k, at);
         }
+        if is_empty(refusing, due, t, count, w) {
+            return Scanned::Refused(refusals::EMPTY_BOUNDS, word);
+        }
+        word = word_after(due, at, word);
         tables::set_token(w, count, t.code, t.operand);
         count += 1;
         bound = bound_after(due, t, bound);

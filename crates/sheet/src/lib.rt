@@ -2,7 +2,7 @@
 ghost use mathlib.Core.Path.{_≡_};
 ghost use Prim.Native.Nat.{_≤_, _<_};
 ghost use lib.ListN.{length, replicate};
-ghost use Rattle.specification.specs.Sheet.{read};
+ghost use Rattle.specification.specs.Sheet.{readWith};
 ghost use Rattle.specification.specs.Moves.{readOnly};
 ghost use Rattle.tables.specs.Layout.{pathAt};
 ghost use Rattle.sheet.specs.Whole.{readingOf, wordsOf, Zeroed};
@@ -68,14 +68,15 @@ pub fn clear(w: &mut [u32])
     zero(w, 0, w.len());
 }
 
-// Reads a sheet: its tables stand in the work words, and nothing else; where it is refused they are all 0.
-pub fn read_sheet(s: &[u8], w: &mut [u32]) -> Reading
+// Reads a sheet: its tables stand in the work words, and nothing else; where it is refused they are all 0. Only strict reading refuses empty
+// ranges.
+pub fn read_sheet(s: &[u8], strict: bool, w: &mut [u32]) -> Reading
     requires { ⌜ pathAt ≤ length (now w) ⌝ }
-    ensures { λ r. ⌜ (r ≡ readingOf (read (now (s .entry))))
-        × (now (w .exit) ≡ wordsOf (length (now (w .entry))) (read (now (s .entry)))) ⌝ }
+    ensures { λ r. ⌜ (r ≡ readingOf (readWith strict (now (s .entry))))
+        × (now (w .exit) ≡ wordsOf (length (now (w .entry))) (readWith strict (now (s .entry)))) ⌝ }
 {
     clear(w);
-    match whole::all_lines(s, w) {
+    match whole::all_lines(s, strict, w) {
         Progress::Refused(number, place) => {
             clear(w);
             Reading::Refused { number, place }
@@ -93,16 +94,16 @@ pub fn read_sheet(s: &[u8], w: &mut [u32]) -> Reading
 }
 
 // The same, where only this edition is read: another is refused at the edition.
-pub fn read_only(s: &[u8], edition: u32, w: &mut [u32]) -> Reading
+pub fn read_only(s: &[u8], edition: u32, strict: bool, w: &mut [u32]) -> Reading
     requires { ⌜ (edition < 4294967295) × (pathAt ≤ length (now w)) ⌝ }
-    ensures { λ r. ⌜ (r ≡ readingOf (readOnly edition (now (s .entry))))
-        × (now (w .exit) ≡ wordsOf (length (now (w .entry))) (readOnly edition (now (s .entry)))) ⌝ }
+    ensures { λ r. ⌜ (r ≡ readingOf (readOnly strict edition (now (s .entry))))
+        × (now (w .exit) ≡ wordsOf (length (now (w .entry))) (readOnly strict edition (now (s .entry)))) ⌝ }
 {
     match lines::count_line(s, 0, b"edition=", edition, edition, text::FEED) {
         Count::Refused(number, place) => {
             clear(w);
             Reading::Refused { number, place }
         }
-        Count::Is(_, _) => read_sheet(s, w),
+        Count::Is(_, _) => read_sheet(s, strict, w),
     }
 }

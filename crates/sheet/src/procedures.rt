@@ -4,7 +4,7 @@ ghost use mathlib.Core.Bool.{true};
 ghost use Prim.Native.Nat.{_<_};
 ghost use lib.ListN.{length};
 ghost use Rattle.specification.specs.Sheet.{mostProcedures};
-ghost use Rattle.sheet.specs.Whole.{Went, follows, Following, Begun, leftOver, Nearer};
+ghost use Rattle.sheet.specs.Whole.{Filled, leftLines, Went, Goes, Leads, follows, Following, Begun, leftOver, Nearer};
 use crate::formula;
 use crate::formula::Limits;
 use crate::formula::Reached;
@@ -44,7 +44,7 @@ fn more(s: &[u8], p: Progress) -> bool
 // The formula of a procedure with n parameters, from a place on, and the line feed after it.
 fn body(s: &[u8], from: usize, d: Limits, x: Reached, n: u32, w: &mut [u32]) -> Progress
     requires { ⌜ Begun (now s) (length (now w)) d x n from (now w) ⌝ }
-    ensures { λ r. ⌜ Nearer d r × Went 5 (now (s .entry)) (length (now (w .entry))) r (now (w .exit)) ⌝ }
+    ensures { λ r. ⌜ Nearer d r × Went (d .strict) 5 (now (s .entry)) (length (now (w .entry))) r (now (w .exit)) ⌝ }
 {
     let mut l = d;
     l.parameters = n;
@@ -69,7 +69,7 @@ fn body(s: &[u8], from: usize, d: Limits, x: Reached, n: u32, w: &mut [u32]) -> 
 
 fn procedure_line(s: &[u8], d: Limits, x: Reached, w: &mut [u32]) -> Progress
     requires { ⌜ Following (now s) (length (now w)) d x (now w) ⌝ }
-    ensures { λ r. ⌜ Nearer d r × Went 5 (now (s .entry)) (length (now (w .entry))) r (now (w .exit)) ⌝ }
+    ensures { λ r. ⌜ Nearer d r × Went (d .strict) 5 (now (s .entry)) (length (now (w .entry))) r (now (w .exit)) ⌝ }
 {
     match lines::count_line(s, x.at, b"proc=", 0, tables::MAX_PARAMETERS, text::COLON) {
         Count::Refused(k, p) => Progress::Refused(k, p),
@@ -81,8 +81,8 @@ fn procedure_line(s: &[u8], d: Limits, x: Reached, w: &mut [u32]) -> Progress
 
 // One more line after what was read.
 fn next(s: &[u8], p: Progress, w: &mut [u32]) -> Progress
-    requires { ⌜ (follows (now s) p ≡ true) × Went 5 (now s) (length (now w)) p (now w) ⌝ }
-    ensures { λ r. ⌜ (leftOver r < leftOver p) × Went 5 (now (s .entry)) (length (now (w .entry))) r (now (w .exit)) ⌝ }
+    requires { ⌜ (follows (now s) p ≡ true) × Goes 5 (now s) (length (now w)) p (now w) ⌝ }
+    ensures { λ r. ⌜ (leftOver r < leftOver p) × Leads 5 (now (s .entry)) (length (now (w .entry))) p r (now (w .exit)) ⌝ }
 {
     match p {
         Progress::Refused(k, q) => Progress::Refused(k, q),
@@ -90,11 +90,11 @@ fn next(s: &[u8], p: Progress, w: &mut [u32]) -> Progress
     }
 }
 
-pub(crate) fn procedure_lines(s: &[u8], p: Progress, w: &mut [u32]) -> Progress
-    requires { ⌜ Went 5 (now s) (length (now w)) p (now w) ⌝ }
-    ensures { λ r. ⌜ Went 6 (now (s .entry)) (length (now (w .entry))) r (now (w .exit)) ⌝ }
+pub(crate) fn procedure_lines(s: &[u8], d: Limits, x: Reached, w: &mut [u32]) -> Progress
+    requires { ⌜ Filled (leftLines d) (now s) (length (now w)) d x (now w) ⌝ }
+    ensures { λ r. ⌜ Went (d .strict) 6 (now (s .entry)) (length (now (w .entry))) r (now (w .exit)) ⌝ }
 {
-    let mut q = p;
+    let mut q = Progress::Read(d, x);
     while more(s, q) {
         q = next(s, q, w);
     }

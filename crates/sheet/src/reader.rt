@@ -3,7 +3,7 @@
 ghost use mathlib.Core.Path.{_≡_};
 ghost use Prim.Native.Nat.{_≤_, _+_};
 ghost use lib.ListN.{length};
-ghost use Rattle.sheet.specs.Whole.{Went};
+ghost use Rattle.sheet.specs.Whole.{Goes, Leads};
 use crate::whole;
 use crate::whole::Progress;
 
@@ -22,9 +22,9 @@ pub(crate) fn stand<'a>(sheet: &'a [u8], read: Progress) -> Reader<'a>
 impl<'a> Reader<'a> {
     // The line that comes k-th, from where the reader stands: it stands after it.
     pub fn line<'w>(self, k: u32, w: &'w mut [u32]) -> Reader<'a>
-        requires { ⌜ (k ≤ 6) × Went k (now (self .sheet)) (length (now w)) (self .read) (now w) ⌝ }
+        requires { ⌜ (k ≤ 6) × Goes k (now (self .sheet)) (length (now w)) (self .read) (now w) ⌝ }
         ensures { λ x. ⌜ (x .sheet ≡ self .entry .sheet)
-            × Went (k + 1) (now (self .entry .sheet)) (length (now (w .entry))) (x .read) (now (w .exit)) ⌝ }
+            × Leads (k + 1) (now (self .entry .sheet)) (length (now (w .entry))) (self .entry .read) (x .read) (now (w .exit)) ⌝ }
     {
         Reader {
             sheet: self.sheet,

@@ -35,3 +35,6 @@ pub(crate) const OUT_OF_RANGE: u32 = 13;
 
 // the lowest value of a range is above its highest
 pub(crate) const EMPTY_RANGE: u32 = 14;
+
+// both bounds of a quantifier are constants, and the lower is above the upper
+pub(crate) const EMPTY_BOUNDS: u32 = 17;

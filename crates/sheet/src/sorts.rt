@@ -4,17 +4,21 @@ ghost use mathlib.Core.Path.{_≡_};
 ghost use Rattle.sheet.specs.Sorts.{wordOperands, arity};
 use tables::codes;
 
-// The sorts of what is due (specs/Sorts.antt has the same numbers): a formula, a term, a procedure's number, the local of `ex`, the local of
-// `some` or `all`.
+// The sorts of what is due (specs/Sorts.antt has the same numbers): a formula, a term, the upper bound after a constant, both bounds, a
+// procedure's number, the local of `ex`, the local of `some` or `all`.
 pub(crate) const FORMULA: u32 = 0;
 
 pub(crate) const TERM: u32 = 1;
 
-pub(crate) const PROCEDURE: u32 = 2;
+pub(crate) const UPPER: u32 = 2;
 
-pub(crate) const EX_LOCAL: u32 = 3;
+pub(crate) const BOUNDS: u32 = 3;
 
-pub(crate) const RANGE_LOCAL: u32 = 4;
+pub(crate) const PROCEDURE: u32 = 4;
+
+pub(crate) const EX_LOCAL: u32 = 5;
+
+pub(crate) const RANGE_LOCAL: u32 = 6;
 
 // The operands of a word's code, all of one sort. A binder has its local, and a call its procedure's number: the others become due when that is read.
 pub(crate) struct Operands {

@@ -6,7 +6,7 @@ ghost use Rattle.tables.specs.Layout.{pathAt};
 ghost use Rattle.sheet.specs.Reader.{lineAt};
 ghost use Rattle.sheet.specs.Answers.{countRead};
 ghost use Rattle.sheet.specs.Rest.{numberOf};
-ghost use Rattle.sheet.specs.Whole.{reached, unread, NumberRead, Headed, Arrayed, Ranged, Filled, Went};
+ghost use Rattle.sheet.specs.Whole.{reached, unread, NumberRead, Headed, Arrayed, Ranged, Filled, Went, Goes, Leads};
 use crate::arrays;
 use crate::arrays::Arrays;
 use crate::formula;
@@ -59,11 +59,12 @@ fn reached(at: usize) -> Reached
 }
 
 // Before the first line.
-fn nothing() -> Progress
-    ensures { λ r. ⌜ r ≡ unread ⌝ }
+fn nothing(strict: bool) -> Progress
+    ensures { λ r. ⌜ r ≡ unread strict ⌝ }
 {
     Progress::Read(
         Limits {
+            strict,
             edition: 0,
             scalars: 0,
             locals: 0,
@@ -122,7 +123,7 @@ fn number_line(s: &[u8], at: usize, d: Limits, k: u32) -> Progress
 // The line of ranges, of arrays with it, of given values, of the formula: what is known after each.
 fn after_ranges(s: &[u8], at: usize, d: Limits, w: &mut [u32]) -> Progress
     requires { ⌜ Arrayed (now s) (length (now w)) d at (now w) ⌝ }
-    ensures { λ r. ⌜ Went 4 (now (s .entry)) (length (now (w .entry))) r (now (w .exit)) ⌝ }
+    ensures { λ r. ⌜ Went (d .strict) 4 (now (s .entry)) (length (now (w .entry))) r (now (w .exit)) ⌝ }
 {
     match ranges::ranges_line(s, at, d.edition, d.scalars, d.arrays, w) {
         Ranges::Refused(k, p) => Progress::Refused(k, p),
@@ -132,7 +133,7 @@ fn after_ranges(s: &[u8], at: usize, d: Limits, w: &mut [u32]) -> Progress
 
 fn after_arrays(s: &[u8], at: usize, d: Limits, w: &mut [u32]) -> Progress
     requires { ⌜ Headed 3 (now s) (length (now w)) d at (now w) ⌝ }
-    ensures { λ r. ⌜ Went 4 (now (s .entry)) (length (now (w .entry))) r (now (w .exit)) ⌝ }
+    ensures { λ r. ⌜ Went (d .strict) 4 (now (s .entry)) (length (now (w .entry))) r (now (w .exit)) ⌝ }
 {
     match arrays::arrays_line(s, at, d.scalars, w) {
         Arrays::Refused(k, p) => Progress::Refused(k, p),
@@ -146,7 +147,7 @@ fn after_arrays(s: &[u8], at: usize, d: Limits, w: &mut [u32]) -> Progress
 
 fn after_given(s: &[u8], at: usize, d: Limits, w: &mut [u32]) -> Progress
     requires { ⌜ Ranged (now s) (length (now w)) d at (now w) ⌝ }
-    ensures { λ r. ⌜ Went 5 (now (s .entry)) (length (now (w .entry))) r (now (w .exit)) ⌝ }
+    ensures { λ r. ⌜ Went (d .strict) 5 (now (s .entry)) (length (now (w .entry))) r (now (w .exit)) ⌝ }
 {
     match given::given_line(s, at, d.scalars, d.arrays, w) {
         Given::Refused(k, p) => Progress::Refused(k, p),
@@ -156,7 +157,7 @@ fn after_given(s: &[u8], at: usize, d: Limits, w: &mut [u32]) -> Progress
 
 fn after_formula(s: &[u8], d: Limits, x: Reached, w: &mut [u32]) -> Progress
     requires { ⌜ Filled 0 (now s) (length (now w)) d x (now w) ⌝ }
-    ensures { λ r. ⌜ Went 7 (now (s .entry)) (length (now (w .entry))) r (now (w .exit)) ⌝ }
+    ensures { λ r. ⌜ Went (d .strict) 7 (now (s .entry)) (length (now (w .entry))) r (now (w .exit)) ⌝ }
 {
     match formula::formula_line(s, d, x, w) {
         Parsed::Refused(k, p) => Progress::Refused(k, p),
@@ -174,8 +175,8 @@ fn after_formula(s: &[u8], d: Limits, x: Reached, w: &mut [u32]) -> Progress
 
 // The line that comes k-th, after what was read before it.
 pub(crate) fn line_at(s: &[u8], p: Progress, k: u32, w: &mut [u32]) -> Progress
-    requires { ⌜ (k ≤ 6) × Went k (now s) (length (now w)) p (now w) ⌝ }
-    ensures { λ r. ⌜ Went (k + 1) (now (s .entry)) (length (now (w .entry))) r (now (w .exit)) ⌝ }
+    requires { ⌜ (k ≤ 6) × Goes k (now s) (length (now w)) p (now w) ⌝ }
+    ensures { λ r. ⌜ Leads (k + 1) (now (s .entry)) (length (now (w .entry))) p r (now (w .exit)) ⌝ }
 {
     match p {
         Progress::Refused(n, q) => Progress::Refused(n, q),
@@ -190,7 +191,7 @@ pub(crate) fn line_at(s: &[u8], p: Progress, k: u32, w: &mut [u32]) -> Progress
                 return after_given(s, x.at, d, w);
             }
             if k == PROCEDURES {
-                return procedures::procedure_lines(s, p, w);
+                return procedures::procedure_lines(s, d, x, w);
             }
             after_formula(s, d, x, w)
         }
@@ -200,11 +201,11 @@ pub(crate) fn line_at(s: &[u8], p: Progress, k: u32, w: &mut [u32]) -> Progress
 // ---- all of them
 
 // The reader is made here and stands at each line in turn. What was due while formulas were read still stands in the words.
-pub(crate) fn all_lines(s: &[u8], w: &mut [u32]) -> Progress
+pub(crate) fn all_lines(s: &[u8], strict: bool, w: &mut [u32]) -> Progress
     requires { ⌜ (now w ≡ replicate (length (now w)) 0) × (pathAt ≤ length (now w)) ⌝ }
-    ensures { λ r. ⌜ Went 7 (now (s .entry)) (length (now (w .entry))) r (now (w .exit)) ⌝ }
+    ensures { λ r. ⌜ Went strict 7 (now (s .entry)) (length (now (w .entry))) r (now (w .exit)) ⌝ }
 {
-    reader::stand(s, nothing())
+    reader::stand(s, nothing(strict))
         .line(EDITION, w)
         .line(SCALARS, w)
         .line(LOCALS, w)

@@ -7,6 +7,10 @@ use Rattle.sheet.proofs.Only.{only-refused, only-found}
 use Rattle.sheet.proofs.read_only.Statement.{statement}
 use Rattle.sheet.proofs.read_only.Tie as tie
 
+-- the first line was read
+abbrev start : tie.After-count-line → tie.Start
+start c = c .before .before .before .before
+
 slice-aggregate-count-line : tie.Need-slice-aggregate-count-line
 slice-aggregate-count-line c = search needs
 
@@ -31,10 +35,12 @@ same-length c = search needs
 returns : tie.Need-returns
 unfolding classNumber
 returns c =
-    let at-number = c .before .before .before .before .before in
-    let at-line = at-number .before .before in
-    let start = at-line .before .before .before .before in
-    only-refused (start .args .s .now) (start .args .edition) (length (start .args .w .now)) (at-line .count-line .result) ((at-line .count-line .ensures .1) feed refl) _ _ (at-number .number .given .1) _ (c .before .before .clear .ensures)
+    let number = c .before .before .before .before .before in
+    let line = number .before .before in
+    let a = start line .args in
+    let first = line .count-line in
+    only-refused (a .s .now) (a .edition) (a .strict) (length (a .w .now)) (first .result) (first .ensures .1 feed refl) _ _
+    (number .number .given .1) _ (c .before .before .clear .ensures)
 
 same-length-2 : tie.Need-same-length-2
 same-length-2 c = search needs
@@ -42,11 +48,14 @@ same-length-2 c = search needs
 returns-2 : tie.Need-returns-2
 unfolding classNumber
 returns-2 c =
-    let read = c .before .before .read-sheet .ensures in
-    let at-told = c .before .before .before .before in
-    let at-line = at-told .before .before in
-    let start = at-line .before .before .before .before in
-    only-found (start .args .s .now) (start .args .edition) (length (start .args .w .now)) (at-line .count-line .result) ((at-line .count-line .ensures .1) feed refl) _ _ (at-told .enum-told .given .1) _ _ (read .0) (read .1)
+    let call = c .before .before in
+    let told = call .before .before in
+    let line = told .before .before in
+    let a = start line .args in
+    let first = line .count-line in
+    let read = call .read-sheet .ensures in
+    only-found (a .s .now) (a .edition) (a .strict) (length (a .w .now)) (first .result) (first .ensures .1 feed refl) _ _ (told .enum-told .given .1)
+    _ _ (read .0) (read .1)
 
 pub read-only-spec : {M : Type 1} → statement M
 read-only-spec =

@@ -1,22 +1,42 @@
 -- All lines over cleared words, and what was due cleared again. Assumes nothing.
-use mathlib.Core.Path.{subst}
 use native.Mathlib.Omega.{arith}
 use lib.ListN.{length}
 use Rattle.sheet.specs.Whole.{Went}
+use Rattle.sheet.proofs.AllLines.{as-long}
 use Rattle.sheet.proofs.Cleared.{cleared, refused-whole, found-whole}
 use borrow.Author.Needs.{needs}
 use Rattle.sheet.proofs.read_sheet.Statement.{statement}
 use Rattle.sheet.proofs.read_sheet.Tie as tie
+
+-- ---- places: the words cleared, and all lines read over them
+
+abbrev start : tie.After-clear → tie.Start
+start c = c .before .before .before .before
+
+abbrev cleared-first : tie.After-all-lines → tie.After-clear
+cleared-first c = c .before .before .before .before
+
+abbrev lined : tie.After-slice-known3 → tie.After-all-lines
+lined c = c .before .before
+
+-- over as many words as there were
+went-here : (c : tie.After-all-lines) → let a = start (cleared-first c) .args in
+    Went (a .strict) 7 (a .s .now) (length (a .w .now)) (c .all-lines .result) (c .all-lines .last .1 .1 .0)
+went-here c =
+    let q = cleared-first c in
+    let a = start q .args in
+    as-long (a .strict) 7 (a .s .now) (c .all-lines .result) _ (cleared (a .w .now) _ (q .clear .ensures) .0) (c .all-lines .ensures)
+
+-- ---- the needs
 
 clear-requires : tie.Need-clear-requires
 clear-requires c κs = search needs
 
 all-lines-requires : tie.Need-all-lines-requires
 all-lines-requires c κs =
-    let mid = c .before .before .before .before .before in
-    let start = mid .before .before in
-    let z = cleared (start .args .w .now) _ (c .before .before .before .clear .ensures) in
-    (z .1, omega (arith, z .0, start .pre))
+    let q = c .before .before .before in
+    let z = cleared (start q .args .w .now) _ (q .clear .ensures) in
+    (z .1, omega (arith, z .0, start q .pre))
 
 enum-known-number : tie.Need-enum-known-number
 enum-known-number c = search needs
@@ -35,32 +55,21 @@ same-length c = search needs
 
 returns : tie.Need-returns
 returns c =
-    let mid = c .before .before .before .before .before in
-    let far = mid .before .before .before .before .before in
-    let farther = far .before .before .before .before .before in
-    let lines = mid .before .before .before .before in
-    let cleared-first = far .before .before .before in
-    let start = farther .before .before in
-    let went =
-    subst (λ n. Went 7 (start .args .s .now) n (lines .all-lines .result) (lines .all-lines .last .1 .0)) (cleared (start .args .w .now) _ (cleared-first .clear .ensures) .0)
-    (lines .all-lines .ensures) in
-    refused-whole (start .args .s .now) (length (start .args .w .now)) (lines .all-lines .last .1 .0) (lines .all-lines .result) went _ _ _ (c .before .before .before .before .before .number .given .1) (c .before .before .clear2 .ensures)
+    let number = c .before .before .before .before .before in
+    let l = lined (number .before .before) in
+    let a = start (cleared-first l) .args in
+    refused-whole (a .strict) (a .s .now) (length (a .w .now)) _ _ (went-here l) _ _ _ (number .number .given .1) (c .before .before .clear2 .ensures)
 
 same-length-2 : tie.Need-same-length-2
 same-length-2 c = search needs
 
 returns-2 : tie.Need-returns-2
 returns-2 c =
-    let mid = c .before .before .before .before .before in
-    let far = mid .before .before .before .before .before in
-    let farther = far .before .before .before .before .before in
-    let lines = mid .before .before .before .before in
-    let cleared-first = far .before .before .before in
-    let start = farther .before .before in
-    let went =
-    subst (λ n. Went 7 (start .args .s .now) n (lines .all-lines .result) (lines .all-lines .last .1 .0)) (cleared (start .args .w .now) _ (cleared-first .clear .ensures) .0)
-    (lines .all-lines .ensures) in
-    found-whole (start .args .s .now) (length (start .args .w .now)) (lines .all-lines .last .1 .0) (lines .all-lines .result) went _ _ _ (c .before .before .before .before .before .d .given .1) (start .pre) (c .before .before .zero .ensures)
+    let read = c .before .before .before .before .before in
+    let l = lined (read .before .before) in
+    let h = start (cleared-first l) in
+    let a = h .args in
+    found-whole (a .strict) (a .s .now) (length (a .w .now)) _ _ (went-here l) _ _ _ (read .d .given .1) (h .pre) (c .before .before .zero .ensures)
 
 pub read-sheet-spec : {M : Type 1} → statement M
 read-sheet-spec =

@@ -1,14 +1,40 @@
 -- By the sort that was due. Assumes nothing.
+use Prim.Native.Nat.{_<_}
 use native.Mathlib.Omega.{arith}
+use Rattle.sheet.specs.Sorts.{procedureSort}
 use Rattle.sheet.proofs.Opened.{opened-ex, opened-range}
 use borrow.Author.Needs.{needs}
 use Rattle.sheet.proofs.stack.push.Statement.{statement}
 use Rattle.sheet.proofs.stack.push.Tie as tie
 
+-- ---- places: the start, the tests of the sort, and the formula of a binder put
+
+abbrev start : tie.Else1 → tie.Start
+start c = c .before .before .before
+
+abbrev past-terms : tie.Else2 → tie.Else1
+past-terms c = c .before .before
+
+abbrev past-bounds : tie.Else3 → tie.Else2
+past-bounds c = c .before .before
+
+abbrev binder : tie.After-put → tie.Else3
+binder c = c .before .before .before
+
+abbrev first : tie.Else3 → tie.Start
+first c = start (past-terms (past-bounds c))
+
+-- the local of a binder is due
+is-local : (c : tie.Else3) → procedureSort < first c .args .e .sort
+is-local c = let q = past-bounds c in omega (arith, past-terms q .if1 .left, q .if2 .left, c .if3 .left)
+
+-- ---- the needs
+
 push-operands-requires : tie.Need-push-operands-requires
 push-operands-requires c κs =
-    let start = c .before .before .before .before in
-    (start .pre .4 (omega (arith, (c .before .if1 .taken))), start .pre .1, start .pre .2, (c .before .if1 .taken), start .pre .5 .word (c .before .if1 .taken))
+    let h = c .before .before .before .before .pre in
+    let few = c .before .if1 .taken in
+    (h .4 (omega arith), h .1, h .2, few, h .5 .word (omega arith))
 
 same-length : tie.Need-same-length
 same-length c = search needs
@@ -16,20 +42,32 @@ same-length c = search needs
 returns : tie.Need-returns
 returns c = (c .before .before .push-operands .ensures)
 
-push-arguments-requires : tie.Need-push-arguments-requires
-push-arguments-requires c κs =
-    let mid = c .before .before .before .before .before in
-    let start = mid .before in
-    (start .pre .4 (omega (arith, (c .before .if2 .taken))), start .pre .1, (c .before .if2 .taken), start .pre .5 .number (c .before .if2 .taken))
+push-bounds-requires : tie.Need-push-bounds-requires
+push-bounds-requires c κs =
+    let h = start (c .before .before .before) .pre in
+    let is = c .before .if2 .taken in
+    (h .0, h .1, h .2, is, h .5 .word (omega arith))
 
 same-length-2 : tie.Need-same-length-2
 same-length-2 c = search needs
 
 returns-2 : tie.Need-returns-2
-returns-2 c = (c .before .before .push-arguments .ensures)
+returns-2 c = (c .before .before .push-bounds .ensures)
+
+push-arguments-requires : tie.Need-push-arguments-requires
+push-arguments-requires c κs =
+    let h = start (past-terms (c .before .before .before)) .pre in
+    let is = c .before .if3 .taken in
+    (h .4 (omega arith), h .1, is, h .5 .number is)
+
+same-length-3 : tie.Need-same-length-3
+same-length-3 c = search needs
+
+returns-3 : tie.Need-returns-3
+returns-3 c = (c .before .before .push-arguments .ensures)
 
 with-requires : tie.Need-with-requires
-with-requires c κs = (c .before .before .before .before .before .pre .3) (omega (arith, (c .before .before .if1 .left), (c .if2 .left)))
+with-requires c κs = first c .pre .3 (is-local c)
 
 put-requires : tie.Need-put-requires
 put-requires c κs = search needs
@@ -37,16 +75,16 @@ put-requires c κs = search needs
 add-result : tie.Need-add-result
 add-result c = search needs
 
-same-length-3 : tie.Need-same-length-3
-same-length-3 c = search needs
+same-length-4 : tie.Need-same-length-4
+same-length-4 c = search needs
 
-returns-3 : tie.Need-returns-3
-returns-3 c =
-    let mid = c .before .before .before .before .before in
-    let far = mid .before .before .before .before .before in
-    let start = far .before .before in
-    let bound = mid .before in
-    rw (c .before .before .before .before .put .ensures) (opened-ex (start .args .w .now) (start .args .n) (start .args .e) (start .args .t) (start .pre .0) (start .pre .1) (bound .with .result) (bound .with .ensures) (c .if3 .taken))
+returns-4 : tie.Need-returns-4
+returns-4 c =
+    let put = c .before .before .before .before in
+    let bound = put .before .before .with in
+    let h = first (binder put) in
+    let a = h .args in
+    rw (put .put .ensures) (opened-ex (a .w .now) (a .n) (a .e) (a .t) (h .pre .0) (h .pre .1) (bound .result) (bound .ensures) (c .if4 .taken))
 
 add-put : tie.Need-add-put
 add-put c = search needs
@@ -54,26 +92,22 @@ add-put c = search needs
 put-requires-2 : tie.Need-put-requires-2
 put-requires-2 c κs = search needs
 
-add-put-2 : tie.Need-add-put-2
-add-put-2 c = search needs
-
-put-requires-3 : tie.Need-put-requires-3
-put-requires-3 c κs = search needs
-
 add-result-2 : tie.Need-add-result-2
 add-result-2 c = search needs
 
-same-length-4 : tie.Need-same-length-4
-same-length-4 c = search needs
+same-length-5 : tie.Need-same-length-5
+same-length-5 c = search needs
 
-returns-4 : tie.Need-returns-4
-returns-4 c =
-    let mid = c .before .before .before .before .before in
-    let far = mid .before .before .before .before .before in
-    let farther = far .before .before .before .before .before in
-    let start = farther .before .before .before .before .before in
-    let bound = far .before .before .before .before in
-    rw ((c .before .before .put3 .ensures), (mid .before .put2 .ensures), (far .before .before .put .ensures)) (opened-range (start .args .w .now) (start .args .n) (start .args .e) (start .args .t) (start .pre .0) (start .pre .1) (bound .with .result) (bound .with .ensures) (omega (arith, (farther .before .before .if1 .left), (far .before .before .before .before .before .if2 .left))) (mid .before .before .before .if3 .left))
+returns-5 : tie.Need-returns-5
+returns-5 c =
+    let second = c .before .before in
+    let test = second .before .before in
+    let put = test .before .before .before .before in
+    let bound = put .before .before .with in
+    let h = first (binder put) in
+    let a = h .args in
+    rw (second .put2 .ensures, put .put .ensures)
+    (opened-range (a .w .now) (a .n) (a .e) (a .t) (h .pre .0) (h .pre .1) (bound .result) (bound .ensures) (is-local (binder put)) (test .if4 .left))
 
 pub push-spec : {M : Type 1} → statement M
 push-spec =
@@ -82,18 +116,19 @@ push-spec =
     push-operands-requires
     same-length
     returns
-    push-arguments-requires
+    push-bounds-requires
     same-length-2
     returns-2
+    push-arguments-requires
+    same-length-3
+    returns-3
     with-requires
     put-requires
     add-result
-    same-length-3
-    returns-3
+    same-length-4
+    returns-4
     add-put
     put-requires-2
-    add-put-2
-    put-requires-3
     add-result-2
-    same-length-4
-    returns-4)
+    same-length-5
+    returns-5)

@@ -41,7 +41,7 @@ returns-2 c =
     let mid = c .before .before .before .before .before in
     let told = mid .before .before .before .before .arrays-line in
     let last = c .before .before .after-ranges in
-    as-long 4 _ (last .result) _ (told .kept .1 .1 .1 .0) (last .ensures)
+    as-long _ 4 _ (last .result) _ (told .kept .1 .1 .1 .0) (last .ensures)
 
 pub after-arrays-spec : {M : Type 1} → statement M
 after-arrays-spec =

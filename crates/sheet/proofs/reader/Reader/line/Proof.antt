@@ -41,7 +41,7 @@ use denote.Triple.Table.{entered, cited}
 use denote.Triple.Walked.{says, needs, Stays, stay-none, gave-slice, walkOf, goes-none, goes-gave-slice, Walks, ends-at, walked, walk-meets}
 use denote.Exit.{yes}
 use denote.Triple.Clauses.{ensured, lasts}
-use Rattle.sheet.specs.Whole.{Went}
+use Rattle.sheet.specs.Whole.{Leads}
 use Rattle.sheet.specs.declared.reader.Reader.{Reader}
 use Rattle.sheet.specs.declared.whole.Progress.{Progress}
 use Rattle.sheet.proofs.Standing.{Needs}
@@ -110,7 +110,7 @@ module _ {M : Type 1} (𝓤 : URA M) (H : Heap 𝓤) (A : Atoms 𝓤) (W : Given
   put u = vstruct (vcons v (vcons u vnil))
 
   abbrev Found : List ℕ → Progress → Type 0
-  Found zs p = Went (k + 1) (now (d .sheet)) (length ys) p zs
+  Found zs p = Leads (k + 1) (now (d .sheet)) (length ys) (d .read) p zs
 
   abbrev at : Vals thin.signature (κ, (κ′, tt))
   at = (mach ∷ [], (vint w32 k ∷ [], (xv ∷ [], tt)))
