@@ -1,3 +1,3 @@
--- The model of the mover's code, and the turns of its loops.
+-- The model of the mover's code, and what its functions answer and leave.
 pub mod Model
 pub mod Steps

@@ -1,8 +1,7 @@
-// The line of full ranges: its length, the line written, and the first range that is not full.
+// The line of full ranges: the line written, and the first range that is not full.
 ghost use mathlib.Core.Path.{_≡_};
 ghost use mathlib.Core.List.{_++_};
-ghost use Prim.Native.Nat.{_≤_};
-ghost use lib.ListN.{length, drop};
+ghost use lib.ListN.{drop};
 ghost use Rattle.specification.specs.Bytes.{begins};
 ghost use Rattle.listing.specs.Put.{Room, Put};
 ghost use Rattle.mover.specs.Model.{fullRange, markAfter, fullRanges, fullLine, narrowPlace};
@@ -14,17 +13,6 @@ use listing::put;
 const RANGE: usize = 23;
 
 pub(crate) const KEY: usize = 7;
-
-// The length of the line of n full ranges; of none it is the key and a line feed.
-pub(crate) fn full_length(n: u32) -> usize
-    requires { ⌜ n ≤ 80 ⌝ }
-    ensures { λ r. ⌜ r ≡ length (fullLine n) ⌝ }
-{
-    if n == 0 {
-        return KEY + 1;
-    }
-    KEY + RANGE * n as usize
-}
 
 // A full range that some more come after.
 fn full_range(out: &mut [u8], at: usize, after: u32) -> usize

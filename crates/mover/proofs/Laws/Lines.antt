@@ -50,6 +50,9 @@ unfolding linesLength
 linesLength-suc zero bs = omega arith
 linesLength-suc (suc n) bs = omega (arith, linesLength-suc n (drop (lineLength bs) bs))
 
+pub linesLength-next : (n : ℕ) (bs : Bytes) → linesLength n bs ≤ linesLength (n + 1) bs
+linesLength-next n bs = rw add-one (linesLength-suc n bs)
+
 pub lines-all : (s : Bytes) (n k : ℕ) → k ≡ n → 0 + linesLength k (drop 0 s) ≡ linesLength n s
 lines-all s n k e = rw e (omega arith)
 

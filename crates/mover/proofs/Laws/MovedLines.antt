@@ -1,4 +1,4 @@
--- The length of lines, and of those before that of ranges: no line feed stands in what a line says, so its own is the first. Assumes nothing.
+-- The length of lines, and of those before the lines of formulas: no line feed stands in what a line says, so its own is the first. Assumes nothing.
 use Prim.Native.Nat.{ℕ, suc, _+_, _≤_}
 use native.Mathlib.Omega.{arith}
 use native.Mathlib.Nat.{add-zero}
@@ -12,12 +12,14 @@ use lib.IntN.{ℤ}
 use borrow.Author.Tests.{not-true}
 use Rattle.specification.specs.Bytes.{Bytes, bytes}
 use Rattle.specification.specs.Number.{printℕ, printℤ}
-use Rattle.specification.specs.Lines.{Range, Declared}
+use Rattle.specification.specs.Lines.{Range, Declared, CellName, scalar, element}
+use Rattle.specification.specs.Given.{Item}
 use Rattle.specification.specs.Lists.{Each}
-use Rattle.specification.specs.Text.{led, parted, numberLine, arraysText, rangeText, headText}
+use Rattle.specification.specs.Listing.{cellLabel, labelText}
+use Rattle.specification.specs.Text.{led, parted, numberLine, arraysText, rangeText, nameOf, itemText, givenText, headText}
 use Rattle.specification.proofs.Laws.Parser.{and-true}
 use Rattle.specification.proofs.Laws.Lists.{each-++}
-use Rattle.specification.proofs.Laws.Print.{Lacks, printℕ-nonempty, printℕ-lacks, printℤ-lacks}
+use Rattle.specification.proofs.Laws.Print.{IsDigit, Lacks, printℕ-nonempty, printℕ-lacks, printℤ-lacks}
 use Rattle.mover.specs.Model.{lineLength, linesLength, headLines}
 
 -- ---- what does not stand in bytes and lists
@@ -58,6 +60,23 @@ feedless-range : (r : Range) → Lacks 10 (rangeText r)
 unfolding Each
 feedless-range r =
     each-++ (λ b. eqb b 10 ≡ false) (printℤ (r .low)) (58 ∷ printℤ (r .high)) (feedless-value (r .low)) (refl, feedless-value (r .high))
+
+-- a given item has digits and few other bytes
+module _ (c : ℕ) (d : ¬ IsDigit c) (o : lacking c (bytes "va.:-") ≡ true) where
+  label-lacks : (n : CellName) → Lacks c (labelText (cellLabel n))
+  unfolding labelText Each
+  label-lacks (scalar n) = (lacks c (bytes "va.:-") o .0, printℕ-lacks c d n)
+  label-lacks (element a e) =
+      let h = lacks c (bytes "va.:-") o .1 in
+      (h .0, each-++ (λ b. eqb b c ≡ false) (printℕ a) (46 ∷ printℕ e) (printℕ-lacks c d a) (h .1 .0, printℕ-lacks c d e))
+
+  pub item-lacks : (D : Declared) (i : Item) → Lacks c (itemText D i)
+  unfolding itemText Each
+  item-lacks D i =
+      let h = lacks c (bytes "va.:-") o .1 .1 .1 in
+      let n = nameOf D (i .cell) in
+      each-++ (λ b. eqb b c ≡ false) (labelText (cellLabel n)) (58 ∷ printℤ (i .value)) (label-lacks n)
+      (h .0, printℤ-lacks c d (h .1 .0) (i .value))
 
 -- ---- lines
 
@@ -145,8 +164,18 @@ pub longer-length : (D : Declared) (x : Bytes) → Line x → (w : Bytes) →
 longer-length D x l w =
     rw (head-lines D 1 (x ++ w), lines-more 0 x w l, no-lines w, add-zero (length x)) (sym (length-append (headText D) x))
 
+-- and with two
+pub longest-length : (D : Declared) (x y : Bytes) → Line x → Line y → (w : Bytes) →
+    linesLength (suc (suc headLines)) (headText D ++ (x ++ (y ++ w))) ≡ length (headText D ++ x ++ y)
+longest-length D x y k l w =
+    rw (head-lines D 2 (x ++ (y ++ w)), lines-more 1 x (y ++ w) k, lines-more 0 y w l, no-lines w)
+    (omega (arith, length-append (headText D ++ x) y, length-append (headText D) x))
+
 pub ranges-line : (rs : List Range) → Line (bytes "ranges=" ++ (parted (bytes ",") rangeText rs ++ bytes "\n"))
 ranges-line rs = list-line (bytes "ranges=") (lacks 10 (bytes "ranges=") refl) rangeText feedless-range rs
+
+pub given-line : (D : Declared) (is : List Item) → Line (givenText D is)
+given-line D is = list-line (bytes "given=") (lacks 10 (bytes "given=") refl) (itemText D) (item-lacks 10 (λ h. omega (arith, h .0)) refl D) is
 
 nonempty : (t : Bytes) → ¬ (t ≡ []) → 1 ≤ length t
 nonempty [] h = absurd (h refl)

@@ -2,38 +2,21 @@
 use Prim.Native.Nat.{ℕ, suc, _+_}
 use native.Mathlib.Omega.{arith}
 use native.Mathlib.Nat.{add-zero}
-use mathlib.Core.Path.{_≡_, refl, sym, _∙_, ap}
-use mathlib.Core.Bool.{Bool, true, false, _||_}
+use mathlib.Core.Path.{_≡_, refl, _∙_, ap}
+use mathlib.Core.Bool.{Bool, true, false}
 use mathlib.Core.List.{List, [], _∷_, _++_, append-assoc}
 use mathlib.Core.Option.{Option, none, some as just}
 use lib.ListN.{length, length-append}
-use Rattle.specification.specs.Bytes.{Bytes, bytes, pick, begins}
+use Rattle.specification.specs.Bytes.{Bytes, bytes, pick}
 use Rattle.specification.specs.Lists.{Each}
 use Rattle.specification.specs.Ast.{Formula, Procedure}
-use Rattle.specification.specs.Words.{Word}
-use Rattle.specification.specs.Text.{led, parted, opText, formulaWordText, termWordText, wordText, formulaWords, spelt, procedureKey, procedureText, proceduresText, formulaText}
-use Rattle.specification.specs.Moves.{newer, roundsDown, isRounding, roundingAt, orElse, roundingFrom}
+use Rattle.specification.specs.Words.{Word, formulaWord}
+use Rattle.specification.specs.Text.{led, parted, formulaWordText, wordText, formulaWords, spelt, procedureKey, procedureText, proceduresText, formulaText}
+use Rattle.specification.specs.Moves.{newer, isRounding, roundingAt, orElse, roundingFrom}
 use Rattle.specification.proofs.Laws.Print.{Lacks}
-use Rattle.mover.specs.Model.{quotient, remainder, roundingPlace}
+use Rattle.mover.specs.Model.{roundingPlace}
 use Rattle.mover.proofs.Laws.MovedLines.{lacks}
-use Rattle.mover.proofs.Laws.MovedWords.{Spelling, steady, quotients, remainders, floors, moduli, Known, formula-word, spelling, Written, written, formula-written, place-past, spaceless-key, line-parts}
-
-word-spaceless : (w : Word) → Spelling w → Lacks 32 (wordText newer w)
-unfolding wordText termWordText opText
-word-spaceless w (steady t s) = rw (s .same newer) (s .spaceless)
-word-spaceless w quotients = lacks 32 (bytes "quo") refl
-word-spaceless w remainders = lacks 32 (bytes "rem") refl
-word-spaceless w floors = lacks 32 (bytes "div") refl
-word-spaceless w moduli = lacks 32 (bytes "mod") refl
-
-word-found : (w : Word) → Spelling w → (rest : Bytes) →
-    begins (quotient false) (32 ∷ (wordText newer w ++ rest)) || begins (remainder false) (32 ∷ (wordText newer w ++ rest)) ≡ isRounding w
-unfolding begins quotient remainder wordText termWordText opText isRounding roundsDown
-word-found w (steady t s) rest = rw (s .same newer, s .unlike false rest .0, s .unlike false rest .1) (sym (s .unrounded))
-word-found w quotients rest = refl
-word-found w remainders rest = refl
-word-found w floors rest = refl
-word-found w moduli rest = refl
+use Rattle.mover.proofs.Laws.MovedWords.{spaceless-word, spaceless-key, Known, word-found, Written, written, formula-written, place-past, line-parts}
 
 found-or : (b : Bool) (p q : ℕ) (x y z : Option ℕ) → p ≡ q → x ≡ orElse y z → pick b (just p) x ≡ orElse (pick b (just q) y) z
 found-or true p q x y z e h = ap just e
@@ -51,10 +34,10 @@ place-led (w ∷ ws) k p rest =
     let f : suc p + length t + length l ≡ p + suc (length (t ++ l)) = omega (arith, length-append t l) in
     let later : roundingPlace (suc p) (t ++ (l ++ rest))
     ≡ orElse (roundingAt (p + 1 + length t + 1) ws) (roundingPlace (p + suc (length (t ++ l))) rest) =
-    place-past (suc p) t (l ++ rest) (word-spaceless w (spelling w (k .0))) ∙ place-led ws (k .1) (suc p + length t) rest
+    place-past (suc p) t (l ++ rest) (spaceless-word w) ∙ place-led ws (k .1) (suc p + length t) rest
     ∙ ap (λ (q : ℕ). orElse (roundingAt q ws) (roundingPlace (suc p + length t + length l) rest)) e
     ∙ ap (λ (q : ℕ). orElse (roundingAt (p + 1 + length t + 1) ws) (roundingPlace q rest)) f in
-    rw (append-assoc t l rest, word-found w (spelling w (k .0)) (l ++ rest))
+    rw (append-assoc t l rest, word-found w (k .0) (l ++ rest))
     (found-or (isRounding w) (suc p) (p + 1) (roundingPlace (suc p) (t ++ (l ++ rest))) (roundingAt (p + 1 + length t + 1) ws)
     (roundingPlace (p + suc (length (t ++ l))) rest) (omega arith) later)
 
@@ -66,7 +49,7 @@ place-spelt ws (written f us k) p rest =
     let l = led (bytes " ") (wordText newer) us in
     let e : p + length t + length l ≡ p + length (t ++ l) = omega (arith, length-append t l) in
     rw (append-assoc t l rest)
-    (place-past p t (l ++ rest) (formula-word f .spaceless) ∙ place-led us k (p + length t) rest
+    (place-past p t (l ++ rest) (spaceless-word (formulaWord f)) ∙ place-led us k (p + length t) rest
     ∙ ap (λ (q : ℕ). orElse (roundingAt (p + length t + 1) us) (roundingPlace q rest)) e)
 
 place-line : (key : Bytes) → Lacks 32 key → (F : Formula) (p : ℕ) (rest : Bytes) →

@@ -1,4 +1,4 @@
--- The line of full ranges: its length, its pieces, and the first range that is another. Assumes nothing.
+-- The line of full ranges: a bound of its length, its pieces, and the first range that is another. Assumes nothing.
 use Prim.Native.Nat.{ℕ, zero, suc, _+_, _*_, _≤_}
 use native.Mathlib.Omega.{arith}
 use mathlib.Core.Path.{_≡_, refl, sym, ap}
@@ -26,7 +26,7 @@ pub marked-more : (n : ℕ) → (n ≡ 0 → ⊥) → marked n ≡ bytes "-21474
 marked-more zero h = absurd (h refl)
 marked-more (suc n) h = refl
 
-pub length-marked : (n : ℕ) → length (marked n) ≡ 23
+length-marked : (n : ℕ) → length (marked n) ≡ 23
 length-marked zero = refl
 length-marked (suc n) = refl
 
@@ -59,15 +59,9 @@ unfolding fullLine
 line-some zero h = absurd (h refl)
 line-some (suc n) h = refl
 
-pub length-line-none : (n : ℕ) → n ≡ 0 → length (fullLine n) ≡ 8
-length-line-none n e = ap length (line-none n e)
-
-pub length-line-some : (n : ℕ) → (n ≡ 0 → ⊥) → length (fullLine n) ≡ 7 + 23 * n
-length-line-some n h = rw (line-some n h) (omega (arith, length-full n))
-
 pub length-line-≤ : (n : ℕ) → length (fullLine n) ≤ 8 + 23 * n
-length-line-≤ zero = omega (arith, length-line-none 0 refl)
-length-line-≤ (suc n) = omega (arith, length-line-some (suc n) (λ (e : suc n ≡ 0). omega arith))
+length-line-≤ zero = omega (arith, ap length (line-none 0 refl))
+length-line-≤ (suc n) = omega (arith, ap length (line-some (suc n) (λ (e : suc n ≡ 0). omega arith)), length-full (suc n))
 
 -- ---- the first that is not full
 

@@ -1,9 +1,10 @@
--- The moved sheet in the pieces that are put, its length, and what a move leaves. Assumes nothing.
-use Prim.Native.Nat.{ℕ, suc, _+_, _-_, _≤_, _<_}
+-- The moved sheet in the pieces that are put, a bound of its length, and what a move leaves. Assumes nothing.
+use Prim.Native.Nat.{ℕ, suc, _+_, _-_, _*_, _≤_, _<_}
 use native.Mathlib.Omega.{arith}
-use mathlib.Core.Path.{_≡_, refl, ap, _∙_}
-use mathlib.Core.Bool.{true, false}
-use mathlib.Core.List.{[], _∷_, _++_}
+use native.Mathlib.Numerals.{add-one}
+use mathlib.Core.Path.{_≡_, refl, sym, ap, _∙_}
+use mathlib.Core.Bool.{Bool, true, false}
+use mathlib.Core.List.{[], _∷_, _++_, append-assoc}
 use mathlib.Core.Option.{Option, none, some as just}
 use lib.ListN.{length, take, drop, length-append, length-drop}
 use lib.Seq.{length-take-le, take-add, drop-at, sets-eq}
@@ -12,81 +13,108 @@ use Rattle.specification.specs.Bytes.{Bytes, bytes}
 use Rattle.specification.specs.Moves.{Result, fitted, unless, longestSheet, outputAfter}
 use Rattle.specification.specs.declared.Move.{Move}
 use Rattle.specification.specs.declared.Move.the-variants.{Refused, Moved}
+use Rattle.tables.specs.Layout.{Words}
 use Rattle.listing.specs.Put.{Put}
 use Rattle.listing.proofs.Laws.Put.{joined}
-use Rattle.mover.specs.Model.{linesLength, headLines, headRest, fullLine, narrowPlace, respelt, roundingPlace}
-use Rattle.mover.specs.Model.{upText, downText, narrowOf, roundingOf}
+use Rattle.mover.specs.Model.{linesLength, headLines, fullLine, narrowPlace, chunks, rewritten, roundingPlace}
+use Rattle.mover.specs.Model.{headRest, restText, upText, tidyText, downText, narrowOf, roundingOf}
 use Rattle.mover.specs.Steps.{Done}
 use Rattle.mover.proofs.Laws.Lines.{linesLength-≤, linesLength-suc}
-use Rattle.mover.proofs.Laws.Words.{length-respelt}
-
--- ---- pieces
+use Rattle.mover.proofs.Laws.Ranges.{length-line-≤}
+use Rattle.mover.proofs.Laws.Chunks.{part, rewritten-≤}
 
 -- the bytes of the edition's line
 abbrev edition : ℕ
 edition = length (bytes "edition=2\n")
 
-module _ (s : Bytes) (head : edition ≤ linesLength headLines s) (h : ℕ) (eh : h ≡ linesLength headLines s) where
-  -- the lines up to h, without the edition's
-  abbrev pub between : Bytes
-  between = take (h - edition) (drop edition s)
+-- ---- parts of the text
 
-  rest-between : headRest s ≡ between
-  rest-between =
-      let e : linesLength headLines s ≡ edition + (h - edition) = omega arith in
-      rw (e, take-add edition (h - edition) s)
-      (drop-at (take edition s) between edition (length-take-le edition s (omega (arith, linesLength-≤ headLines s))))
+module _ (s : Bytes) where
+  part-drop : (a b : ℕ) → a ≤ b → b ≤ length s → drop a (take b s) ≡ part a b s
+  part-drop a b h k =
+      let e : b ≡ a + (b - a) = omega arith in
+      ap (λ (n : ℕ). drop a (take n s)) e ∙ ap (λ (x : Bytes). drop a x) (take-add a (b - a) s)
+      ∙ drop-at (take a s) (take (b - a) (drop a s)) a (length-take-le a s (omega arith))
 
-  pub up-pieces : (n : ℕ) → upText n s ≡ joined (bytes "edition=3\n" ∷ between ∷ fullLine n ∷ respelt true 0 (drop h s) ∷ [])
+  pub head-pieces : edition ≤ linesLength headLines s → (x : Bytes) (h : ℕ) → h ≡ linesLength headLines s →
+      x ++ headRest s ≡ joined (x ∷ part edition h s ∷ [])
+  head-pieces e x h q = rw (part-drop edition (linesLength headLines s) e (linesLength-≤ headLines s), q)
+
+  -- the line after the first n goes from k to e
+  pub rest-pieces : (w : Words) (newer : Bool) (n k e : ℕ) → k ≡ linesLength n s → e ≡ linesLength (n + 1) s →
+      restText w newer n s ≡ joined (part k e s ∷ rewritten w newer 0 0 (chunks (drop e s)) ∷ [])
+  unfolding restText
+  rest-pieces w newer n k e p q =
+      rw (q, p, add-one, part-drop (linesLength n s) (linesLength (suc n) s) (linesLength-suc n s) (linesLength-≤ (suc n) s))
+
+  -- ---- the texts
+
+  pub up-pieces : (n : ℕ) (w : Words) →
+      upText n w s ≡ joined ((bytes "edition=3\n" ++ headRest s) ∷ fullLine n ∷ restText w true headLines s ∷ [])
   unfolding upText
-  up-pieces n = rw (rest-between, eh)
+  up-pieces n w = sym (append-assoc (bytes "edition=3\n") (headRest s) (fullLine n ++ restText w true headLines s))
 
-  pub down-pieces : (k : ℕ) → k ≡ linesLength (suc headLines) s →
-      downText s ≡ joined (bytes "edition=2\n" ∷ between ∷ respelt false 0 (drop k s) ∷ [])
+  pub tidy-pieces : (w : Words) (k : ℕ) → k ≡ linesLength (suc headLines) s →
+      tidyText w s ≡ joined (take k s ∷ restText w true (suc headLines) s ∷ [])
+  unfolding tidyText
+  tidy-pieces w k e = rw e
+
+  pub down-pieces : (w : Words) → downText w s ≡ joined ((bytes "edition=2\n" ++ headRest s) ∷ restText w false (suc headLines) s ∷ [])
   unfolding downText
-  down-pieces k ek = rw (rest-between, ek, eh)
+  down-pieces w = sym (append-assoc (bytes "edition=2\n") (headRest s) (restText w false (suc headLines) s))
 
--- ---- lengths
+  -- ---- bounds of lengths
 
-module _ (s : Bytes) (head : edition ≤ linesLength headLines s) where
-  length-between : length (between s head (linesLength headLines s) refl) ≡ linesLength headLines s - edition
-  length-between =
-      length-take-le (linesLength headLines s - edition) (drop edition s)
-      (omega (arith, linesLength-≤ headLines s, length-drop edition s))
+  lines-short : (n : ℕ) → length (take (linesLength n s) s) ≤ length s
+  lines-short n = omega (arith, length-take-le (linesLength n s) s (linesLength-≤ n s), linesLength-≤ n s)
 
-  pub length-up : (n : ℕ) → length (upText n s) ≡ length s + length (fullLine n)
-  length-up n =
-      let h = linesLength headLines s in
-      let b = between s head h refl in
-      let r = respelt true 0 (drop h s) in
-      ap length (up-pieces s head h refl n) ∙
+  pub head-short : length (headRest s) ≤ length s
+  head-short = omega (arith, length-drop edition (take (linesLength headLines s) s), lines-short headLines)
+
+  rest-short : (w : Words) (newer : Bool) (n : ℕ) → length (restText w newer n s) ≤ 8 * length s
+  unfolding restText
+  rest-short w newer n =
+      let e = linesLength (suc n) s in
+      let given = drop (linesLength n s) (take e s) in
+      let after = drop e s in
       omega (
         arith,
-        length-append b (fullLine n ++ r),
+        length-append given (rewritten w newer 0 0 (chunks after)),
+        length-drop (linesLength n s) (take e s),
+        lines-short (suc n),
+        rewritten-≤ w newer 0 0 after,
+        length-drop e s,
+      )
+
+  pub up-short : (n : ℕ) (w : Words) → length (upText n w s) ≤ 18 + 23 * n + 9 * length s
+  unfolding upText
+  up-short n w =
+      let r = restText w true headLines s in
+      omega (
+        arith,
+        length-append (headRest s) (fullLine n ++ r),
         length-append (fullLine n) r,
-        length-between,
-        length-respelt true (drop h s),
-        length-drop h s,
-        linesLength-≤ headLines s,
+        head-short,
+        length-line-≤ n,
+        rest-short w true headLines,
       )
 
-  -- the line of ranges goes
-  pub length-down : length (downText s) ≤ length s
-  length-down =
-      let h = linesLength headLines s in
-      let k = linesLength (suc headLines) s in
-      let b = between s head h refl in
-      let r = respelt false 0 (drop k s) in
+  pub tidy-short : (w : Words) → length (tidyText w s) ≤ 9 * length s
+  unfolding tidyText
+  tidy-short w =
+      let r = restText w true (suc headLines) s in
       omega (
         arith,
-        ap length (down-pieces s head h refl k refl),
-        length-append b r,
-        length-between,
-        length-respelt false (drop k s),
-        length-drop k s,
-        linesLength-≤ (suc headLines) s,
-        linesLength-suc headLines s,
+        length-append (take (linesLength (suc headLines) s) s) r,
+        lines-short (suc headLines),
+        rest-short w true (suc headLines),
       )
+
+  pub down-short : (w : Words) → length (downText w s) ≤ 10 + 9 * length s
+  unfolding downText
+  down-short w =
+      let r = restText w false (suc headLines) s in
+      omega (arith, length-append (headRest s) r, head-short, rest-short w false (suc headLines))
 
 -- ---- places
 
@@ -103,26 +131,25 @@ rounding-of s k x ek e = rw (← ek) e
 -- ---- what is left
 
 module _ (o : Bytes) where
-  -- the refusals
-  pub done-long : (t : Bytes) → longestSheet < length t → Done (fitted t) (Refused 2 longestSheet) o o
-  unfolding fitted outputAfter
-  done-long t h = rw (lt-leb (length t) longestSheet h) (refl, refl)
+  module _ (t : Bytes) (n : ℕ) (size : n ≡ length t) where
+    pub done-long : longestSheet < n → Done (fitted t) (Refused 2 longestSheet) o o
+    unfolding fitted outputAfter
+    done-long h = rw (lt-leb (length t) longestSheet (omega arith)) (refl, refl)
 
+    pub done-moved : (o′ : Bytes) (k : ℕ) → n ≤ longestSheet → longestSheet ≤ length o → Put o o′ 0 t k → Done (fitted t) (Moved n) o o′
+    unfolding fitted outputAfter
+    done-moved o′ k h l put =
+        rw (le-leb (length t) longestSheet (omega arith)) (
+          ap (λ n. Moved n) size,
+          put .bytes ∙ sets-eq t o 0 (omega arith) ∙ ap (λ n. t ++ drop n o) {x = 0 + length t} {y = length t} (omega arith),
+        )
+
+  -- another refusal
   pub done-some : (m p : ℕ) (x : Option ℕ) (r : Result) → just p ≡ x → Done (unless m x r) (Refused m p) o o
   unfolding outputAfter
   done-some m p x r e = rw (← e) (refl, refl)
 
-  -- and the moved sheet
-  pub done-moved : (o′ t : Bytes) (k : ℕ) → length t ≤ longestSheet → longestSheet ≤ length o → Put o o′ 0 t k →
-      Done (fitted t) (Moved k) o o′
-  unfolding fitted outputAfter
-  done-moved o′ t k h l put =
-      rw (le-leb (length t) longestSheet h) (
-        ap (λ n. Moved n) (put .end ∙ omega arith),
-        put .bytes ∙ sets-eq t o 0 (omega arith) ∙ ap (λ n. t ++ drop n o) {x = 0 + length t} {y = length t} (omega arith),
-      )
-
-  -- nothing refused
+  -- or none
   pub done-none : (o′ : Bytes) (m : ℕ) (x : Option ℕ) (r : Result) (move : Move) → none ≡ x → Done r move o o′ →
       Done (unless m x r) move o o′
   done-none o′ m x r move e d = rw (← e) d

@@ -1,162 +1,164 @@
--- The words of division respelt piece by piece, and the first that rounds down. Assumes nothing.
-use Prim.Native.Nat.{ℕ, zero, suc, _+_, _-_, _≤_, _<_}
+-- What is written for a word by the token that it is, and the first word that rounds down. Assumes nothing.
+use Prim.Native.Nat.{ℕ, _+_, _≤_, _<_}
 use native.Mathlib.Omega.{arith}
 use native.Mathlib.Numerals.{add-one}
-use mathlib.Core.Path.{_≡_, refl, _∙_}
-use mathlib.Core.Bool.{Bool, true, false, not, _||_}
-use mathlib.Core.List.{[], _∷_, _++_}
+use mathlib.Core.Path.{_≡_, refl, ap}
+use mathlib.Core.Bool.{Bool, true, false}
+use mathlib.Core.List.{[]}
 use mathlib.Core.Option.{none, some as just}
-use lib.ListN.{length, getD, take, drop, drop-of-length-le, length-append}
-use lib.Seq.{drop-cons, drop-drop}
-use Rattle.specification.specs.Bytes.{Bytes, bytes, pick, begins}
-use Rattle.listing.proofs.Laws.Put.{joined}
-use Rattle.text.proofs.Laws.Keys.{begins-long}
-use Rattle.mover.specs.Model.{quotient, remainder, letters, respelt, roundingPlace}
-use Rattle.mover.specs.Steps.{piece}
+use lib.ListN.{length, drop, drop-of-length-le}
+use lib.Seq.{drop-cons}
+use lib.Dec.{leb, ltb}
+use borrow.Author.Tests.{ltb-true, leb-true, lt-ltb, le-ltb, le-leb, lt-leb, eq-eqb, ne-eqb}
+use Rattle.specification.specs.Bytes.{Bytes, bytes, pick, between}
+use Rattle.specification.proofs.Laws.Parser.{and-true}
+use Rattle.tables.specs.Layout.{Words, maxTokens, codeAt, operandAt, endAt}
+use Rattle.tables.specs.Codes.{someCode, allCode, quoCode, remCode, constantCode}
+use Rattle.listing.specs.Put.{Room, Put}
+use Rattle.listing.proofs.Laws.Put.{all-left, none-left}
+use Rattle.mover.specs.Model.{tokenCode, emptyAt, standIn, spelling, untilAfter, wordPiece, rounds, roundingPlace}
+use Rattle.mover.specs.Steps.{kept}
 
-length-quotient : (newer : Bool) → length (quotient newer) ≡ 4
-unfolding quotient
-length-quotient true = refl
-length-quotient false = refl
+-- ---- bytes under another name, and none
 
-length-remainder : (newer : Bool) → length (remainder newer) ≡ 4
-unfolding remainder
-length-remainder true = refl
-length-remainder false = refl
+pub room-as : (at : ℕ) {t x : Bytes} → t ≡ x → Room at t → Room at x
+room-as at e h = omega (arith, ap length e, h)
 
--- ---- a word by its two spellings
+pub put-as : {o o′ : Bytes} {at r : ℕ} {t x : Bytes} → t ≡ x → Put o o′ at x r → Put o o′ at t r
+put-as e h = rw e h
 
-pub spelt-quotient : (newer : Bool) → pick newer (bytes " quo") (bytes " div") ≡ quotient newer
-unfolding quotient
-spelt-quotient true = refl
-spelt-quotient false = refl
+pub put-none : (o : Bytes) (at : ℕ) {t : Bytes} → t ≡ [] → Put o o at t at
+put-none o at e = none-left e (all-left o at _)
 
-pub spelt-remainder : (newer : Bool) → pick newer (bytes " rem") (bytes " mod") ≡ remainder newer
-unfolding remainder
-spelt-remainder true = refl
-spelt-remainder false = refl
+-- ---- tokens
 
--- ---- pieces
+module _ (w : Words) (i : ℕ) where
+  pub code-inside : i < maxTokens → tokenCode w i ≡ codeAt w i
+  unfolding tokenCode
+  code-inside h = rw (lt-ltb i maxTokens h)
 
-module _ (newer : Bool) where
-  pub piece-quotient : (bs : Bytes) → begins (quotient (not newer)) bs ≡ true → piece newer bs ≡ quotient newer
-  unfolding piece
-  piece-quotient bs e = rw e
+  pub code-beyond : maxTokens ≤ i → tokenCode w i ≡ 0
+  unfolding tokenCode
+  code-beyond h = rw (le-ltb i maxTokens h)
 
-  pub piece-remainder : (bs : Bytes) → begins (quotient (not newer)) bs ≡ false → begins (remainder (not newer)) bs ≡ true →
-      piece newer bs ≡ remainder newer
-  unfolding piece
-  piece-remainder bs e f = rw (e, f)
-
-  pub piece-byte : (bs : Bytes) (k : ℕ) → k ≡ 1 →
-      begins (quotient (not newer)) bs ≡ false → begins (remainder (not newer)) bs ≡ false → piece newer bs ≡ take k bs
-  unfolding piece
-  piece-byte bs k one e f = rw (e, f, one)
-
-  -- one of the three
-  cases : (P : Bytes → Type 0) (bs : Bytes) →
-      (begins (quotient (not newer)) bs ≡ true → P (quotient newer)) →
-      (begins (remainder (not newer)) bs ≡ true → P (remainder newer)) → P (take 1 bs) → P (piece newer bs)
-  unfolding piece
-  cases P bs q r b = go (begins (quotient (not newer)) bs) (begins (remainder (not newer)) bs) refl refl
+  -- a token that has a code is in the table
+  pub inside : 0 < tokenCode w i → i < maxTokens
+  unfolding tokenCode
+  inside h = go (ltb i maxTokens) refl h
     where
-      go : (t u : Bool) → begins (quotient (not newer)) bs ≡ t → begins (remainder (not newer)) bs ≡ u →
-          P (pick t (quotient newer) (pick u (remainder newer) (take 1 bs)))
-      go true u e f = q e
-      go false true e f = r f
-      go false false e f = b
+      go : (t : Bool) → ltb i maxTokens ≡ t → 0 < pick t (codeAt w i) 0 → i < maxTokens
+      go true e k = ltb-true i maxTokens e
+      go false e k = absurd (omega arith)
 
-  respelt-drop : (k : ℕ) (bs : Bytes) → respelt newer k bs ≡ respelt newer 0 (drop k bs)
-  unfolding respelt
-  respelt-drop zero bs = refl
-  respelt-drop (suc k) [] = refl
-  respelt-drop (suc k) (b ∷ bs) = respelt-drop k bs
+  -- ---- empty ranges
 
-  -- the first piece, and what comes after what it stands for
-  respelt-piece : (b : ℕ) (bs : Bytes) →
-      respelt newer 0 (b ∷ bs) ≡ piece newer (b ∷ bs) ++ respelt newer 0 (drop (length (piece newer (b ∷ bs))) (b ∷ bs))
-  unfolding respelt piece
-  respelt-piece b bs = go (begins (quotient (not newer)) (b ∷ bs)) (begins (remainder (not newer)) (b ∷ bs))
-    where
-      go : (t u : Bool) →
-          let q = quotient newer in
-          let r = remainder newer in
-          let x = pick t q (pick u r (b ∷ [])) in
-          pick t (q ++ respelt newer letters bs) (pick u (r ++ respelt newer letters bs) (b ∷ respelt newer 0 bs))
-          ≡ x ++ respelt newer 0 (drop (length x) (b ∷ bs))
-      go true u = rw (length-quotient newer, respelt-drop letters bs)
-      go false true = rw (length-remainder newer, respelt-drop letters bs)
-      go false false = refl
+  pub empty-low : tokenCode w i < someCode → emptyAt w i ≡ false
+  unfolding emptyAt
+  empty-low h = rw (lt-leb someCode (tokenCode w i) h)
 
-  pub piece-some : (bs : Bytes) → 0 < length bs → 0 < length (piece newer bs)
-  piece-some [] h = absurd (omega arith)
-  piece-some (b ∷ bs) h =
-      cases (λ x. 0 < length x) (b ∷ bs)
-      (λ e. omega (arith, length-quotient newer)) (λ e. omega (arith, length-remainder newer)) (omega arith)
+  module _ (lo : someCode ≤ tokenCode w i) where
+    pub empty-high : allCode < tokenCode w i → emptyAt w i ≡ false
+    unfolding emptyAt
+    empty-high h = rw (le-leb someCode (tokenCode w i) lo, lt-leb (tokenCode w i) allCode h)
 
-  pub piece-≤ : (bs : Bytes) → length (piece newer bs) ≤ length bs
-  piece-≤ bs =
-      cases (λ x. length x ≤ length bs) bs
-      (λ e. omega (arith, length-quotient newer, length-quotient (not newer), begins-long (quotient (not newer)) bs e))
-      (λ e. omega (arith, length-remainder newer, length-remainder (not newer), begins-long (remainder (not newer)) bs e))
-      (one bs)
-    where
-      one : (bs : Bytes) → length (take 1 bs) ≤ length bs
-      one [] = omega arith
-      one (b ∷ bs) = omega arith
+    module _ (hi : tokenCode w i ≤ allCode) where
+      pub lower-other : (tokenCode w (i + 2) ≡ constantCode → ⊥) → emptyAt w i ≡ false
+      unfolding emptyAt
+      lower-other h =
+          rw (
+            le-leb someCode (tokenCode w i) lo,
+            le-leb (tokenCode w i) allCode hi,
+            ne-eqb (tokenCode w (i + 2)) constantCode h,
+          )
 
-  -- in the loop, where the piece at i is of k bytes
-  pub piece-more : (s : Bytes) (i k : ℕ) → i < length s → k ≡ length (piece newer (drop i s)) →
-      respelt newer 0 (drop i s) ≡ joined (piece newer (drop i s) ∷ respelt newer 0 (drop (i + k) s) ∷ [])
-  piece-more s i k h e =
-      rw e (
-      rw (← drop-drop (length (piece newer (drop i s))) i s)
-      (go (drop i s) (drop-cons s i 0 h)))
-    where
-      go : (bs : Bytes) → bs ≡ getD s i 0 ∷ drop (suc i) s →
-          respelt newer 0 bs ≡ piece newer bs ++ respelt newer 0 (drop (length (piece newer bs)) bs)
-      go bs e = rw e (respelt-piece (getD s i 0) (drop (suc i) s))
+      module _ (lower : tokenCode w (i + 2) ≡ constantCode) where
+        pub upper-other : (tokenCode w (i + 3) ≡ constantCode → ⊥) → emptyAt w i ≡ false
+        unfolding emptyAt
+        upper-other h =
+            rw (
+              le-leb someCode (tokenCode w i) lo,
+              le-leb (tokenCode w i) allCode hi,
+              eq-eqb (tokenCode w (i + 2)) constantCode lower,
+              ne-eqb (tokenCode w (i + 3)) constantCode h,
+            )
 
-  pub piece-none : (s : Bytes) (i : ℕ) → length s ≤ i → respelt newer 0 (drop i s) ≡ []
-  unfolding respelt
-  piece-none s i h = rw (drop-of-length-le s h)
+        pub empty-bounds : tokenCode w (i + 3) ≡ constantCode → emptyAt w i ≡ ltb (operandAt w (i + 3)) (operandAt w (i + 2))
+        unfolding emptyAt
+        empty-bounds upper =
+            rw (
+              le-leb someCode (tokenCode w i) lo,
+              le-leb (tokenCode w i) allCode hi,
+              eq-eqb (tokenCode w (i + 2)) constantCode lower,
+              eq-eqb (tokenCode w (i + 3)) constantCode upper,
+            )
 
-  -- ---- the length stays
+  pub empty-inside : emptyAt w i ≡ true → i < maxTokens
+  unfolding emptyAt
+  empty-inside e =
+      let c = tokenCode w i in
+      let q = and-true (between someCode allCode c) _ e in
+      inside (omega (arith, leb-true someCode c (and-true (leb someCode c) (leb c allCode) (q .0) .0)))
 
-  length-passed : (bs : Bytes) (k : ℕ) → length (respelt newer k bs) ≡ length bs - k
-  unfolding respelt
-  length-passed [] zero = refl
-  length-passed [] (suc k) = omega arith
-  length-passed (b ∷ bs) (suc k) = omega (arith, length-passed bs k)
-  length-passed (b ∷ bs) zero =
-      go (begins (quotient (not newer)) (b ∷ bs)) (begins (remainder (not newer)) (b ∷ bs)) refl refl
-      (length-passed bs letters) (length-passed bs 0)
-      ∙ omega arith
-    where
-      four : (w : Bytes) → length w ≡ 4 → 4 ≤ length (b ∷ bs) → length (respelt newer letters bs) ≡ length bs - letters →
-          length (w ++ respelt newer letters bs) ≡ length (b ∷ bs)
-      four w e h i = omega (arith, length-append w (respelt newer letters bs))
+  -- ---- what is dropped
 
-      go : (t u : Bool) → begins (quotient (not newer)) (b ∷ bs) ≡ t → begins (remainder (not newer)) (b ∷ bs) ≡ u →
-          length (respelt newer letters bs) ≡ length bs - letters → length (respelt newer 0 bs) ≡ length bs - 0 →
-          let q = quotient newer ++ respelt newer letters bs in
-          let r = remainder newer ++ respelt newer letters bs in
-          length (pick t q (pick u r (b ∷ respelt newer 0 bs))) ≡ length (b ∷ bs)
-      go true u e f i j =
-          four (quotient newer) (length-quotient newer)
-          (omega (arith, length-quotient (not newer), begins-long (quotient (not newer)) (b ∷ bs) e)) i
-      go false true e f i j =
-          four (remainder newer) (length-remainder newer)
-          (omega (arith, length-remainder (not newer), begins-long (remainder (not newer)) (b ∷ bs) f)) i
-      go false false e f i j = omega arith
+  module _ (until : ℕ) where
+    pub until-within : i < until → untilAfter w i until ≡ until
+    unfolding untilAfter
+    until-within h = rw (lt-ltb i until h)
 
-  pub length-respelt : (bs : Bytes) → length (respelt newer 0 bs) ≡ length bs
-  length-respelt bs = omega (arith, length-passed bs 0)
+    pub until-empty : until ≤ i → emptyAt w i ≡ true → untilAfter w i until ≡ endAt w i
+    unfolding untilAfter
+    until-empty h e = rw (le-ltb i until h, e)
+
+    pub until-other : until ≤ i → emptyAt w i ≡ false → untilAfter w i until ≡ until
+    unfolding untilAfter
+    until-other h e = rw (le-ltb i until h, e)
+
+    -- ---- what is written
+
+    module _ (newer : Bool) (letters : Bytes) where
+      pub word-dropped : i < until → wordPiece w newer i until letters ≡ []
+      unfolding wordPiece
+      word-dropped h = rw (lt-ltb i until h)
+
+      pub word-empty : until ≤ i → emptyAt w i ≡ true → wordPiece w newer i until letters ≡ standIn w i
+      unfolding wordPiece
+      word-empty h e = rw (le-ltb i until h, e)
+
+      pub word-spelt : until ≤ i → emptyAt w i ≡ false → (c : ℕ) → c ≡ tokenCode w i →
+          wordPiece w newer i until letters ≡ spelling newer c letters
+      unfolding wordPiece
+      word-spelt h e c q = rw (le-ltb i until h, e, q)
+
+  pub stand-some : tokenCode w i ≡ someCode → standIn w i ≡ bytes "eq 0 1"
+  unfolding standIn
+  stand-some h = rw (eq-eqb (tokenCode w i) someCode h)
+
+  pub stand-all : (tokenCode w i ≡ someCode → ⊥) → standIn w i ≡ bytes "true"
+  unfolding standIn
+  stand-all h = rw (ne-eqb (tokenCode w i) someCode h)
+
+module _ (newer : Bool) (c : ℕ) (letters : Bytes) where
+  pub spelt-quo : c ≡ quoCode → spelling newer c letters ≡ pick newer (bytes "quo") (bytes "div")
+  unfolding spelling
+  spelt-quo h = rw (eq-eqb c quoCode h)
+
+  pub spelt-rem : (c ≡ quoCode → ⊥) → c ≡ remCode → spelling newer c letters ≡ pick newer (bytes "rem") (bytes "mod")
+  unfolding spelling
+  spelt-rem h k = rw (ne-eqb c quoCode h, eq-eqb c remCode k)
+
+  pub spelt-same : (c ≡ quoCode → ⊥) → (c ≡ remCode → ⊥) → spelling newer c letters ≡ letters
+  unfolding spelling
+  spelt-same h k = rw (ne-eqb c quoCode h, ne-eqb c remCode k)
+
+module _ (i until : ℕ) (t : Bytes) where
+  pub kept-none : i < until → kept i until t ≡ []
+  kept-none h = rw (lt-ltb i until h)
+
+  pub kept-all : until ≤ i → kept i until t ≡ t
+  kept-all h = rw (le-ltb i until h)
 
 -- ---- rounding down
-
-abbrev pub rounds : Bytes → Bool
-rounds bs = begins (quotient false) bs || begins (remainder false) bs
 
 module _ (s : Bytes) (i : ℕ) where
   pub rounding-none : length s ≤ i → roundingPlace i (drop i s) ≡ none

@@ -15,8 +15,8 @@ lines-end-requires c κs = search needs
 
 add-narrow : tie.Need-add-narrow
 add-narrow c =
-    let start = c .before .before .before in
-    omega (arith, c .lines-end .ensures, linesLength-≤ headLines (start .args .s .now), start .pre .0)
+    let s = c .before .before .before .before in
+    omega (arith, c .lines-end .ensures, linesLength-≤ headLines (s .args .s .now), s .pre .0 .short)
 
 narrow-requires : tie.Need-narrow-requires
 narrow-requires c κs = search needs
@@ -35,12 +35,11 @@ unfolding downResult
 returns c =
     let at-p = c .before in
     let at-narrow = at-p .before .before in
-    let at-lines-end = at-narrow .before in
-    let start = at-lines-end .before .before .before in
-    let a = start .args in
+    let at-lines = at-narrow .before in
+    let a = at-lines .before .before .before .before .args in
     let s = a .s .now in
-    done-some (a .out .now) 15 _ (narrowOf (a .ranges) s) (unless 16 (roundingOf s) (fitted (downText s)))
-    (narrow-of s (a .ranges) _ _ (at-lines-end .lines-end .ensures) (ap placed (sym (at-p .p .given .1)) ∙ (at-narrow .narrow .ensures)))
+    done-some (a .out .now) 15 _ (narrowOf (a .ranges) s) (unless 16 (roundingOf s) (fitted (downText (a .w .now) s)))
+    (narrow-of s (a .ranges) _ _ (at-lines .lines-end .ensures) (ap placed (sym (at-p .p .given .1)) ∙ at-narrow .narrow .ensures))
 
 same-length : tie.Need-same-length
 same-length c = search needs
@@ -48,17 +47,15 @@ same-length c = search needs
 returns-2 : tie.Need-returns-2
 unfolding downResult
 returns-2 c =
-    let at-down-full = c .before .before in
-    let at-enum-told = at-down-full .before .before in
-    let at-narrow = at-enum-told .before .before in
-    let at-lines-end = at-narrow .before in
-    let start = at-lines-end .before .before .before in
-    let a = start .args in
+    let at-full = c .before .before in
+    let at-told = at-full .before .before in
+    let at-narrow = at-told .before .before in
+    let at-lines = at-narrow .before in
+    let a = at-lines .before .before .before .before .args in
     let s = a .s .now in
-    done-none (a .out .now) _ 15 (narrowOf (a .ranges) s) (unless 16 (roundingOf s) (fitted (downText s))) _
-    (narrow-of s (a .ranges) _ _ (at-lines-end .lines-end .ensures)
-    (ap placed (sym (at-enum-told .enum-told .given .1)) ∙ (at-narrow .narrow .ensures)))
-    (at-down-full .down-full .ensures)
+    done-none (a .out .now) _ 15 (narrowOf (a .ranges) s) (unless 16 (roundingOf s) (fitted (downText (a .w .now) s))) _
+    (narrow-of s (a .ranges) _ _ (at-lines .lines-end .ensures) (ap placed (sym (at-told .enum-told .given .1)) ∙ at-narrow .narrow .ensures))
+    (at-full .down-full .ensures)
 
 pub down-spec : {M : Type 1} → statement M
 down-spec =

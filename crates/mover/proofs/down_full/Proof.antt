@@ -1,11 +1,10 @@
--- The moved sheet is no longer than it was, so it fits. Assumes nothing.
-use native.Mathlib.Omega.{arith}
+-- By whether a word rounds down. Assumes nothing.
 use mathlib.Core.Path.{sym, ap, _∙_}
 use borrow.Author.Needs.{needs}
 use Rattle.specification.specs.Moves.{fitted}
 use Rattle.mover.specs.Model.{downText, roundingOf}
 use Rattle.mover.specs.Steps.{placed}
-use Rattle.mover.proofs.Laws.Texts.{length-down, rounding-of, done-some, done-none, done-moved}
+use Rattle.mover.proofs.Laws.Texts.{rounding-of, done-some, done-none}
 use Rattle.mover.proofs.down_full.Statement.{statement}
 use Rattle.mover.proofs.down_full.Tie as tie
 
@@ -24,36 +23,33 @@ enum-known-p c = search needs
 enum-told : tie.Need-enum-told
 enum-told c = search needs
 
-down-text-requires : tie.Need-down-text-requires
-down-text-requires c κs = search needs
+fit-requires : tie.Need-fit-requires
+fit-requires c κs = search needs
 
 returns : tie.Need-returns
 returns c =
     let at-p = c .before in
     let at-rounding = at-p .before .before in
-    let at-lines-end = at-rounding .before in
-    let start = at-lines-end .before .before .before in
-    let a = start .args in
+    let at-lines = at-rounding .before in
+    let a = at-lines .before .before .before .before .args in
     let s = a .s .now in
-    done-some (a .out .now) 16 _ (roundingOf s) (fitted (downText s))
-    (rounding-of s _ _ (at-lines-end .lines-end .ensures) (ap placed (sym (at-p .p .given .1)) ∙ (at-rounding .rounding .ensures)))
+    done-some (a .out .now) 16 _ (roundingOf s) (fitted (downText (a .w .now) s))
+    (rounding-of s _ _ (at-lines .lines-end .ensures) (ap placed (sym (at-p .p .given .1)) ∙ at-rounding .rounding .ensures))
 
 same-length : tie.Need-same-length
 same-length c = search needs
 
 returns-2 : tie.Need-returns-2
 returns-2 c =
-    let at-down-text = c .before .before in
-    let at-enum-told = at-down-text .before .before in
-    let at-rounding = at-enum-told .before .before in
-    let at-lines-end = at-rounding .before in
-    let start = at-lines-end .before .before .before in
-    let a = start .args in
+    let at-fit = c .before .before in
+    let at-told = at-fit .before .before in
+    let at-rounding = at-told .before .before in
+    let at-lines = at-rounding .before in
+    let a = at-lines .before .before .before .before .args in
     let s = a .s .now in
-    done-none (a .out .now) _ 16 (roundingOf s) (fitted (downText s)) _
-    (rounding-of s _ _ (at-lines-end .lines-end .ensures) (ap placed (sym (at-enum-told .enum-told .given .1)) ∙ (at-rounding .rounding .ensures)))
-    (done-moved (a .out .now) _ (downText s) _ (omega (arith, length-down s (start .pre .2), start .pre .0)) (start .pre .1)
-    (at-down-text .down-text .ensures))
+    done-none (a .out .now) _ 16 (roundingOf s) (fitted (downText (a .w .now) s)) _
+    (rounding-of s _ _ (at-lines .lines-end .ensures) (ap placed (sym (at-told .enum-told .given .1)) ∙ at-rounding .rounding .ensures))
+    (at-fit .fit .ensures)
 
 pub down-full-spec : {M : Type 1} → statement M
 down-full-spec =
@@ -64,7 +60,7 @@ down-full-spec =
     rounding-requires
     enum-known-p
     enum-told
-    down-text-requires
+    fit-requires
     returns
     same-length
     returns-2)

@@ -1,98 +1,56 @@
--- Three pieces. Assumes nothing.
-use Prim.Native.Nat.{suc, _-_}
+-- Two pieces. Assumes nothing.
+use Prim.Native.Nat.{suc}
 use native.Mathlib.Omega.{arith}
 use mathlib.Core.Bool.{false}
-use mathlib.Core.List.{[], _∷_}
-use lib.ListN.{take, drop}
+use mathlib.Core.List.{[], _∷_, _++_}
 use borrow.Author.Needs.{needs}
 use Rattle.specification.specs.Bytes.{bytes}
 use Rattle.listing.specs.Put.{Room}
 use Rattle.listing.proofs.Laws.Put.{Left, pieces-left, less-left, last-left, room-left}
-use Rattle.mover.specs.Model.{headLines, respelt, downText}
-use Rattle.mover.proofs.Laws.Lines.{linesLength-≤}
-use Rattle.mover.proofs.Laws.Texts.{down-pieces, length-down}
+use Rattle.mover.specs.Model.{headLines, headRest, restText, downText}
+use Rattle.mover.proofs.Laws.Texts.{down-pieces, down-short}
 use Rattle.mover.proofs.down_text.Statement.{statement}
 use Rattle.mover.proofs.down_text.Tie as tie
 
-parted : (c : tie.After-lines-end2) →
-    let a = c .before .before .before .before .args in
-    let h = c .before .lines-end .result in
-    Left (a .out .now) 0 (downText (a .s .now)) (a .out .now) 0
-    (bytes "edition=2\n" ∷ take (h - 10) (drop 10 (a .s .now)) ∷ respelt false 0 (drop (c .lines-end2 .result) (a .s .now)) ∷ [])
-parted c =
-    let head = c .before .lines-end in
-    let start = c .before .before .before .before in
-    pieces-left _ _ _
-    (down-pieces (start .args .s .now) (start .pre .1) (head .result) (head .ensures) (c .lines-end2 .result) (c .lines-end2 .ensures))
+abbrev start : tie.After-head → tie.Start
+start c = let arg = c .before .before in arg .before .before .before .before
 
-room : (c : tie.Start) → Room 0 (downText (c .args .s .now))
-room c = omega (arith, length-down (c .args .s .now) (c .pre .1), c .pre .0)
+parted : (c : tie.Start) →
+    let a = c .args in
+    let s = a .s .now in
+    Left (a .out .now) 0 (downText (a .w .now) s) (a .out .now) 0
+    ((bytes "edition=2\n" ++ headRest s) ∷ restText (a .w .now) false (suc headLines) s ∷ [])
+parted c = let a = c .args in pieces-left _ _ _ (down-pieces (a .s .now) (a .w .now))
 
-lines-end-requires : tie.Need-lines-end-requires
-lines-end-requires c κs = search needs
+room : (c : tie.Start) → Room 0 (downText (c .args .w .now) (c .args .s .now))
+room c = let a = c .args in omega (arith, down-short (a .s .now) (a .w .now), c .pre .short)
 
-add-lines-end : tie.Need-add-lines-end
-add-lines-end c = search needs
+slice-aggregate-head : tie.Need-slice-aggregate-head
+slice-aggregate-head c = search needs
 
-lines-end-requires-2 : tie.Need-lines-end-requires-2
-lines-end-requires-2 c κs = search needs
+head-requires : tie.Need-head-requires
+head-requires c κs = search needs
 
-slice-aggregate-text : tie.Need-slice-aggregate-text
-slice-aggregate-text c = search needs
+add-rest : tie.Need-add-rest
+add-rest c = search needs
 
-text-requires : tie.Need-text-requires
-text-requires c κs = search needs
-
-sub-text : tie.Need-sub-text
-sub-text c = search needs
-
-part-text-start : tie.Need-part-text-start
-part-text-start c = search needs
-
-part-text-end : tie.Need-part-text-end
-part-text-end c =
-    let at-text = c .before .before .before in
-    let at-lines-end = at-text .before .before .before .before in
-    let start = at-lines-end .before .before .before in
-    omega (arith, at-lines-end .lines-end .ensures, linesLength-≤ headLines (start .args .s .now))
-
-text-requires-2 : tie.Need-text-requires-2
-text-requires-2 c κs = search needs
-
-respell-requires : tie.Need-respell-requires
-respell-requires c κs =
-    let at-text2 = c .before .before .before in
-    let at-text = at-text2 .before .before .before .before .before in
-    let at-lines-end2 = at-text .before .before .before in
-    let start = at-lines-end2 .before .before .before .before in (
-      omega (arith, at-lines-end2 .lines-end2 .ensures, linesLength-≤ (suc headLines) (start .args .s .now)),
-      room-left (less-left (less-left (parted at-lines-end2) (at-text .text .ensures)) (at-text2 .text2 .ensures)) (room start),
-    )
+rest-requires : tie.Need-rest-requires
+rest-requires c κs =
+    let at-head = c .before .before .before in
+    let s = start at-head in
+    let m = s .pre in
+    (m .short, m .tables, omega arith, room-left (less-left (parted s) (at-head .head .ensures)) (room s))
 
 same-length : tie.Need-same-length
 same-length c = search needs
 
 returns : tie.Need-returns
 returns c =
-    let at-respell = c .before .before in
-    let at-text2 = at-respell .before .before .before .before in
-    let at-text = at-text2 .before .before .before .before .before in
-    let at-lines-end2 = at-text .before .before .before in
-    last-left (less-left (less-left (parted at-lines-end2) (at-text .text .ensures)) (at-text2 .text2 .ensures)) (at-respell .respell .ensures)
+    let at-rest = c .before .before in
+    let at-head = at-rest .before .before .before .before in
+    last-left (less-left (parted (start at-head)) (at-head .head .ensures)) (at-rest .rest .ensures)
 
 pub down-text-spec : {M : Type 1} → statement M
 down-text-spec =
     tie.close
-    (tie.spec
-    lines-end-requires
-    add-lines-end
-    lines-end-requires-2
-    slice-aggregate-text
-    text-requires
-    sub-text
-    part-text-start
-    part-text-end
-    text-requires-2
-    respell-requires
-    same-length
-    returns)
+    (tie.spec slice-aggregate-head head-requires add-rest rest-requires same-length returns)

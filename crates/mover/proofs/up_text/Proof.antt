@@ -1,104 +1,66 @@
--- Four pieces. Assumes nothing.
-use Prim.Native.Nat.{_-_}
+-- Three pieces. Assumes nothing.
 use native.Mathlib.Omega.{arith}
 use mathlib.Core.Bool.{true}
-use mathlib.Core.List.{[], _∷_}
-use lib.ListN.{take, drop}
+use mathlib.Core.List.{[], _∷_, _++_}
 use borrow.Author.Needs.{needs}
 use Rattle.specification.specs.Bytes.{bytes}
 use Rattle.listing.specs.Put.{Room}
 use Rattle.listing.proofs.Laws.Put.{Left, pieces-left, less-left, last-left, room-left}
-use Rattle.mover.specs.Model.{fullLine, respelt, headLines, upText}
-use Rattle.mover.proofs.Laws.Lines.{linesLength-≤}
-use Rattle.mover.proofs.Laws.Ranges.{length-line-≤}
-use Rattle.mover.proofs.Laws.Texts.{up-pieces, length-up}
+use Rattle.mover.specs.Model.{headLines, fullLine, headRest, restText, upText}
+use Rattle.mover.proofs.Laws.Texts.{up-pieces, up-short}
 use Rattle.mover.proofs.up_text.Statement.{statement}
 use Rattle.mover.proofs.up_text.Tie as tie
 
-parted : (c : tie.After-lines-end) →
-    let a = c .before .before .before .args in
-    let h = c .lines-end .result in
-    Left (a .out .now) 0 (upText (a .ranges) (a .s .now)) (a .out .now) 0
-    (bytes "edition=3\n" ∷ take (h - 10) (drop 10 (a .s .now)) ∷ fullLine (a .ranges) ∷ respelt true 0 (drop h (a .s .now)) ∷ [])
-parted c =
-    let start = c .before .before .before in
-    pieces-left _ _ _ (up-pieces (start .args .s .now) (start .pre .1) (c .lines-end .result) (c .lines-end .ensures) (start .args .ranges))
+abbrev start : tie.After-head → tie.Start
+start c = let arg = c .before .before in arg .before .before .before .before
 
-room : (c : tie.Start) → Room 0 (upText (c .args .ranges) (c .args .s .now))
-room c = omega (arith, length-up (c .args .s .now) (c .pre .1) (c .args .ranges), length-line-≤ (c .args .ranges), c .pre .0, c .pre .2)
+parted : (c : tie.Start) →
+    let a = c .args in
+    let s = a .s .now in
+    Left (a .out .now) 0 (upText (a .ranges) (a .w .now) s) (a .out .now) 0
+    ((bytes "edition=3\n" ++ headRest s) ∷ fullLine (a .ranges) ∷ restText (a .w .now) true headLines s ∷ [])
+parted c = let a = c .args in pieces-left _ _ _ (up-pieces (a .s .now) (a .ranges) (a .w .now))
 
-lines-end-requires : tie.Need-lines-end-requires
-lines-end-requires c κs = search needs
+room : (c : tie.Start) → Room 0 (upText (c .args .ranges) (c .args .w .now) (c .args .s .now))
+room c = let a = c .args in omega (arith, up-short (a .s .now) (a .ranges) (a .w .now), c .pre .0 .short, c .pre .1)
 
-slice-aggregate-text : tie.Need-slice-aggregate-text
-slice-aggregate-text c = search needs
+slice-aggregate-head : tie.Need-slice-aggregate-head
+slice-aggregate-head c = search needs
 
-text-requires : tie.Need-text-requires
-text-requires c κs = search needs
-
-sub-text : tie.Need-sub-text
-sub-text c = search needs
-
-part-text-start : tie.Need-part-text-start
-part-text-start c = search needs
-
-part-text-end : tie.Need-part-text-end
-part-text-end c =
-    let at-text = c .before .before .before in
-    let at-lines-end = at-text .before .before .before in
-    let start = at-lines-end .before .before .before in
-    omega (arith, at-lines-end .lines-end .ensures, linesLength-≤ headLines (start .args .s .now))
-
-text-requires-2 : tie.Need-text-requires-2
-text-requires-2 c κs = search needs
+head-requires : tie.Need-head-requires
+head-requires c κs = search needs
 
 full-line-requires : tie.Need-full-line-requires
 full-line-requires c κs =
-    let at-text2 = c .before .before .before in
-    let at-text = at-text2 .before .before .before .before .before in
-    let at-lines-end = at-text .before .before .before in
-    let start = at-lines-end .before .before .before in
-    room-left (less-left (less-left (parted at-lines-end) (at-text .text .ensures)) (at-text2 .text2 .ensures)) (room start)
+    let at-head = c .before .before .before in
+    let s = start at-head in
+    room-left (less-left (parted s) (at-head .head .ensures)) (room s)
 
-respell-requires : tie.Need-respell-requires
-respell-requires c κs =
-    let at-full-line = c .before .before .before in
-    let at-text2 = at-full-line .before .before .before .before in
-    let at-text = at-text2 .before .before .before .before .before in
-    let at-lines-end = at-text .before .before .before in
-    let start = at-lines-end .before .before .before in (
-      omega (arith, at-lines-end .lines-end .ensures, linesLength-≤ headLines (start .args .s .now)),
-      room-left
-          (less-left (less-left (less-left (parted at-lines-end) (at-text .text .ensures)) (at-text2 .text2 .ensures)) (at-full-line .full-line .ensures))
-          (room start),
-    )
+rest-requires : tie.Need-rest-requires
+rest-requires c κs =
+    let at-line = c .before .before .before in
+    let at-head = at-line .before .before .before .before in
+    let s = start at-head in
+    let m = s .pre .0 in
+    (m .short, m .tables, omega arith, room-left (less-left (less-left (parted s) (at-head .head .ensures)) (at-line .full-line .ensures)) (room s))
 
 same-length : tie.Need-same-length
 same-length c = search needs
 
 returns : tie.Need-returns
 returns c =
-    let at-respell = c .before .before in
-    let at-full-line = at-respell .before .before .before .before in
-    let at-text2 = at-full-line .before .before .before .before in
-    let at-text = at-text2 .before .before .before .before .before in
-    let at-lines-end = at-text .before .before .before in
-    last-left
-    (less-left (less-left (less-left (parted at-lines-end) (at-text .text .ensures)) (at-text2 .text2 .ensures)) (at-full-line .full-line .ensures))
-    (at-respell .respell .ensures)
+    let at-rest = c .before .before in
+    let at-line = at-rest .before .before .before .before in
+    let at-head = at-line .before .before .before .before in
+    last-left (less-left (less-left (parted (start at-head)) (at-head .head .ensures)) (at-line .full-line .ensures)) (at-rest .rest .ensures)
 
 pub up-text-spec : {M : Type 1} → statement M
 up-text-spec =
     tie.close
     (tie.spec
-    lines-end-requires
-    slice-aggregate-text
-    text-requires
-    sub-text
-    part-text-start
-    part-text-end
-    text-requires-2
+    slice-aggregate-head
+    head-requires
     full-line-requires
-    respell-requires
+    rest-requires
     same-length
     returns)

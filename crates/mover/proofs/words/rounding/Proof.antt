@@ -1,7 +1,6 @@
 -- Up to the place that is reached no word rounds down. Assumes nothing.
 use Prim.Native.Nat.{_-_}
-use native.Mathlib.Omega.{arith}
-use mathlib.Core.Path.{_≡_, refl, sym, _∙_}
+use mathlib.Core.Path.{_≡_, sym, _∙_}
 use lib.ListN.{length, drop}
 use borrow.Author.Needs.{needs}
 use Rattle.mover.specs.Model.{roundingPlace}
@@ -10,49 +9,52 @@ use Rattle.mover.proofs.words.rounding.Statement.{statement}
 use Rattle.mover.proofs.words.rounding.Tie as tie
 
 abbrev Inv-loop : tie.InvT-loop
-Inv-loop s at i₀ i = roundingPlace at (drop at s) ≡ roundingPlace i (drop i s)
+Inv-loop s at i₀ t4 t5 i = roundingPlace at (drop at s) ≡ roundingPlace i (drop i s)
 
 abbrev μ-loop : tie.MeasureT-loop
-μ-loop s at i₀ i = length s - i
+μ-loop s at i₀ t4 t5 i = length s - i
 
 loop-holds : tie.Need-loop-holds Inv-loop μ-loop
-loop-holds c = refl
+loop-holds c = search needs
 
-rounds-at-requires : tie.Need-rounds-at-requires Inv-loop μ-loop
-rounds-at-requires c κs = search needs
+slice-aggregate-either-at : tie.Need-slice-aggregate-either-at Inv-loop μ-loop
+slice-aggregate-either-at c = search needs
 
-add-t7 : tie.Need-add-t7 Inv-loop μ-loop
-add-t7 c = omega arith
+slice-aggregate-either-at-2 : tie.Need-slice-aggregate-either-at-2 Inv-loop μ-loop
+slice-aggregate-either-at-2 c = search needs
+
+either-at-requires : tie.Need-either-at-requires Inv-loop μ-loop
+either-at-requires c κs = search needs
+
+add-t13 : tie.Need-add-t13 Inv-loop μ-loop
+add-t13 c = search needs
 
 returns : tie.Need-returns Inv-loop μ-loop
 returns c =
-    let at-rounds-at = c .before in
-    let at-loop-test = at-rounds-at .before in
-    let at-loop = at-loop-test .before in
-    let start = at-loop .before .before in
-    sym ((at-loop .loop .inv) ∙ rounding-here (start .args .s .now) (at-loop .loop .i) (at-loop-test .loop-test .taken)
-    (sym (at-rounds-at .rounds-at .ensures) ∙ (c .if1 .taken)))
+    let at-either = c .before in
+    let turn = at-either .before .before .before in
+    let start = turn .before .before .before in
+    sym (turn .before .loop .inv ∙ rounding-here (start .args .s .now) (turn .before .loop .i) (turn .loop-test .taken)
+    (sym (at-either .either-at .ensures) ∙ c .if1 .taken))
 
 add-i : tie.Need-add-i Inv-loop μ-loop
-add-i c = omega arith
+add-i c = search needs
 
 loop-less : tie.Need-loop-less Inv-loop μ-loop
-loop-less c = omega arith
+loop-less c = search needs
 
 loop-again : tie.Need-loop-again Inv-loop μ-loop
 loop-again c =
-    let at-rounds-at = c .before in
-    let at-loop-test = at-rounds-at .before in
-    let at-loop = at-loop-test .before in
-    let start = at-loop .before .before in
-    (at-loop .loop .inv) ∙ rounding-later (start .args .s .now) (at-loop .loop .i) (at-loop-test .loop-test .taken)
-    (sym (at-rounds-at .rounds-at .ensures) ∙ (c .if1 .left))
+    let at-either = c .before in
+    let turn = at-either .before .before .before in
+    let start = turn .before .before .before in
+    turn .before .loop .inv ∙ rounding-later (start .args .s .now) (turn .before .loop .i) (turn .loop-test .taken)
+    (sym (at-either .either-at .ensures) ∙ c .if1 .left)
 
 returns-2 : tie.Need-returns-2 Inv-loop μ-loop
 returns-2 c =
-    let at-loop = c .before in
-    let start = at-loop .before .before in
-    sym ((at-loop .loop .inv) ∙ rounding-none (start .args .s .now) (at-loop .loop .i) (c .loop-test .left))
+    let start = c .before .before .before in
+    sym (c .before .loop .inv ∙ rounding-none (start .args .s .now) (c .before .loop .i) (c .loop-test .left))
 
 pub rounding-spec : {M : Type 1} → statement M
 rounding-spec =
@@ -61,8 +63,10 @@ rounding-spec =
     Inv-loop
     μ-loop
     loop-holds
-    rounds-at-requires
-    add-t7
+    slice-aggregate-either-at
+    slice-aggregate-either-at-2
+    either-at-requires
+    add-t13
     returns
     add-i
     loop-less
