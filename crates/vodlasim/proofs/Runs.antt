@@ -13,7 +13,7 @@ use Rattle.specification.specs.declared.Outcome.the-variants as outcomes
 use Rattle.specification.specs.Bytes.{Bytes, pick, between}
 use Rattle.specification.specs.Parser.{Reader, Read, refused, found}
 use Rattle.specification.specs.Sheet.{Sheet, read}
-use Rattle.specification.specs.Outcome.{longestPath, wordsFor, refusal, afterReading, enoughMemory, call, outcome, outputAfter, wordsAfter}
+use Rattle.specification.specs.Outcome.{longestPath, wordsFor, refusal, afterReading, enoughMemory, callWith, call, outcome, outputAfter, wordsAfter}
 use Rattle.specification.proofs.Laws.Contradiction.{contradiction}
 use Rattle.specification.proofs.Laws.ReadSheet.{read-well-formed}
 use Rattle.tables.specs.Layout.{pathAt}
@@ -59,11 +59,11 @@ module _ (path words : ℕ) where
 
 module _ (b : Bytes) (S : Setting) (n m : ℕ) where
   pub first-refused : enoughMemory S n ≡ false → call b S n m ≡ refusal 1 0
-  unfolding call
+  unfolding callWith
   first-refused e = ap (λ t. pick t (pick (leb (length b) 4096) (afterReading S m (read b)) (refusal 2 4096)) (refusal 1 0)) e
 
   past-first : enoughMemory S n ≡ true → call b S n m ≡ pick (leb (length b) 4096) (afterReading S m (read b)) (refusal 2 4096)
-  unfolding call
+  unfolding callWith
   past-first e = ap (λ t. pick t (pick (leb (length b) 4096) (afterReading S m (read b)) (refusal 2 4096)) (refusal 1 0)) e
 
   pub second-refused : enoughMemory S n ≡ true → leb (length b) 4096 ≡ false → call b S n m ≡ refusal 2 4096
@@ -91,9 +91,9 @@ module _ (b : Bytes) (S : Setting) (n : ℕ) (limit : S .path ≤ longestPath) (
   found-of (refused k p) e t h = contradiction cc
   found-of (found s r) e t h =
       let enough : pathAt ≤ n = omega (arith, size) in
-      let count = read-counts b s r e in
-      let held = read-ready b s r n e enough in
-      let well = read-well-formed b s r e in
+      let count = read-counts true b s r e in
+      let held = read-ready true b s r n e enough in
+      let well = read-well-formed true b s r e in
       let long : length w ≡ n = ap length h ∙ tables-length s n enough (count .few) in
       let p : scalars ≡ s .declared .scalars = cc in
       let q : arrays ≡ length (s .declared .arrays) = cc in

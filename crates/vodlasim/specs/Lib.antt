@@ -2,6 +2,7 @@
 pub mod Lent
 pub mod Answered
 pub mod Moved
+pub mod Ways
 pub mod Moves
 pub mod Demands
 pub mod Parts

@@ -1,5 +1,5 @@
--- The contract of the calls `move_up` and `move_down`, each with its way of the specification: the result, every byte of the output and every
--- work word afterwards, for each sheet and each length of the lent slices. Assumes nothing.
+-- The contract of the calls `move_up`, `move_down` and `tidy`, each with its way of the specification: the result, every byte of the output and
+-- every work word afterwards, for each sheet and each length of the lent slices. Assumes nothing.
 use mathlib.Core.Path.{_≡_}
 use lib.ListN.{length}
 use Rattle.specification.specs.declared.Move.{Move}

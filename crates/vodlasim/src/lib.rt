@@ -1,16 +1,18 @@
-// The public calls: a sheet is run, or moved to another edition.
+// The public calls: a sheet is run, or moved to another edition, or tidied.
 ghost use mathlib.Core.Path.{_≡_};
 ghost use mathlib.Core.Bool.{_&&_};
 ghost use Prim.Native.Nat.{_+_, _*_, _<_};
 ghost use lib.Dec.{leb};
-ghost use lib.ListN.{length, replicate};
+ghost use lib.ListN.{length};
 ghost use Rattle.specification.specs.Bytes.{between};
 ghost use Rattle.specification.specs.Outcome.{longestPath, wordsFor};
-ghost use Rattle.specification.specs.Moves.{older, newer, longestSheet, wordsToMove, admitted, moveUp, moveDown};
-ghost use Rattle.sheet.specs.Whole.{readingOf};
+ghost use Rattle.specification.specs.Moves.{longestSheet, wordsToMove, admitted, moveUp, moveDown, tidy};
+ghost use Rattle.sheet.specs.Whole.{readingOf, wordsOf};
 ghost use Rattle.vodlasim.specs.Lent.{lent};
 ghost use Rattle.vodlasim.specs.Answered.{Answered};
 ghost use Rattle.vodlasim.specs.Moved.{Moved};
+ghost use Rattle.vodlasim.specs.Ways.{editionOf, strictOn, wayOf};
+use mover::Way;
 use sheet::Reading;
 use sheet::clear;
 use sheet::read_only;
@@ -65,7 +67,7 @@ pub fn run(sheet: &[u8], setting: Setting, work: &mut [u32], output: &mut [u8]) 
             place: 4096,
         };
     }
-    match read_sheet(sheet, work) {
+    match read_sheet(sheet, true, work) {
         Reading::Refused { number, place } => Outcome::Refused { number, place },
         Reading::Read {
             scalars,
@@ -88,6 +90,28 @@ pub fn run(sheet: &[u8], setting: Setting, work: &mut [u32], output: &mut [u8]) 
 
 // ---- a move
 
+// The edition that is moved.
+fn edition_of(way: Way) -> u32
+    ensures { λ r. ⌜ r ≡ editionOf way ⌝ }
+{
+    match way {
+        Way::Up => OLDER,
+        Way::Down => NEWER,
+        Way::Tidy => NEWER,
+    }
+}
+
+// Whether empty ranges are refused on the way.
+fn is_strict(way: Way) -> bool
+    ensures { λ r. ⌜ r ≡ strictOn way ⌝ }
+{
+    match way {
+        Way::Up => false,
+        Way::Down => true,
+        Way::Tidy => false,
+    }
+}
+
 // Whether there are as many work words and output bytes as document 02 wants them for a move.
 fn room(words: usize, size: usize) -> bool
     ensures { λ r. ⌜ r ≡ (leb longestSheet size && leb wordsToMove words) ⌝ }
@@ -98,11 +122,12 @@ fn room(words: usize, size: usize) -> bool
     tables::PATH <= words
 }
 
-// Reads a sheet of this edition that is to be moved, and leaves the work words all zero.
-fn admit(sheet: &[u8], edition: u32, work: &mut [u32], size: usize) -> Reading
+// Reads a sheet of this edition that is to be moved: its tables stand in the work words, which are all zero where it is refused.
+fn admit(sheet: &[u8], edition: u32, strict: bool, work: &mut [u32], size: usize) -> Reading
     requires { ⌜ edition < 4294967295 ⌝ }
-    ensures { λ r. ⌜ (r ≡ readingOf (admitted edition (now (sheet .entry)) (length (now (work .entry))) size))
-        × (now (work .exit) ≡ replicate (length (now (work .entry))) 0) ⌝ }
+    ensures { λ r. ⌜ (r ≡ readingOf (admitted strict edition (now (sheet .entry)) (length (now (work .entry))) size))
+        × (now (work .exit)
+        ≡ wordsOf (length (now (work .entry))) (admitted strict edition (now (sheet .entry)) (length (now (work .entry))) size)) ⌝ }
 {
     if !room(work.len(), size) {
         clear(work);
@@ -118,37 +143,45 @@ fn admit(sheet: &[u8], edition: u32, work: &mut [u32], size: usize) -> Reading
             place: LONGEST_SHEET,
         };
     }
-    let reading = read_only(sheet, edition, work);
-    clear(work);
-    reading
+    read_only(sheet, edition, strict, work)
 }
 
-// Moves a sheet of edition 2 to edition 3: it stands at the start of the output; every length of the slices is allowed.
-pub fn move_up(sheet: &[u8], work: &mut [u32], output: &mut [u8]) -> Move
-    ensures { λ r. ⌜ Moved moveUp (now (sheet .entry)) (lent (now (work .entry)) (now (work .exit))) (lent (now (output .entry)) (now (output .exit))) r ⌝ }
+// Moves a sheet: what is written stands at the start of the output.
+fn carry(way: Way, sheet: &[u8], work: &mut [u32], output: &mut [u8]) -> Move
+    ensures { λ r. ⌜ Moved (wayOf way) (now (sheet .entry)) (lent (now (work .entry)) (now (work .exit))) (lent (now (output .entry)) (now (output .exit))) r ⌝ }
 {
-    match admit(sheet, OLDER, work, output.len()) {
+    match admit(sheet, edition_of(way), is_strict(way), work, output.len()) {
         Reading::Refused { number, place } => Move::Refused { number, place },
         Reading::Read {
             scalars,
             arrays,
             tokens: _,
             formula: _,
-        } => mover::up(sheet, scalars + arrays, output),
+        } => {
+            let moved = mover::moved(way, sheet, scalars + arrays, work, output);
+            clear(work);
+            moved
+        }
     }
+}
+
+// Moves a sheet of edition 2 to edition 3, without its empty ranges; every length of the slices is allowed.
+pub fn move_up(sheet: &[u8], work: &mut [u32], output: &mut [u8]) -> Move
+    ensures { λ r. ⌜ Moved moveUp (now (sheet .entry)) (lent (now (work .entry)) (now (work .exit))) (lent (now (output .entry)) (now (output .exit))) r ⌝ }
+{
+    carry(Way::Up, sheet, work, output)
 }
 
 // And back: a sheet of edition 3 with full ranges, in which nothing rounds down.
 pub fn move_down(sheet: &[u8], work: &mut [u32], output: &mut [u8]) -> Move
     ensures { λ r. ⌜ Moved moveDown (now (sheet .entry)) (lent (now (work .entry)) (now (work .exit))) (lent (now (output .entry)) (now (output .exit))) r ⌝ }
 {
-    match admit(sheet, NEWER, work, output.len()) {
-        Reading::Refused { number, place } => Move::Refused { number, place },
-        Reading::Read {
-            scalars,
-            arrays,
-            tokens: _,
-            formula: _,
-        } => mover::down(sheet, scalars + arrays, output),
-    }
+    carry(Way::Down, sheet, work, output)
+}
+
+// A stored sheet of edition 3 without its empty ranges, which a run refuses.
+pub fn tidy(sheet: &[u8], work: &mut [u32], output: &mut [u8]) -> Move
+    ensures { λ r. ⌜ Moved tidy (now (sheet .entry)) (lent (now (work .entry)) (now (work .exit))) (lent (now (output .entry)) (now (output .exit))) r ⌝ }
+{
+    carry(Way::Tidy, sheet, work, output)
 }

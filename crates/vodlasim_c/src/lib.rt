@@ -7,7 +7,7 @@ use specification::Outcome;
 use specification::Setting;
 ghost use mathlib.Core.Path.{_≡_};
 ghost use Rattle.specification.specs.Report.{endNumber, reportOf, moveReport};
-ghost use Rattle.specification.specs.Moves.{moveUp, moveDown};
+ghost use Rattle.specification.specs.Moves.{moveUp, moveDown, tidy};
 ghost use Rattle.vodlasim.specs.Lent.{lent};
 ghost use Rattle.vodlasim_c.specs.Report.{Reported, MoveReported};
 
@@ -34,8 +34,8 @@ pub extern "C" fn vodlasim_run(
     *report = numbers(outcome);
 }
 
-// `vodlasim::move_up` and `vodlasim::move_down`, with what they return in `report`, as the specification's `moveReport` gives it: refused number
-// or 0, place, five zeros, bytes written. Every length of the slices is allowed.
+// `vodlasim::move_up`, `vodlasim::move_down` and `vodlasim::tidy`, with what they return in `report`, as the specification's `moveReport` gives it:
+// refused number or 0, place, five zeros, bytes written. Every length of the slices is allowed.
 #[no_mangle]
 pub extern "C" fn vodlasim_move_up(
     sheet: &[u8],
@@ -59,6 +59,19 @@ pub extern "C" fn vodlasim_move_down(
     ensures { λ _. ⌜ MoveReported moveDown (now (sheet .entry)) (lent (now (work .entry)) (now (work .exit))) (lent (now (output .entry)) (now (output .exit))) (now (report .exit)) ⌝ }
 {
     let moved = vodlasim::move_down(sheet, work, output);
+    *report = move_numbers(moved);
+}
+
+#[no_mangle]
+pub extern "C" fn vodlasim_tidy(
+    sheet: &[u8],
+    work: &mut [u32],
+    output: &mut [u8],
+    report: &mut [u64; 8],
+)
+    ensures { λ _. ⌜ MoveReported tidy (now (sheet .entry)) (lent (now (work .entry)) (now (work .exit))) (lent (now (output .entry)) (now (output .exit))) (now (report .exit)) ⌝ }
+{
+    let moved = vodlasim::tidy(sheet, work, output);
     *report = move_numbers(moved);
 }
 

@@ -1,74 +1,19 @@
--- `move_up` meets its contract, by the laws of Carried.
-use native.Mathlib.Omega.{arith}
-use mathlib.Core.Path.{refl, sym, _∙_}
-use lib.ListN.{length}
+-- `move_up` is `carry` on its way.
 use borrow.Author.Needs.{needs}
-use Rattle.specification.specs.Moves.{older, moveUp}
-use Rattle.vodlasim.proofs.Carried.{known-sheet, refused-answers, up-answers}
 use Rattle.vodlasim.proofs.move_up.Statement.{statement}
 use Rattle.vodlasim.proofs.move_up.Tie as tie
 
-admit-requires : tie.Need-admit-requires
-admit-requires c κs = search needs
-
-enum-known-number : tie.Need-enum-known-number
-enum-known-number c = search needs
-
-enum-known-scalars : tie.Need-enum-known-scalars
-enum-known-scalars c = search needs
-
-add-up : tie.Need-add-up
-add-up c =
-    let at-scalars = c .before in
-    let at-admit = at-scalars .before .before .before .before in
-    let a = at-admit .before .before .before .before .before .args in
-    let k = known-sheet older refl (a .sheet .now) (length (a .work .now)) (length (a .output .now)) _ _ _ _ (sym (at-scalars .scalars .given .1) ∙ at-admit .admit .ensures .0) .wanted in
-    omega (arith, k .scalars-few, k .arrays-few)
-
-up-requires : tie.Need-up-requires
-up-requires c κs =
-    let at-scalars = c .before .before in
-    let at-admit = at-scalars .before .before .before .before in
-    let a = at-admit .before .before .before .before .before .args in
-    let k = known-sheet older refl (a .sheet .now) (length (a .work .now)) (length (a .output .now)) _ _ _ _ (sym (at-scalars .scalars .given .1) ∙ at-admit .admit .ensures .0) .wanted in
-    (k .short, k .room, k .head, omega (arith, k .scalars-few, k .arrays-few))
+carry-requires : tie.Need-carry-requires
+carry-requires c κs = search needs
 
 same-length : tie.Need-same-length
 same-length c = search needs
 
-returns : tie.Need-returns
-unfolding moveUp
-returns c =
-    let at-number = c .before in
-    let at-admit = at-number .before .before .before .before in
-    let a = at-admit .before .before .before .before .before .args in
-    refused-answers (a .sheet .now) (a .work .now) _ (at-admit .admit .ensures .1) (a .output .now) older _ moveUp refl _ _ (sym (at-number .number .given .1) ∙ at-admit .admit .ensures .0)
-
 same-length-2 : tie.Need-same-length-2
 same-length-2 c = search needs
 
-same-length-3 : tie.Need-same-length-3
-same-length-3 c = search needs
-
-returns-2 : tie.Need-returns-2
-returns-2 c =
-    let at-up = c .before .before in
-    let at-scalars = at-up .before .before .before in
-    let at-admit = at-scalars .before .before .before .before in
-    let a = at-admit .before .before .before .before .before .args in
-    up-answers (a .sheet .now) (a .work .now) _ (at-admit .admit .ensures .1) (a .output .now) _ _ _ _ _ _ (sym (at-scalars .scalars .given .1) ∙ at-admit .admit .ensures .0) (at-up .up .ensures)
+returns : tie.Need-returns
+returns c = c .before .before .before .before .carry .ensures
 
 pub move-up-spec : {M : Type 1} → statement M
-move-up-spec =
-    tie.close
-    (tie.spec
-    admit-requires
-    enum-known-number
-    enum-known-scalars
-    add-up
-    up-requires
-    same-length
-    returns
-    same-length-2
-    same-length-3
-    returns-2)
+move-up-spec = tie.close (tie.spec carry-requires same-length same-length-2 returns)
