@@ -15,6 +15,7 @@ import random_sheets
 import walker
 
 FILES = walker.ROOT / "crates" / "cases"
+MOST = 655360                           # bytes of input that the program reads
 RANDOM = {1: 150, 2: 90, 3: 90}              # so many random cases of each edition, the last ones
 cases = []                              # name and case
 
@@ -1553,7 +1554,7 @@ not some l0 4 9 eq v0 l0
 not some l0 5 9 or eq v0 l0 eq l0 9
 not all l0 0 1 eq a0 l0 add l0 4
 not all l0 0 1 eq a0 l0 add l0 3
-not all l0 5 4 eq v0 5
+not all l0 5 sub 5 1 eq v0 5
 imp eq v0 5 eq v1 1
 imp eq v0 4 eq v1 1
 imp true eq v0 5
@@ -1888,6 +1889,106 @@ not eq v0 mod -1 12
 """, edition="3", ranges="0:11")
 
 
+# ---------------------------------------------------------------- empty ranges (document 02, Nine)
+
+def empty_ranges():
+    """17 in edition 3: both bounds constants where they stand, the lower above the upper. Editions 1 and 2 go on."""
+    for edition in ("1", "2", "3"):
+        formulas("""
+some l0 8 1 true
+all l0 8 1 eq v0 1
+or some l0 2 1 true eq v0 7
+and all l0 2 1 true eq v0 7
+""", edition=edition, ranges="0:9" if edition == "3" else None)
+    for word, low, high in (("some", 1, 1), ("all", 1, 1), ("some", 1, 2), ("some", 0, -1), ("all", -1, -1), ("some", -1, -2), ("all", -1, -2),
+                            ("some", -2, -1), ("all", 10, 9), ("some", LOW, LOW), ("all", "-2147483647", LOW), ("some", "-2147483647", LOW),
+                            ("all", HIGH, HIGH), ("some", HIGH, "2147483646"), ("all", "2147483646", HIGH), ("some", HIGH, LOW)):
+        formulas("%s l0 %s %s true" % (word, low, high), edition="3", scalars="0", ranges="")
+    declared = dict(edition="3", locals="2", arrays="2", ranges="0:9,0:9")
+    # where it stands, and bounds that are no constants
+    formulas("""
+not some l0 8 1 true
+imp all l0 8 1 true eq v0 1
+imp eq v0 1 some l0 8 1 true
+ex l0 some l1 8 1 eq l0 l1
+some l0 1 8 all l1 8 1 true
+some l0 8 1 some l1 8 1 true
+and some l0 8 v0 true some l1 8 1 true
+some l0 add 8 0 1 true
+all l0 8 sub 1 0 eq 1 2
+all l0 a0 8 1 true
+and eq v0 8 some l0 v0 1 true
+and eq a0 1 0 all l0 8 a0 1 eq 1 2
+some l0 8 div 2 2 true
+some l0 3 4 all l1 8 l0 true
+""", **declared)
+    # after the upper bound's 9 and 4, before the byte after it
+    formulas("""
+some l0 8 1
+some l0 8 1 
+some l0 8 1  true
+some l0 8 1x true
+all l0 8 1- true
+all l0 8 01 true
+all l0 8 -0 true
+all l0 8 2147483648 true
+some l0 2147483648 1 true
+some l0 8 
+some l0 8 x true
+some l0 8 v1 true
+some l0 8 l0 true
+some l0 8 1 x
+some l0 8 1 eq v1 1
+some l0 8 1 ex l0 true
+some l0 8 1 true true
+some l2 8 1 true
+some v0 8 1 true
+ex l0 some l0 8 1 true
+and x some l0 8 1 true
+and some l0 8 1 true x
+""", **declared)
+    good = lines(edition="3", scalars="0", ranges="", formula="some l0 8 12 true")
+    for k in range(good.index(" 12"), good.index(" true") + 1):
+        case("an upper bound 12, cut to %d bytes" % k, good[:k])
+    formulas("not " * 63 + "some l0 8 1 true", **declared)
+    # procedures: a parameter is no constant, whatever a call puts in its place
+    libraries("""
+2:some l0 p0 p1 true
+call 0 8 1
+
+2:all l0 p0 p1 eq 1 2
+call 0 8 1
+
+1:some l0 8 p0 true
+call 0 1
+
+1:some l0 p0 1 true
+1:call 0 p0
+or call 1 8 call 1 0
+
+0:some l0 8 1 true
+true
+
+1:true
+1:and eq p0 1 all l0 8 1 eq p0 2
+call 0 v0
+
+0:some l0 8 1 true
+call 1
+
+0:call 0
+some l0 8 1 true
+
+1:some l0 8 p1 true
+true
+
+1:some l0 8 1 eq p1 1
+true
+""", **declared)
+    case("13, before it", lines(edition="3", ranges="0:4", given="v0:5", formula="some l0 8 1 true"))
+    case("14, before it", lines(edition="3", ranges="4:0", formula="some l0 8 1 true"))
+
+
 # ---------------------------------------------------------------- damaged sheets
 
 def damaged():
@@ -2066,7 +2167,7 @@ def main():
     for group in (marked, readings, slips, declared_limits, text_limits, lent_limits, kinds, words, inner_trees, negations, negations_cut,
                   damaged, taught, editions, calls, arguments, bound_anew, inner_calls, call_numbers, parameter_names, local_binders,
                   procedure_lines, procedure_limits, many_uses, procedures_cut, edition_3, cell_ranges, ranges_inside, ranges_called,
-                  ranges_of_arrays, ranges_given, range_lines, ranges_cut, parts, divisions):
+                  ranges_of_arrays, ranges_given, range_lines, ranges_cut, parts, divisions, empty_ranges):
         group()
     for number, drawn_case in enumerate([*drawn(1), *drawn(2), *drawn(3)] if given.random else stored()):
         cases.append(("random %d" % (number + 1), drawn_case))
@@ -2075,7 +2176,10 @@ def main():
             print(number + 1, repr(name)[1:-1], "| path %d budget %d skip %d output %d words %d" % listed[1:])
         return
     all_cases = [c for _, c in cases]
-    (FILES / "stdin").write_bytes(walker.packed(all_cases))
+    stdin = walker.packed(all_cases)
+    if len(stdin) > MOST:
+        raise SystemExit("the cases are %d bytes, the program reads %d" % (len(stdin), MOST))
+    (FILES / "stdin").write_bytes(stdin)
     (FILES / "stdout").write_bytes(walker.printed(all_cases))
 
 

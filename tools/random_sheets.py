@@ -18,12 +18,15 @@ CONNECTIVES, QUANTIFIERS = ("and", "or", "imp"), ("some", "all")
 WORDS = ("true", "not", "ex", "call") + CONNECTIVES + QUANTIFIERS + COMPARISONS + OPERATIONS
 ENDS = (LOW, LOW + 1, HIGH - 1, HIGH)
 ALL = (LOW, HIGH)                       # the range of all values
+SLIPS = {1: 0, 2: 0, 3: 0.08}           # the share of well-formed sheets of each edition that have empty ranges of constants on purpose
 
 
-def drawn(rng, editions=(1, 2, 3)):
-    """A sheet of one of the editions: mostly well formed, one in eight at a limit, one in three damaged."""
+def drawn(rng, editions=(1, 2, 3), slips=None):
+    """A sheet of one of the editions: mostly well formed, one in eight at a limit, one in three damaged. `slips` is the share of well-formed ones
+    that have empty ranges of constants on purpose; edition 3 refuses them, and there other sheets have none."""
     edition = rng.choice(editions)
-    sheet = edge(rng, edition) if rng.random() < 0.12 else well_formed(rng, edition)
+    slips = SLIPS[edition] if slips is None else slips
+    sheet = edge(rng, edition) if rng.random() < 0.12 else well_formed(rng, edition, slips > 0 and rng.random() < slips)
     if rng.random() < 0.35:
         for _ in range(rng.choice((1, 1, 1, 2, 4))):
             sheet = damaged(rng, sheet)
@@ -40,10 +43,10 @@ def lines(scalars=1, locals=1, arrays=(), given="", formula="true", edition=1, p
 
 # ---------------------------------------------------------------- well-formed sheets
 
-def well_formed(rng, edition):
-    """A sheet that no refusal fits: what it declares and gives, and formulas that mostly use what has a value."""
+def well_formed(rng, edition, slips=False):
+    """A sheet that no refusal but 17 fits: what it declares and gives, and formulas that mostly use what has a value."""
     while True:
-        sheet = Draft(rng, edition).sheet()
+        sheet = Draft(rng, edition, slips).sheet()
         tokens = sheet.count(b" ") + sheet.count(b"\nproc=") + 1
         if len(sheet) <= 4096 and tokens <= 1024:
             return sheet
@@ -107,10 +110,10 @@ class Draft:
     """One sheet while it is drawn. `valued` holds the cells, locals and parameters that will have a value, as far as can be seen, when the
     walk gets to the place that is drawn next: names as the formula writes them, elements by a constant index."""
 
-    def __init__(self, rng, edition):
-        self.rng, self.edition = rng, edition
+    def __init__(self, rng, edition, slips):
+        self.rng, self.edition, self.slips = rng, edition, slips
         self.scalars = rng.choice((0, 1, 2, 2, 3, 3, 5, 9))
-        self.locals = rng.choice((0, 1, 2, 3, 4, 6, 32))
+        self.locals = max(rng.choice((0, 1, 2, 3, 4, 6, 32)), 6 if slips else 0)
         self.arrays = [rng.choice((1, 2, 3, 3, 4, 8)) for _ in range(rng.choice((0, 0, 1, 1, 1, 2, 4)))]
         self.ranges = [cell_range(rng) for _ in range(self.scalars + len(self.arrays))] if edition == 3 else []
         self.range_of = {name: self.ranges[number] for _, name, number in cells(self.scalars, self.arrays)} if self.ranges else {}
@@ -167,9 +170,19 @@ class Draft:
         """A range, mostly a short one."""
         rng, x = self.rng, self.rng.random()
         if x < 0.15:
-            return "%s %s" % (self.term(rng.choice((1, 1, 3))), self.term(rng.choice((1, 1, 3))))
+            return self.orderly(self.term(rng.choice((1, 1, 3))), self.term(rng.choice((1, 1, 3))))
+        if self.slips and rng.random() < 0.4:
+            last = rng.choice((LOW, HIGH - 1, rng.randint(-3, 9), constant(rng)))
+            return "%d %d" % (min(HIGH, last + rng.choice((1, 1, 2, 7, 2**32))), last)
         first = rng.choice((LOW, HIGH - 2, HIGH - 1, HIGH)) if x < 0.2 else rng.randint(-2, 2)
-        return "%d %d" % (first, max(LOW, min(HIGH, first + rng.choice((-1, 0, 1, 1, 2, 2, 3, 5)))))
+        return self.orderly(str(first), str(max(LOW, min(HIGH, first + rng.choice((-1, 0, 1, 1, 2, 2, 3, 5))))))
+
+    def orderly(self, first, last):
+        """The bounds of a range; in edition 3 empty ones of constants the other way round, unless the sheet is to have such."""
+        numbers = [bound for bound in (first, last) if re.fullmatch("-?[0-9]+", bound)]
+        if self.edition == 3 and not self.slips and len(numbers) == 2 and int(first) > int(last):
+            first, last = last, first
+        return "%s %s" % (first, last)
 
     # -- formulas
 
@@ -178,7 +191,7 @@ class Draft:
             return self.atom(size)
         ways = [self.both, self.both, self.both, self.either, self.either, self.negated, self.implied, self.atom]
         if self.unbound:
-            ways += [self.ranged, self.ranged, self.found]
+            ways += [self.ranged, self.ranged, self.found] + [self.ranged] * (6 if self.slips else 0)
         if self.unbound and self.arrays:
             ways.append(self.filled)
         if self.procedures:
@@ -277,7 +290,7 @@ class Draft:
         self.scope.remove(local)
         self.valued.discard(local)
         self.valued.update("a%d %d" % (array, e) for e in range(last + 1))
-        return "all %s 0 %d %s" % (local, last + self.rng.choice((0, 0, 0, 0, -1, 1)), body)
+        return "all %s %s %s" % (local, self.orderly("0", str(last + self.rng.choice((0, 0, 0, 0, -1, 1)))), body)
 
     def called(self, size):
         """A call, often one of the procedure before: a term for each parameter that needs a value, mostly a bare name for the others."""
@@ -422,6 +435,16 @@ def end_ranges(rng, past):
     return lines(formula="%s l0 %d %d %s" % (word, LOW if past else first, last, body))
 
 
+def slip(rng, past):
+    """Constant bounds that are equal, or one value apart; past: the lower above the upper, by one mostly, in a body, under `not` or beside it."""
+    low = rng.choice(ENDS[1:] + (-10, -1, 0, 1, 9, 10))
+    high = low - rng.choice((1, 1, 1, low - LOW)) if past else rng.choice((low, min(HIGH, low + 1)))
+    formula = "%s l0 %d %d %s" % (rng.choice(("some", "all")), low, high, rng.choice(("eq v0 l0", "true", "lt v0 1", "ex l1 eq l1 l0")))
+    outer = "all l2 %d 1 %%s" % (1 + past)
+    around = rng.choice(("%s", "not %s", "and eq v0 %d %%s" % low, "or %s lt v1 1", "imp %s eq v0 1", "some l2 1 2 %s", outer))
+    return lines(2, 3, formula=around % formula)
+
+
 def long_path(rng, past):
     """A path of some hundred nodes; past: of some thousands."""
     last = rng.randint(900, 17000) if past else rng.randint(200, 300)
@@ -429,7 +452,7 @@ def long_path(rng, past):
 
 
 EDGES = (deep, deep, many_tokens, many_bytes, many_cells, many_given, many_arrays, many_scalars, many_locals, one_index, end_values,
-         end_ranges, long_path)
+         end_ranges, long_path, slip)
 
 
 # ---------------------------------------------------------------- the same for procedures
@@ -676,6 +699,15 @@ def pair_changed(rng, sheet):
     return replaced(rng, sheet, rb"(?<=[=,])-?[0-9]+:-?[0-9]+(?=[,\n])", new)
 
 
+def bounds_changed(rng, sheet):
+    """The constant bounds of a quantifier turned round, or made empty by one or nearly so."""
+    def new(old):
+        quantifier, low, high = old.rsplit(b" ", 2)
+        near = b"%d" % (int(high[:30]) + rng.choice((0, 1, 1)))
+        return b" ".join((quantifier, *rng.choice(((high, low), (near, high), (near, high)))))
+    return replaced(rng, sheet, rb"(?<=[ =:])(some|all) l[0-9]+ -?[0-9]+ -?[0-9]+(?=[ \n])", new)
+
+
 def item_changed(rng, sheet):
     """A given value one more or less."""
     def new(old):
@@ -693,7 +725,7 @@ def ranges_changed(rng, sheet):
 
 DAMAGES = (changed, dropped, inserted, doubled, cut_short, goes_on, lines_moved, number_changed, number_changed, word_changed, word_changed,
            word_exchanged, word_exchanged, edition_changed)
-RANGE_DAMAGES = (pair_changed, pair_changed, pair_changed, item_changed, item_changed, ranges_changed)
+RANGE_DAMAGES = (pair_changed, pair_changed, pair_changed, item_changed, item_changed, ranges_changed, bounds_changed)
 
 
 if __name__ == "__main__":

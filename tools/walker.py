@@ -10,6 +10,7 @@ from collections import namedtuple
 
 ROOT = pathlib.Path(__file__).resolve().parent.parent
 COMMAND = ["cargo", "run", "--quiet", "--release", "--offline", "--manifest-path", str(ROOT / "bench/rust/Cargo.toml"), "--", "cases", "-"]
+EMPTY_RANGES = "--empty-ranges"
 Case = namedtuple("Case", "sheet path budget skip output words")
 Outcome = namedtuple("Outcome", "refused place end nodes answers errors fails listing")
 
@@ -35,14 +36,14 @@ def unpacked(data):
     return cases
 
 
-def printed(cases):
+def printed(cases, *options):
     """What the test program of crates/cases is due to print."""
-    return subprocess.run(COMMAND, input=packed(cases), stdout=subprocess.PIPE, check=True).stdout
+    return subprocess.run([*COMMAND, *options], input=packed(cases), stdout=subprocess.PIPE, check=True).stdout
 
 
-def pages(cases):
-    """What the box is due to print for each case."""
-    return re.split(rb"^case \d+\n", printed(cases), flags=re.M)[1:]
+def pages(cases, *options):
+    """What the box is due to print for each case; with EMPTY_RANGES, as before edition 3 refused an empty range of constants."""
+    return re.split(rb"^case \d+\n", printed(cases, *options), flags=re.M)[1:]
 
 
 def outcome(page):

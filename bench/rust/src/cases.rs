@@ -14,8 +14,9 @@ struct Case<'a> {
     sheet: &'a [u8],
 }
 
-/// Runs the cases by the walker and prints their outcomes as the program of crates/cases does: `case N` and what the box prints.
-pub fn print(out: &mut impl Write, bytes: &[u8]) -> io::Result<()> {
+/// Runs the cases by the walker and prints their outcomes as the program of crates/cases does: `case N` and what the box prints. `strict` is
+/// the reader's.
+pub fn print(out: &mut impl Write, bytes: &[u8], strict: bool) -> io::Result<()> {
     let mut rest = bytes;
     for number in 1.. {
         if rest.is_empty() {
@@ -26,7 +27,7 @@ pub fn print(out: &mut impl Write, bytes: &[u8]) -> io::Result<()> {
             return Err(io::Error::new(io::ErrorKind::InvalidData, message));
         };
         let mut output = vec![0; case.output];
-        let result = walk::run(case.sheet, case.setting, case.words, &mut output);
+        let result = walk::run(case.sheet, strict, case.setting, case.words, &mut output);
         writeln!(out, "case {number}")?;
         page::print(out, &result, &output)?;
         rest = after;

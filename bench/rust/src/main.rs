@@ -1,9 +1,10 @@
 //! bench ENGINE SHEET [OPTION NUMBER]..
-//! bench cases FILE
+//! bench cases FILE [--empty-ranges]
 //!
 //! The first runs the sheet in the file SHEET by ENGINE and prints what the box prints. ENGINE is `walker` or, if built with the feature
 //! `library`, `library`. Options: --path-limit, --budget, --skip, --output, and --runs, which runs it so many times and prints the last
-//! run. The second runs the cases in FILE by the walker (see cases.rs). The file `-` is standard input.
+//! run. The second runs the cases in FILE by the walker (see cases.rs), with --empty-ranges as they ran before edition 3 refused an empty
+//! range of constants. The file `-` is standard input.
 
 mod cases;
 mod page;
@@ -25,13 +26,14 @@ fn main() {
     let arguments: Vec<String> = env::args().skip(1).collect();
     let Some(command) = parse(&arguments) else {
         eprintln!(
-            "usage: bench walker|library SHEET [--path-limit N] [--budget N] [--skip N] [--output N] [--runs N]\n       bench cases FILE"
+            "usage: bench walker|library SHEET [--path-limit N] [--budget N] [--skip N] [--output N] [--runs N]\n       \
+             bench cases FILE [--empty-ranges]"
         );
         process::exit(2);
     };
     let printed = match command {
         Command::Sheet(engine, file, options) => print_sheet(engine, file, options),
-        Command::Cases(file) => print_cases(file),
+        Command::Cases(file, strict) => print_cases(file, strict),
     };
     if let Err(error) = printed {
         eprintln!("bench: {error}");
@@ -49,16 +51,17 @@ struct Options {
 
 enum Command<'a> {
     Sheet(Engine, &'a str, Options),
-    Cases(&'a str),
+    Cases(&'a str, bool),
 }
 
 fn parse(arguments: &[String]) -> Option<Command<'_>> {
     let [engine, file, rest @ ..] = arguments else { return None };
     let engine: Engine = match engine.as_str() {
-        "walker" => |sheet, setting, work, output| walk::run(sheet, setting, work.len(), output),
+        "walker" => |sheet, setting, work, output| walk::run(sheet, true, setting, work.len(), output),
         #[cfg(feature = "library")]
         "library" => library::run,
-        "cases" if rest.is_empty() => return Some(Command::Cases(file)),
+        "cases" if rest.is_empty() => return Some(Command::Cases(file, true)),
+        "cases" if rest == ["--empty-ranges"] => return Some(Command::Cases(file, false)),
         _ => return None,
     };
     Some(Command::Sheet(engine, file, parse_options(rest)?))
@@ -94,11 +97,11 @@ fn print_sheet(engine: Engine, file: &str, options: Options) -> io::Result<()> {
     page::print(&mut io::stdout().lock(), &result, &output)
 }
 
-fn print_cases(file: &str) -> io::Result<()> {
+fn print_cases(file: &str, strict: bool) -> io::Result<()> {
     let mut bytes = Vec::new();
     open(file)?.read_to_end(&mut bytes)?;
     let mut out = BufWriter::new(io::stdout().lock());
-    cases::print(&mut out, &bytes)?;
+    cases::print(&mut out, &bytes, strict)?;
     out.flush()
 }
 

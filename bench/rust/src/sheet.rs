@@ -100,11 +100,12 @@ pub enum Operation {
     Mod,
 }
 
-pub fn read(bytes: &[u8]) -> Result<Sheet, Refused> {
+/// A sheet; `strict` is false where an empty range of constants is no fault in any edition.
+pub fn read(bytes: &[u8], strict: bool) -> Result<Sheet, Refused> {
     if bytes.len() > 4096 {
         return Err(Refused { number: 2, place: 4096 });
     }
-    Reader { bytes, ..Reader::default() }.sheet()
+    Reader { bytes, strict, ..Reader::default() }.sheet()
 }
 
 type Read<T> = Result<T, Refused>;
@@ -116,6 +117,7 @@ fn refused<T>(number: u32, place: usize) -> Read<T> {
 #[derive(Default)]
 struct Reader<'a> {
     bytes: &'a [u8],
+    strict: bool,
     position: usize,
     edition: u64,
     scalars: usize,
@@ -165,6 +167,11 @@ fn signed(text: &[u8]) -> Option<i32> {
         [b'-', rest @ ..] => i32::try_from(-i64::try_from(natural(rest)?).ok()?).ok(),
         _ => i32::try_from(natural(text)?).ok(),
     }
+}
+
+/// Whether these are constants, the first above the second.
+fn is_empty(bounds: &[Term; 2]) -> bool {
+    matches!(bounds, [Term::Constant(low), Term::Constant(high)] if low > high)
 }
 
 /// Whether a slot with this range may have the value.
@@ -386,8 +393,8 @@ impl<'a> Reader<'a> {
                 let local = self.binder(depth)?;
                 return Ok(Formula::Ex { local, formula: Box::new(self.scoped(local, depth)?) });
             }
-            b"some" => return Ok(Formula::Some(Box::new(self.range(at, depth)?))),
-            b"all" => return Ok(Formula::All(Box::new(self.range(at, depth)?))),
+            b"some" => return Ok(Formula::Some(Box::new(self.range(&token, depth)?))),
+            b"all" => return Ok(Formula::All(Box::new(self.range(&token, depth)?))),
             b"call" if self.edition >= 2 => return self.call(depth),
             b"eq" => Comparison::Eq,
             b"ne" => Comparison::Ne,
@@ -447,9 +454,13 @@ impl<'a> Reader<'a> {
         Ok(formula)
     }
 
-    fn range(&mut self, at: u32, depth: u32) -> Read<Range> {
+    fn range(&mut self, token: &Token<'a>, depth: u32) -> Read<Range> {
         let local = self.binder(depth)?;
-        Ok(Range { at, local, bounds: self.terms(depth)?, formula: self.scoped(local, depth)? })
+        let bounds = self.terms(depth)?;
+        if self.strict && self.edition >= 3 && is_empty(&bounds) {
+            return refused(17, token.place);
+        }
+        Ok(Range { at: token.at, local, bounds, formula: self.scoped(local, depth)? })
     }
 
     fn terms(&mut self, depth: u32) -> Read<[Term; 2]> {
