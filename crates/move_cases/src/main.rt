@@ -1,8 +1,8 @@
-// The test program of the moves: it moves the sheets of its standard input to another edition and prints what comes out, until a byte is lost. The
-// file `stdin` beside src/ holds the cases and `stdout` what is due; tools/move_cases.py lists the cases and makes both files.
+// The test program of the moves: it moves the sheets of its standard input to another edition, or passes over them, and prints what comes out, until
+// a byte is lost. The file `stdin` beside src/ holds the cases and `stdout` what is due; tools/move_cases.py lists the cases and makes both files.
 //
-// A case is a line `up   WWWWW OOOOO LLLLL` or `down WWWWW OOOOO LLLLL`: the work words and output bytes that are lent, filled with rubbish, and
-// the length of the sheet, each of five decimal digits; then so many bytes of sheet and a line feed.
+// A case is a line `up   WWWWW OOOOO LLLLL`, or with `down` or `tidy` for `up`: the work words and output bytes that are lent, filled with rubbish,
+// and the length of the sheet, each of five decimal digits; then so many bytes of sheet and a line feed. Of the way only the first letter counts.
 //
 // Printed are `moved=`, the length of the moved sheet and then its bytes, or `refused=` and `at=`. Then `kept`, if all work words are zero and
 // the output beyond the moved sheet holds its rubbish; else `lost`.
@@ -23,7 +23,7 @@ const WORDS: usize = 6400;
 const OUTPUT: usize = 4352;
 
 fn main() {
-    let mut input = [0u8; 229376];
+    let mut input = [0u8; 393216];
     move_input(&mut input);
 }
 
@@ -56,7 +56,7 @@ fn move_case(cases: &[u8], at: usize) -> usize
         return malformed(cases);
     }
     let end = start + size;
-    if move_sheet(cases[at] == b'u', &cases[start..end], words, room) {
+    if move_sheet(cases[at], &cases[start..end], words, room) {
         return end + 1;
     }
     cases.len()
@@ -70,7 +70,7 @@ fn malformed(cases: &[u8]) -> usize
 }
 
 // Whether there was so much to lend, and all was printed.
-fn move_sheet(up: bool, sheet: &[u8], words: usize, room: usize) -> bool {
+fn move_sheet(way: u8, sheet: &[u8], words: usize, room: usize) -> bool {
     let mut work = [0u32; WORDS];
     let mut output = [0u8; OUTPUT];
     if WORDS < words {
@@ -79,24 +79,25 @@ fn move_sheet(up: bool, sheet: &[u8], words: usize, room: usize) -> bool {
     if OUTPUT < room {
         return false;
     }
-    move_lent(up, sheet, &mut work[..words], &mut output[..room])
+    move_lent(way, sheet, &mut work[..words], &mut output[..room])
 }
 
-fn move_lent(up: bool, sheet: &[u8], work: &mut [u32], output: &mut [u8]) -> bool {
+fn move_lent(way: u8, sheet: &[u8], work: &mut [u32], output: &mut [u8]) -> bool {
     rubbish::fill_words(work);
     rubbish::fill_bytes(output);
-    let moved = moved(up, sheet, work, output);
+    let moved = moved(way, sheet, work, output);
     if !print_move(moved, output) {
         return false;
     }
     print_kept(is_kept(moved, work, output))
 }
 
-fn moved(up: bool, sheet: &[u8], work: &mut [u32], output: &mut [u8]) -> Move {
-    if up {
-        return vodlasim::move_up(sheet, work, output);
+fn moved(way: u8, sheet: &[u8], work: &mut [u32], output: &mut [u8]) -> Move {
+    match way {
+        b'u' => vodlasim::move_up(sheet, work, output),
+        b'd' => vodlasim::move_down(sheet, work, output),
+        _ => vodlasim::tidy(sheet, work, output),
     }
-    vodlasim::move_down(sheet, work, output)
 }
 
 fn is_kept(moved: Move, work: &[u32], output: &[u8]) -> bool {
