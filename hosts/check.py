@@ -27,6 +27,7 @@ SHEETS, SETTINGS = 300, 3               # sheets for each run of the walker, and
 SHARE = 20                              # one case in so many goes through the host and the box
 GUARD = 64                              # bytes before and after each slice
 ENDS = ("done", "spent", "path", "output")
+REFUSALS = (*range(1, 15), 17)          # of a run; 15 and 16 are those of a move
 WORD = ctypes.c_uint32
 BOX = dict(path=512, budget=1000000, skip=0, output=4096, words=12288)
 FREE = dict(path=3000, budget=3000, skip=0, output=100000, words=walker.words_for(3000))
@@ -201,7 +202,7 @@ def main():
     given = arguments("--host", "--box")
     with tempfile.TemporaryDirectory() as folder:
         ended = check(given, folder)
-    ends = ENDS + tuple("refused %d" % number for number in range(1, 15))
+    ends = ENDS + tuple("refused %d" % number for number in REFUSALS)
     print("%d runs alike:" % sum(ended[end] for end in ends), ", ".join("%s %d" % (end, ended[end]) for end in ends))
     for program in ("host", "box"):
         if ended[program]:

@@ -1,9 +1,10 @@
-/* Runs a sheet by the library and prints what the box prints, or moves it to another edition.
+/* Runs a sheet by the library and prints what the box prints, moves it to another edition, or tidies it.
  *
  *   host SHEET PATH BUDGET SKIP OUTPUT [WORDS]
  *   host --parts SHEET PATH BUDGET [OUTPUT]
  *   host --up SHEET
  *   host --down SHEET
+ *   host --tidy SHEET
  *
  * SHEET is a file. WORDS defaults to what the path limit asks, 6,144 + 12 * PATH.
  *
@@ -11,8 +12,8 @@
  * sheet is run again, past the blocks that are printed, until a run ends otherwise than `output`, or has no room for one block. The lines after
  * the listing are those of the last run. On standard error there is a line for each part that another follows.
  *
- * With --up a sheet of edition 2 is printed as one of edition 3, with --down one of edition 3 as one of edition 2. Of a sheet that is refused
- * nothing is printed; its number and place go to standard error, and the exit status is 1.
+ * With --up a sheet of edition 2 is printed as one of edition 3, with --down one of edition 3 as one of edition 2, with --tidy one of edition 3
+ * without its empty ranges. Of a sheet that is refused nothing is printed; its number and place go to standard error, and the exit status is 1.
  *
  * The exit status is 1 where a byte was lost in printing, and nothing is printed after it; 2 where nothing was run or moved. */
 #include <stdio.h>
@@ -114,15 +115,28 @@ static int print_parts(const struct job *job, uint64_t report[8])
     return 1;
 }
 
+/* the calls that move a sheet */
+typedef void move_call(const uint8_t *, size_t, uint32_t *, size_t, uint8_t *, size_t, uint64_t[8]);
+
+/* the one that an option names, if it names one */
+static move_call *call_of(const char *option)
+{
+    if (strcmp(option, "--up") == 0)
+        return vodlasim_move_up;
+    if (strcmp(option, "--down") == 0)
+        return vodlasim_move_down;
+    return strcmp(option, "--tidy") == 0 ? vodlasim_tidy : NULL;
+}
+
 /* moves a sheet and prints it; the exit status */
-static int move(const char *name, int up)
+static int move(const char *name, move_call *call)
 {
     size_t len;
     uint64_t report[8];
     uint8_t *sheet = read_sheet(name, &len);
     uint32_t *work = room(4 * VODLASIM_MOVE_WORDS);
     uint8_t *output = room(VODLASIM_MOVE_OUTPUT);
-    (up ? vodlasim_move_up : vodlasim_move_down)(sheet, len, work, VODLASIM_MOVE_WORDS, output, VODLASIM_MOVE_OUTPUT, report);
+    call(sheet, len, work, VODLASIM_MOVE_WORDS, output, VODLASIM_MOVE_OUTPUT, report);
     int status = 0;
     if (report[VODLASIM_REFUSED]) {
         fprintf(stderr, "%s: refused with %llu at byte %llu\n", name, (unsigned long long)report[VODLASIM_REFUSED],
@@ -141,13 +155,12 @@ static int move(const char *name, int up)
 int main(int argc, char **argv)
 {
     const char *mode = argc > 1 ? argv[1] : "";
-    int up = strcmp(mode, "--up") == 0;
-    if (argc == 3 && (up || strcmp(mode, "--down") == 0))
-        return move(argv[2], up);
+    if (argc == 3 && call_of(mode))
+        return move(argv[2], call_of(mode));
     int in_parts = strcmp(mode, "--parts") == 0;
     if (in_parts ? argc != 5 && argc != 6 : argc != 6 && argc != 7) {
         fprintf(stderr, "usage: %s SHEET PATH BUDGET SKIP OUTPUT [WORDS]\n       %s --parts SHEET PATH BUDGET [OUTPUT]\n       %s --up SHEET\n"
-                "       %s --down SHEET\n", argv[0], argv[0], argv[0], argv[0]);
+                "       %s --down SHEET\n       %s --tidy SHEET\n", argv[0], argv[0], argv[0], argv[0], argv[0]);
         return 2;
     }
     char **args = argv + 1 + in_parts;

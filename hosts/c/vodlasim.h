@@ -28,10 +28,11 @@ enum {
 void vodlasim_run(const uint8_t *sheet, size_t sheet_len, uint32_t path_limit, uint32_t budget, uint32_t skip,
                   uint32_t *work, size_t work_len, uint8_t *output, size_t output_len, uint64_t report[8]);
 
-/* A sheet of edition 2 moved to edition 3, and one of edition 3 moved back. The moved sheet stands at the start of the output; past it, and
- * everywhere if the sheet is refused, the output is kept. The report has zeros from VODLASIM_END to VODLASIM_FAILS. */
+/* A sheet of edition 2 moved to edition 3, one of edition 3 moved back, and one of edition 3 tidied. The first and the last write what a `some` or
+ * `all` with an empty range of constants means: `eq 0 1` or `true`. The moved sheet stands at the start of the output; past it, and everywhere
+ * if the sheet is refused, the output is kept. The report has zeros from VODLASIM_END to VODLASIM_FAILS. */
 enum {
-    VODLASIM_MOVE_WORDS = 6144,     /* work words that a move needs */
+    VODLASIM_MOVE_WORDS = 6144,     /* work words that each of them needs */
     VODLASIM_MOVE_OUTPUT = 4096     /* and output bytes */
 };
 
@@ -39,6 +40,8 @@ void vodlasim_move_up(const uint8_t *sheet, size_t sheet_len, uint32_t *work, si
                       uint64_t report[8]);
 void vodlasim_move_down(const uint8_t *sheet, size_t sheet_len, uint32_t *work, size_t work_len, uint8_t *output, size_t output_len,
                         uint64_t report[8]);
+void vodlasim_tidy(const uint8_t *sheet, size_t sheet_len, uint32_t *work, size_t work_len, uint8_t *output, size_t output_len,
+                   uint64_t report[8]);
 
 /* The plotter's port. Its four registers are bytes that the host keeps; bits that have no name below are never changed. */
 enum {
