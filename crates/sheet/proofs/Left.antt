@@ -104,13 +104,6 @@ module _ (refusing : Bool) (D : Declared) where
       sym (then-assoc (λ u. leftHere refusing D d ds ts) (left refusing D es) (mark space r)) ∙
       ap (andThen (left refusing D es)) (sym (left-cons d ds ts r))
 
-  pub parseAll-++ : (ds es : List Due) (r : Reader) →
-      parseAll refusing D (ds ++ es) r ≡ (parseAll refusing D ds >>= λ xs. parseAll refusing D es >>= λ ys. give (xs ++ ys)) r
-  unfolding left
-  parseAll-++ ds es r =
-      sym (then-give (parseAll refusing D (ds ++ es) r)) ∙ left-++ ds es [] r ∙
-      ap (andThen (left refusing D es)) (then-give (parseAll refusing D ds r))
-
   pub left-front : (ds : List Due) (ts us : List Token) (r : Reader) →
       left refusing D ds (ts ++ us) r ≡ (left refusing D ds us >>= λ xs. give (ts ++ xs)) r
   unfolding left

@@ -20,7 +20,8 @@ use Rattle.specification.proofs.Laws.Contradiction.{contradiction}
 use Rattle.specification.proofs.Laws.Parser.{and-true}
 use Rattle.specification.proofs.Laws.ReadSheet.{read-well-formed}
 use Rattle.specification.proofs.Laws.SheetText.{read-text, strict-orderly}
-use Rattle.specification.proofs.Laws.Moves.{only-read, admitted-found, all-ranges}
+use Rattle.specification.proofs.Laws.Admitted.{only-read, admitted-found}
+use Rattle.specification.proofs.Laws.Moves.{all-ranges}
 use Rattle.tables.specs.Layout.{Words, pathAt}
 use Rattle.sheet.specs.declared.Reading.the-variants as reading
 use Rattle.sheet.specs.Whole.{readingOf, wordsOf}

@@ -21,6 +21,7 @@ use Rattle.specification.specs.Moves.{older, newer, raised, lowered, Result, re
 use Rattle.specification.specs.Moving.{Way, Carries, Moves, Accepted, Settles, Orderly, ThereAndBack, ListsAlike, RunsAsBefore}
 use Rattle.specification.proofs.Laws.Contradiction.{contradiction}
 use Rattle.specification.proofs.Laws.CallRan.{call-ran}
+use Rattle.specification.proofs.Laws.Admitted.{admitted-found}
 use Rattle.specification.proofs.Laws.Moves as laws
 use Rattle.specification.proofs.Laws.AsBefore as before
 use Rattle.vodlasim.specs.Lent.{Lent}
@@ -74,7 +75,7 @@ admitted-roomy strict edition move sheet t words size e = go (admitted strict ed
   where
     go : (x : Read Sheet) → admitted strict edition sheet words size ≡ x → afterReading move x ≡ moved t → longestSheet ≤ size
     go (refused n p) f g = contradiction cc
-    go (found s r) f g = laws.admitted-found strict edition sheet words size s r f .enough .1
+    go (found s r) f g = admitted-found strict edition sheet words size s r f .enough .1
 
 up-roomy : Roomy moveUp
 unfolding moveUp

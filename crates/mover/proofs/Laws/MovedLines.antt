@@ -25,7 +25,7 @@ use Rattle.mover.specs.Model.{lineLength, linesLength, headLines}
 -- ---- what does not stand in bytes and lists
 
 -- the byte does not stand in these, as a test
-abbrev pub lacking : ℕ → Bytes → Bool
+abbrev lacking : ℕ → Bytes → Bool
 lacking c [] = true
 lacking c (b ∷ bs) = not (eqb b c) && lacking c bs
 

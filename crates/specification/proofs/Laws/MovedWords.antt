@@ -12,21 +12,19 @@ use Rattle.specification.specs.Ast.{Formula, Procedure}
 use Rattle.specification.specs.Words.{Word, formulaWord, termWord, numberWord, unknown}
 use Rattle.specification.specs.Sheet.{Sheet}
 use Rattle.specification.specs.Text.{formulaWords, wordText, procedureKey, procedureText}
-use Rattle.specification.specs.Tidy.{tidied}
 use Rattle.specification.specs.Moves.{older, newer, isRounding, roundingAt, orElse, roundingFrom, roundingIn}
 use Rattle.specification.proofs.Laws.Contradiction.{contradiction}
 use Rattle.specification.proofs.Laws.Spelling.{belongs-newer, belongs-older, older-rounds-not}
 use Rattle.specification.proofs.Laws.WordPieces.{Fits}
-use Rattle.specification.proofs.Laws.TidiedSheet.{words-tidied}
 
 -- ---- words that round down
 
 -- none of these does
-abbrev pub Unrounded : List Word → Type 0
+abbrev Unrounded : List Word → Type 0
 Unrounded ws = Each (λ w. isRounding w ≡ false) ws
 
 -- none in these procedures
-abbrev pub EachUnrounded : List Procedure → Type 0
+abbrev EachUnrounded : List Procedure → Type 0
 EachUnrounded Ps = Each (λ P. Unrounded (formulaWords (P .formula))) Ps
 
 -- none in a sheet
@@ -75,11 +73,6 @@ unrounded-none s h = unrounded-from _ (s .declared .procedures) (s .formula) (h 
 pub rounding-none : (s : Sheet) → roundingIn s ≡ none → AllUnrounded s
 unfolding roundingIn
 rounding-none s e = from-unrounded _ (s .declared .procedures) (s .formula) e
-
--- tidying writes none
-pub unrounded-tidied : (s : Sheet) → AllUnrounded s → AllUnrounded (tidied s)
-unfolding isRounding
-unrounded-tidied s h = words-tidied (λ w. isRounding w ≡ false) (refl, refl, refl, refl) s h
 
 -- ---- the words of one edition in the other
 

@@ -32,11 +32,9 @@ use Rattle.specification.proofs.Laws.Strict.{Agree, strict-read, older-
 use Rattle.specification.proofs.Laws.TidiedSheet.{tidied-orderly}
 use Rattle.specification.proofs.Laws.SheetText.{read-text, words-fit, tidied-same, text-in, text-tidied, strict-orderly}
 use Rattle.specification.proofs.Laws.InEdition.{Wide, run-alike, replicate-all, all-replicate, raised-ranges, lowered-ranges, narrow-none, none-narrow}
-use Rattle.specification.proofs.Laws.MovedWords.{fits-newer, fits-older, fits-unrounded, unrounded-none}
+use Rattle.specification.proofs.Laws.MovedWords.{AllUnrounded, rounding-none, fits-newer, fits-older, fits-unrounded, unrounded-none}
 use Rattle.specification.proofs.Laws.Shorter.{tidied-shorter, lowered-shorter}
-use Rattle.specification.proofs.Laws.Admitted.{fitted-moved, fits-moved, unless-moved, from-moved, from-refused, moves-from, admitted-agrees}
-pub use Rattle.specification.proofs.Laws.MovedWords.{Unrounded, AllUnrounded, rounding-none, unrounded-tidied}
-pub use Rattle.specification.proofs.Laws.Admitted.{only-read, admitted-found}
+use Rattle.specification.proofs.Laws.Admitted.{only-read, admitted-found, fitted-moved, fits-moved, unless-moved, from-moved, from-refused, moves-from, admitted-agrees}
 
 -- ---- the ranges and the words of each edition
 
@@ -58,7 +56,7 @@ everything-sound zero = tt
 everything-sound (suc n) = (record { low = refl; high = refl; ordered = refl }, everything-sound n)
 
 -- no word of the older edition rounds down
-pub older-unrounded : (strict : Bool) (b : Bytes) (s : Sheet) (r : Reader) → readWith strict b ≡ found s r → s .declared .edition ≡ older →
+older-unrounded : (strict : Bool) (b : Bytes) (s : Sheet) (r : Reader) → readWith strict b ≡ found s r → s .declared .edition ≡ older →
     AllUnrounded s
 older-unrounded strict b s r e d =
     let (procedures, formula) = words-fit strict b e in (

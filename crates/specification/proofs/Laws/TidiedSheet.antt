@@ -1,17 +1,14 @@
 -- A tidied sheet has no empty range, and tidying it again changes nothing; nor does tidying any sheet without one whose tokens have the numbers
--- that they get. Its words are those of the sheet, but for `eq 0 1` and `true`. Assumes nothing.
+-- that they get. Assumes nothing.
 use Prim.Native.Nat.{ℕ}
 use mathlib.Core.Path.{_≡_, refl, sym, _∙_, ap, subst}
 use mathlib.Core.Bool.{false}
 use mathlib.Core.List.{List, [], _∷_, _++_, append-assoc, append-nil}
-use Rattle.specification.specs.Lists.{Each}
 use Rattle.specification.specs.Ast.{Formula, Procedure}
-use Rattle.specification.specs.Words.{Word}
 use Rattle.specification.specs.Sheet.{withProcedures, Sheet}
-use Rattle.specification.specs.Text.{formulaWords}
 use Rattle.specification.specs.Tidy.{hasEmpty, anyEmpty, hasEmptyRange, dropped, numbered, tokensBefore, tidiedFormula, tidiedProcedure, tidiedProcedures, tidied}
 use Rattle.specification.proofs.Laws.Legible.{counts}
-use Rattle.specification.proofs.Laws.Tidied.{words-numbered, numbered-twice, empty-numbered, dropped-orderly, or-false, dropped-same, OfWritten, each-dropped}
+use Rattle.specification.proofs.Laws.Tidied.{numbered-twice, empty-numbered, dropped-orderly, or-false, dropped-same}
 
 -- ---- the lines of procedures
 
@@ -102,31 +99,6 @@ tidied-twice s =
       formula = formula-numbered (tidiedProcedures [] Ps) (s .formula);
     })
     (tidied-orderly s)
-
--- ---- its words
-
-module _ (P : Word → Type 0) (o : OfWritten P) where
-  each-formula : (Ps : List Procedure) (F : Formula) → Each P (formulaWords F) → Each P (formulaWords (tidiedFormula Ps F))
-  each-formula Ps F h =
-      subst (λ (ws : List Word). Each P ws) (sym (words-numbered Ps (tokensBefore Ps) (dropped F))) (each-dropped P o F h)
-
-  each-lines : (done Ps : List Procedure) → Each (λ Q. Each P (formulaWords (Q .formula))) Ps →
-      Each (λ Q. Each P (formulaWords (Q .formula))) (tidiedAfter done Ps)
-  unfolding tidiedAfter Each
-  each-lines done [] h = tt
-  each-lines done (Q ∷ Ps) h = (each-formula done (Q .formula) (h .0), each-lines (withLine done (tidiedProcedure done Q)) Ps (h .1))
-
-  -- all words of a sheet
-  abbrev AllWords : Sheet → Type 0
-  AllWords s = Each (λ Q. Each P (formulaWords (Q .formula))) (s .declared .procedures) × Each P (formulaWords (s .formula))
-
-  pub words-tidied : (s : Sheet) → AllWords s → AllWords (tidied s)
-  unfolding tidied
-  words-tidied s (h, k) =
-      let Ps = s .declared .procedures in (
-        subst (λ (Qs : List Procedure). Each (λ Q. Each P (formulaWords (Q .formula))) Qs) (sym (tidied-after [] Ps)) (each-lines [] Ps h),
-        each-formula (tidiedProcedures [] Ps) (s .formula) k,
-      )
 
 -- each procedure keeps its parameters
 pub counts-tidied : (done Ps : List Procedure) → counts (tidiedAfter done Ps) ≡ counts Ps
