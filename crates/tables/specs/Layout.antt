@@ -1,6 +1,6 @@
 -- The layout of the work words: where each table begins, how many entries it may have, and the words of each entry.
 --
---   tokens     4 words each: code, operand, the token after its subtree, spare
+--   tokens     4 words each: code, operand, the token after its subtree, and one that the plan fills (crates/plan)
 --   cells      2 words each, a slot: whether it has a value, and the value's word; without a value its mark (specs/Ranges.antt)
 --   locals     2 words each, the same
 --   firsts     the first cell of each array, and the end of the cells after the last
@@ -166,6 +166,10 @@ operandAt w i = getD w (tokenSlot i + 1) 0
 -- the number of the token after its subtree
 abbrev pub endAt : Words → ℕ → ℕ
 endAt w i = getD w (tokenSlot i + 2) 0
+
+-- the word that the plan fills
+abbrev pub planAt : Words → ℕ → ℕ
+planAt w i = getD w (tokenSlot i + 3) 0
 
 -- 0 where cell c has no value
 abbrev pub flagAt : Words → ℕ → ℕ
