@@ -8,6 +8,8 @@ ghost use Rattle.values.specs.Word.{signed, Narrow};
 ghost use Rattle.values.specs.Packed.{packed};
 ghost use Rattle.values.specs.Rounded.{opposite, roundedDown};
 
+pub mod exact;
+
 // The ends of 32 bits.
 const LEAST: i64 = -2147483648;
 
@@ -106,8 +108,8 @@ struct Divided {
     rest: i64,
 }
 
-// One less than toward zero where that leaves a rest on the other side of 0 than the divisor. It has two callers, so that the compiler keeps it out of
-// the loop over a term's tokens, where every subtraction would cost an instruction more.
+// One less than toward zero where that leaves a rest on the other side of 0 than the divisor. It has several callers, so that the compiler keeps it
+// out of the loop over a term's tokens, where every subtraction would cost an instruction more.
 fn rounded(x: i64, y: i64) -> Divided
     requires { ⌜ Narrow x × Narrow y × ¬ (y ≡ pos 0) ⌝ }
     ensures { λ r. ⌜ r ≡ roundedDown x y ⌝ }
