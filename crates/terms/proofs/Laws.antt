@@ -25,3 +25,18 @@ pub mod Settle
 pub mod Tags
 pub mod Filling
 pub mod Enter
+-- of plans: numbers, steps in 64 bits, slots, what numbers tell, planned terms, where their instructions lead, the results in the words, operands,
+-- instructions, the loop over them, two terms, the plan before the full evaluation
+pub mod Numbers
+pub mod Bits
+pub mod Slots
+pub mod Told
+pub mod Plans
+pub mod Leads
+pub mod Pile
+pub mod Operands
+pub mod Instructions
+pub mod Course
+pub mod Joined
+pub mod TwoTerms
+pub mod Tried

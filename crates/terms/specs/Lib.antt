@@ -4,3 +4,5 @@ pub mod Results
 pub mod Machine
 pub mod Parts
 pub mod Calls
+pub mod Told
+pub mod Quick

@@ -97,7 +97,7 @@ fn refresh(w: &mut [u32], env: u32)
 }
 
 // The same, but outside calls it is one comparison. (`enter` does without, so that `refresh` has two callers: the compiler then makes it no part
-// of this function, and this function a part of `sides`.)
+// of this function, and this function a part of `full`.)
 pub(crate) fn settle(w: &mut [u32], env: u32)
     requires { ⌜ Settles (now w) env ⌝ }
     ensures { λ _. ⌜ Settled (now (w .entry)) (now (w .exit)) env ⌝ }

@@ -43,7 +43,7 @@ pub some-errs : {w : Words} {r : Regs} (x : Entered w r someCode) → Errs w r (
 some-errs x = range-errs some-quantifier x
 
 module _
-    {w w' : Words} {r : Regs} {s : Sides} (x : Entered w r someCode) (v : Valued w w' (r .due .head + 2) (bodyOf w (r .due .head)) (r .due .env) s) (l : s .ltag ≡ valueTag)
+    {w w' : Words} {r : Regs} {s : Sides} (x : Entered w r someCode) (v : Valued w w' (r .due .head) (r .due .head + 2) (bodyOf w (r .due .head)) (r .due .env) s) (l : s .ltag ≡ valueTag)
     (h : s .rtag ≡ valueTag) where
   -- no value: a failure leaf
   pub some-none : s .right < s .left → OneLeaf w' r (bareDue failureJob)
@@ -81,7 +81,7 @@ pub all-errs : {w : Words} {r : Regs} (x : Entered w r allCode) → Errs w r (r 
 all-errs x = range-errs all-quantifier x
 
 module _
-    {w w' : Words} {r : Regs} {s : Sides} (x : Entered w r allCode) (v : Valued w w' (r .due .head + 2) (bodyOf w (r .due .head)) (r .due .env) s) (l : s .ltag ≡ valueTag)
+    {w w' : Words} {r : Regs} {s : Sides} (x : Entered w r allCode) (v : Valued w w' (r .due .head) (r .due .head + 2) (bodyOf w (r .due .head)) (r .due .env) s) (l : s .ltag ≡ valueTag)
     (h : s .rtag ≡ valueTag) where
   -- no value: go on
   pub all-none : s .right < s .left → GoesOn w' r

@@ -125,6 +125,7 @@ module _ {w : Words} {r : Regs} (x : Entered w r callCode) {c : World} {o : Byte
   body-stands = record {
     held = body-held .formula;
     good = record { scope = scope; locals = calling .arguments .locals; ok = frozen-filled; shallow = body-held .shallow };
+    planned = tt;
   }
 
   call-tree : tree c (i .fr) (i .x) (i .α) ≡ step (son c (i .fr) (the (form inside procedure ∷ found .is)) (i .α))

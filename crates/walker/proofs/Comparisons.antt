@@ -56,7 +56,7 @@ module _ {n : ℕ} {w : Words} {r : Regs} (x : Entered w r n) (low : neCode ≤ 
   unfolding compare-terms growAt compared fill
   compare-errs c o i κ e = let a = at-form i (x .formula) (x .code) in form-tree i a ∙ rw (comparing c o i .2 .is, e)
 
-  pub compare-tested : {w' : Words} {s : Sides} (v : Valued w w' (r .due .head + 1) (endAt w (r .due .head)) (r .due .env) s) → s .ltag ≡ valueTag → s .rtag ≡ valueTag →
+  pub compare-tested : {w' : Words} {s : Sides} (v : Valued w w' (r .due .head) (r .due .head + 1) (endAt w (r .due .head)) (r .due .env) s) → s .ltag ≡ valueTag → s .rtag ≡ valueTag →
       (b : Bool) → Compares n (s .left) (s .right) b → Tested w' r b
   unfolding compare-terms back in-spare growAt compared pairOf fill
   compare-tested {w'} {s} v l h b k = record {

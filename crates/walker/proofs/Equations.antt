@@ -59,7 +59,7 @@ module _ {w : Words} {r : Regs} (x : Entered w r eqCode) where
         };
   }
 
-  module _ {w' : Words} {s : Sides} (v : Valued w w' (r .due .head + 1) (endAt w (r .due .head)) (r .due .env) s) where
+  module _ {w' : Words} {s : Sides} (v : Valued w w' (r .due .head) (r .due .head + 1) (endAt w (r .due .head)) (r .due .env) s) where
     abbrev lefts : (c : World) (o : Bytes) → In c o w' r → Side
     lefts c o i = left-side eq-terms v c o i
 

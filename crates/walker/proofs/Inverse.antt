@@ -3,6 +3,7 @@ use Prim.Native.Nat.{ℕ, suc, _≤_, _<_}
 use native.Mathlib.Omega.{arith}
 use mathlib.Core.Path.{_≡_, refl, sym, ap, subst}
 use mathlib.Core.Bool.{Bool, true, false}
+use mathlib.Core.List.{[], _∷_}
 use lib.Dec.{T, eqb}
 use borrow.Author.Tests.{eqb-true, ne-eqb}
 use Rattle.specification.specs.Bytes.{pick}
@@ -15,9 +16,10 @@ use Rattle.tables.specs.Codes.{firstFormula, allCode, trueCode, andCode, orCode
 use Rattle.sheet.specs.Tables.{Words}
 use Rattle.sheet.specs.Codes.{relCode}
 use Rattle.sheet.specs.Held.{codeAt, endAt, TermsAt, LocalAt, FormulaAt, height, Shallow}
+use Rattle.plan.specs.Planned.{TermsPlanned, FormulaPlanned}
 use Rattle.terms.specs.Environment.{Environment, termsOf, numberOf}
 use Rattle.terms.proofs.Laws.Here.{term-ends}
-use Rattle.walker.specs.Stands.{filled, Good, Stands, bodyOf}
+use Rattle.walker.specs.Stands.{filled, Good, PlannedIn, TermsPlannedIn, Stands, bodyOf}
 use Rattle.walker.proofs.Here.{formula-ends}
 use Rattle.walker.proofs.Under.{TermsIn, Both, Atom, Ranges, Compared, Says}
 
@@ -41,37 +43,57 @@ module _ {D : Declared} {E : Environment} where
   in-scope g l G h o s =
       record { scope = enter (g .scope) l; locals = enter-locals (g .scope) l (g .locals) h; ok = o; shallow = s }
 
+-- ---- the plan of what stands under a token
+
+module _ (t : Words) (h : ℕ) where
+  -- two formulas
+  both-planned : (E : Environment) (A B F : Formula) → (FormulaPlanned t h F → FormulaPlanned t (suc h) A × FormulaPlanned t (endAt t (suc h)) B) →
+      PlannedIn E t h F → PlannedIn E t (suc h) A × PlannedIn E t (endAt t (suc h)) B
+  both-planned [] A B F f p = f p
+  both-planned (L ∷ E) A B F f p = (tt, tt)
+
+  -- one
+  one-planned : (E : Environment) (i : ℕ) (A F : Formula) → (FormulaPlanned t h F → FormulaPlanned t i A) → PlannedIn E t h F → PlannedIn E t i A
+  one-planned [] i A F f p = f p
+  one-planned (L ∷ E) i A F f p = tt
+
+  -- two terms
+  terms-planned : (E : Environment) (i : ℕ) (x y : Term) (F : Formula) → (FormulaPlanned t h F → TermsPlanned t h i x y) → PlannedIn E t h F →
+      TermsPlannedIn E t h i x y
+  terms-planned [] i x y F f p = f p
+  terms-planned (L ∷ E) i x y F f p = tt
+
 -- ---- the inversion
 
-terms-in : {D : Declared} {t : Words} {E : Environment} {F : Formula} (g : Good D E F) (i e : ℕ) (x y : Term) → TermsAt t i e x y →
+terms-in : {D : Declared} {t : Words} {E : Environment} {F : Formula} {h : ℕ} (g : Good D E F) (i e : ℕ) (x y : Term) → TermsAt t i e x y →
     OkTerm D (g .scope) (fillTerm (termsOf E) x) → OkTerm D (g .scope) (fillTerm (termsOf E) y) → height x ≤ maxNesting → height y ≤ maxNesting →
-    TermsIn D t E i e x y
-terms-in g i e x y q ox oy hx hy =
-    record { terms = q; scope = g .scope; locals = g .locals; left = ox; right = oy; left-low = hx; right-low = hy }
+    h < i → TermsPlannedIn E t h i x y → TermsIn D t E h i e x y
+terms-in g i e x y q ox oy hx hy l p =
+    record { terms = q; scope = g .scope; locals = g .locals; left = ox; right = oy; left-low = hx; right-low = hy; before = l; planned = p }
 
 module _ {D : Declared} {t : Words} {E : Environment} {h : ℕ} where
   both : (make : Formula → Formula → Formula) (A B F : Formula) → F ≡ make A B → FormulaAt t (suc h) A → FormulaAt t (endAt t (suc h)) B →
-      Good D E A → Good D E B → Both D t E h make F
-  both make A B F e a b ga gb =
+      Good D E A → Good D E B → PlannedIn E t (suc h) A × PlannedIn E t (endAt t (suc h)) B → Both D t E h make F
+  both make A B F e a b ga gb p =
       let ea = formula-ends t (suc h) A a in
       let eb = formula-ends t (endAt t (suc h)) B b in
       record {
         first = A;
         second = B;
         is = e;
-        left = record { held = a; good = ga };
-        right = record { held = b; good = gb };
+        left = record { held = a; good = ga; planned = p .0 };
+        right = record { held = b; good = gb; planned = p .1 };
         near = omega (arith, ea .after, ea .inside);
         far = omega (arith, eb .after, eb .inside);
       }
 
-  atom : (make : Term → Term → Formula) (x y : Term) (F : Formula) → F ≡ make x y → TermsIn D t E (suc h) (endAt t h) x y → Atom D t E h make F
+  atom : (make : Term → Term → Formula) (x y : Term) (F : Formula) → F ≡ make x y → TermsIn D t E h (suc h) (endAt t h) x y → Atom D t E h make F
   atom make x y F e q =
       let z = term-ends t (suc h) x (q .terms .0) in
       record { left = x; right = y; is = e; terms = q; near = omega (arith, z .after, z .inside) }
 
   ranges : (make : ℕ → Term → Term → Formula → Formula) (l : ℕ) (a b : Term) (A F : Formula) → F ≡ make l a b A → LocalAt t (suc h) l → l < maxLocals →
-      TermsIn D t E (suc (suc h)) (bodyOf t h) a b → Stands D t E (bodyOf t h) A → Ranges D t E h make F
+      TermsIn D t E h (suc (suc h)) (bodyOf t h) a b → Stands D t E (bodyOf t h) A → Ranges D t E h make F
   ranges make l a b A F e q s ts f =
       let z = term-ends t (suc (suc h)) a (ts .terms .0) in
       let y = term-ends t (endAt t (suc (suc h))) b (ts .terms .1) in
@@ -106,16 +128,18 @@ module _ {D : Declared} {t : Words} {E : Environment} {h : ℕ} where
   code-says (and A B) s =
       let g = s .good in
       rw (s .held .0 .code)
-      (both and A B (and A B) refl (s .held .1) (s .held .2) (same-scope g A (g .ok .0) (g .shallow .0)) (same-scope g B (g .ok .1) (g .shallow .1)))
+      (both and A B (and A B) refl (s .held .1) (s .held .2) (same-scope g A (g .ok .0) (g .shallow .0)) (same-scope g B (g .ok .1) (g .shallow .1))
+      (both-planned t h E A B (and A B) (λ p. p) (s .planned)))
   code-says (or A B) s =
       let g = s .good in
       rw (s .held .0 .code)
-      (both or A B (or A B) refl (s .held .1) (s .held .2) (same-scope g A (g .ok .0) (g .shallow .0)) (same-scope g B (g .ok .1) (g .shallow .1)))
+      (both or A B (or A B) refl (s .held .1) (s .held .2) (same-scope g A (g .ok .0) (g .shallow .0)) (same-scope g B (g .ok .1) (g .shallow .1))
+      (both-planned t h E A B (or A B) (λ p. p) (s .planned)))
   code-says (imp n A B) s =
       let g = s .good in
       rw (s .held .0 .code)
       (both (imp h) A B (imp n A B) (ap (λ k. imp k A B) (s .held .1)) (s .held .2) (s .held .3)
-      (same-scope g A (g .ok .0) (g .shallow .0)) (same-scope g B (g .ok .1) (g .shallow .1)))
+      (same-scope g A (g .ok .0) (g .shallow .0)) (same-scope g B (g .ok .1) (g .shallow .1)) (both-planned t h E A B (imp n A B) (λ p. p) (s .planned)))
   code-says (neg n A) s =
       let g = s .good in
       let z = formula-ends t (suc h) A (s .held .2) in
@@ -123,20 +147,22 @@ module _ {D : Declared} {t : Words} {E : Environment} {h : ℕ} where
       (record {
         first = A;
         is = ap (λ k. neg k A) (s .held .1);
-        under = record { held = s .held .2; good = same-scope g A (g .ok) (g .shallow) };
+        under = record { held = s .held .2; good = same-scope g A (g .ok) (g .shallow); planned = one-planned t h E (suc h) A (neg n A) (λ p. p) (s .planned) };
         near = omega (arith, z .after, z .inside);
       })
   code-says (eq n x y) s =
       let g = s .good in
       rw (s .held .0 .code)
       (atom (eq h) x y (eq n x y) (ap (λ k. eq k x y) (s .held .1))
-      (terms-in g (suc h) (endAt t h) x y (s .held .2) (g .ok .0) (g .ok .1) (g .shallow .0) (g .shallow .1)))
+      (terms-in g (suc h) (endAt t h) x y (s .held .2) (g .ok .0) (g .ok .1) (g .shallow .0) (g .shallow .1) (omega arith)
+      (terms-planned t h E (suc h) x y (eq n x y) (λ p. p) (s .planned))))
   code-says (compare n r x y) s =
       let g = s .good in
       subst (λ k. Says D t E h k (compare n r x y)) (sym (s .held .0 .code))
       (says-rel r (compare n r x y)
       (atom (compare h r) x y (compare n r x y) (ap (λ k. compare k r x y) (s .held .1))
-      (terms-in g (suc h) (endAt t h) x y (s .held .2) (g .ok .0) (g .ok .1) (g .shallow .0) (g .shallow .1))))
+      (terms-in g (suc h) (endAt t h) x y (s .held .2) (g .ok .0) (g .ok .1) (g .shallow .0) (g .shallow .1) (omega arith)
+      (terms-planned t h E (suc h) x y (compare n r x y) (λ p. p) (s .planned)))))
   code-says (ex l A) s =
       let g = s .good in
       let z = formula-ends t (suc (suc h)) A (s .held .2) in
@@ -147,21 +173,35 @@ module _ {D : Declared} {t : Words} {E : Environment} {h : ℕ} where
         is = refl;
         local = s .held .1;
         small = g .shallow .0;
-        under = record { held = s .held .2; good = in-scope g l A (g .shallow .0) (g .ok .2) (g .shallow .1) };
+        under = record {
+          held = s .held .2;
+          good = in-scope g l A (g .shallow .0) (g .ok .2) (g .shallow .1);
+          planned = one-planned t h E (suc (suc h)) A (ex l A) (λ p. p) (s .planned);
+        };
         near = omega (arith, z .after, z .inside);
       })
   code-says (some n l a b A) s =
       let g = s .good in
       rw (s .held .0 .code)
       (ranges (some h) l a b A (some n l a b A) (ap (λ k. some k l a b A) (s .held .1)) (s .held .2) (g .shallow .2)
-      (terms-in g (suc (suc h)) (bodyOf t h) a b (s .held .3) (g .ok .0) (g .ok .1) (g .shallow .0) (g .shallow .1))
-      (record { held = s .held .4; good = in-scope g l A (g .shallow .2) (g .ok .4) (g .shallow .3) }))
+      (terms-in g (suc (suc h)) (bodyOf t h) a b (s .held .3) (g .ok .0) (g .ok .1) (g .shallow .0) (g .shallow .1) (omega arith)
+      (terms-planned t h E (suc (suc h)) a b (some n l a b A) (λ p. p .0) (s .planned)))
+      (record {
+        held = s .held .4;
+        good = in-scope g l A (g .shallow .2) (g .ok .4) (g .shallow .3);
+        planned = one-planned t h E (bodyOf t h) A (some n l a b A) (λ p. p .1) (s .planned);
+      }))
   code-says (all n l a b A) s =
       let g = s .good in
       rw (s .held .0 .code)
       (ranges (all h) l a b A (all n l a b A) (ap (λ k. all k l a b A) (s .held .1)) (s .held .2) (g .shallow .2)
-      (terms-in g (suc (suc h)) (bodyOf t h) a b (s .held .3) (g .ok .0) (g .ok .1) (g .shallow .0) (g .shallow .1))
-      (record { held = s .held .4; good = in-scope g l A (g .shallow .2) (g .ok .4) (g .shallow .3) }))
+      (terms-in g (suc (suc h)) (bodyOf t h) a b (s .held .3) (g .ok .0) (g .ok .1) (g .shallow .0) (g .shallow .1) (omega arith)
+      (terms-planned t h E (suc (suc h)) a b (all n l a b A) (λ p. p .0) (s .planned)))
+      (record {
+        held = s .held .4;
+        good = in-scope g l A (g .shallow .2) (g .ok .4) (g .shallow .3);
+        planned = one-planned t h E (bodyOf t h) A (all n l a b A) (λ p. p .1) (s .planned);
+      }))
   code-says (call K ts A) s =
       let g = s .good in
       rw (s .held .0 .code)

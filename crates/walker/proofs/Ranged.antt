@@ -120,7 +120,7 @@ module _ {n : ℕ} (Q : Quantifier n) {w : Words} {r : Regs} (x : Entered w r n)
   unfolding bounded range-terms
   range-errs c o i κ e = grown c o i ∙ rw e
 
-  module _ {w' : Words} {s : Sides} (v : Valued w w' (r .due .head + 2) (bodyOf w (r .due .head)) (r .due .env) s) (l : s .ltag ≡ valueTag) (h : s .rtag ≡ valueTag) where
+  module _ {w' : Words} {s : Sides} (v : Valued w w' (r .due .head) (r .due .head + 2) (bodyOf w (r .due .head)) (r .due .env) s) (l : s .ltag ≡ valueTag) (h : s .rtag ≡ valueTag) where
     -- the values of the bounds, and the tree by them
     pub record Valuable (c : World) (o : Bytes) (i : In c o w' r) : Type 0 where
       pub y : ℤ

@@ -1,9 +1,10 @@
 -- Two terms of the node's formula, as `terms::sides` gives them: an error on either side leads to an error leaf; else each is a bare place
 -- or has a value. Assumes nothing.
-use Prim.Native.Nat.{ℕ}
+use Prim.Native.Nat.{ℕ, _<_}
 use native.Mathlib.Omega.{arith}
 use mathlib.Core.Path.{_≡_, refl, sym, _∙_, ap, subst}
 use mathlib.Core.Bool.{Bool, true, false}
+use mathlib.Core.List.{[], _∷_}
 use lib.IntN.{ℤ}
 use Rattle.specification.specs.Bytes.{Bytes}
 use Rattle.specification.specs.Lines.{Declared}
@@ -17,7 +18,9 @@ use Rattle.specification.proofs.Laws.Value.{sane-val}
 use Rattle.values.specs.Word.{biased, signed}
 use Rattle.values.proofs.Laws.Word.{signed-biased}
 use Rattle.sheet.specs.Tables.{Words}
-use Rattle.sheet.specs.Held.{slotOf}
+use Rattle.sheet.specs.Held.{TermsAt, slotOf}
+use Rattle.plan.specs.Planned.{TermsPlanned}
+use Rattle.plan.proofs.Laws.Carried.{terms-planned-here}
 use Rattle.terms.specs.declared.Sides.{Sides}
 use Rattle.terms.specs.Environment.{Environment, termsOf, EnvAt, Memory}
 use Rattle.terms.specs.Results.{tagOf, wordOf, sidesOf, span, Given, Asked, Valued, valueTag, bareTag}
@@ -25,6 +28,7 @@ use Rattle.terms.proofs.Laws.Here.{terms-here}
 use Rattle.walker.specs.declared.Regs.{Regs}
 use Rattle.walker.specs.Frame as frames
 use Rattle.walker.specs.Path.{World}
+use Rattle.walker.specs.Stands.{TermsPlannedIn}
 use Rattle.walker.specs.Sim.{tree, In}
 use Rattle.walker.specs.Steps.{Visited, OneLeaf, BothValues, FaultOf}
 use Rattle.walker.specs.Registers.{errorDue}
@@ -46,8 +50,14 @@ module _ {c : World} {o : Bytes} {w : Words} {r : Regs} (i : In c o w r) where
     size = omega (arith, i .path .size, i .path .inside);
   }
 
+  -- outside of procedures the plan tells of them
+  planned : (E : Environment) (h from to : ℕ) (a b : Term) → EnvAt (c .declared) w (r .depth) (r .due .env) E → TermsAt (c .tables) from to a b → h < from →
+      TermsPlannedIn E (c .tables) h from a b → r .due .env ≡ 0 → TermsPlanned w h from a b
+  planned [] h from to a b v q l p none = terms-planned-here (c .tables) w (i .path .tokens) h from to a b q l p
+  planned (L ∷ E) h from to a b v q l p none = absurd (omega (arith, v .some))
+
   pub given : (from to : ℕ) (E : Environment) (a b : Term) → EnvAt (c .declared) w (r .depth) (r .due .env) E →
-      TermsIn (c .declared) (c .tables) E from to a b → Given w (span from to) (r .due .env) (c .declared) (i .α) E a b
+      TermsIn (c .declared) (c .tables) E (r .due .head) from to a b → Given w (r .due .head) (span from to) (r .due .env) (c .declared) (i .α) E a b
   given from to E a b v t = record {
     depth = r .depth;
     memory = memory E v;
@@ -58,6 +68,8 @@ module _ {c : World} {o : Bytes} {w : Words} {r : Regs} (i : In c o w r) where
     right = t .right;
     left-low = t .left-low;
     right-low = t .right-low;
+    before = t .before;
+    planned = planned E (r .due .head) from to a b v (t .terms) (t .before) (t .planned);
   }
 
 -- ---- by the tags
@@ -96,7 +108,7 @@ has-place (err κ) w e h = absurd (omega arith)
 value-is : (D : Declared) (S : scopes.Scope) (α : Valuation) → scopes.Valid D α → (t : Term) → scopes.OkTerm D S t → (w : ℕ) (z : ℤ) → side D α t ≡ val z → w ≡ biased z → signed w ≡ z
 value-is D S α v t ok w z e h = ap signed h ∙ signed-biased z (sane-val D S α v t ok z e)
 
-pub both-values : {w w' : Words} {from to env : ℕ} {s : Sides} → Valued w w' from to env s → (b : Bool) → b ≡ true → BothValues s b → BothValues s true
+pub both-values : {w w' : Words} {h from to env : ℕ} {s : Sides} → Valued w w' h from to env s → (b : Bool) → b ≡ true → BothValues s b → BothValues s true
 both-values v b e h = rw e at h
 
 -- ---- the two terms of the node's formula
@@ -106,7 +118,7 @@ pub record Operands (c : World) (w : Words) (r : Regs) (from to : ℕ) : Type 0 
   pub E : Environment
   pub left : Term
   pub right : Term
-  pub terms : TermsIn (c .declared) (c .tables) E from to left right
+  pub terms : TermsIn (c .declared) (c .tables) E (r .due .head) from to left right
   pub env : EnvAt (c .declared) w (r .depth) (r .due .env) E
 
 -- what they are under a valuation
@@ -121,7 +133,7 @@ pub record Terms (w : Words) (r : Regs) (from to : ℕ) : Type 0 where
   pub at : Visited w r
   pub both : (c : World) (o : Bytes) → In c o w r → Operands c w r from to
 
-pub terms-asked : {w : Words} {r : Regs} {from to : ℕ} → Terms w r from to → Asked w from to (r .due .env)
+pub terms-asked : {w : Words} {r : Regs} {from to : ℕ} → Terms w r from to → Asked w (r .due .head) from to (r .due .env)
 terms-asked {from = from} {to = to} p =
     let q = p .both (p .at .c) (p .at .o) (p .at .ins) in
     record {
@@ -140,7 +152,7 @@ Errs w r from to p =
     pairOf (leftOf (p .both c o i) (i .α)) (rightOf (p .both c o i) (i .α)) ≡ faulty κ →
     tree c (i .fr) (i .x) (i .α) ≡ step (errorLeaf κ (r .due .head) (i .α))
 
-module _ {w w' : Words} {r : Regs} {from to : ℕ} {s : Sides} (p : Terms w r from to) (v : Valued w w' from to (r .due .env) s) where
+module _ {w w' : Words} {r : Regs} {from to : ℕ} {s : Sides} (p : Terms w r from to) (v : Valued w w' (r .due .head) from to (r .due .env) s) where
   -- the invariant before the evaluation, from the one after it
   unfoldable pub back : {c : World} {o : Bytes} → In c o w' r → In c o w r
   back i = in-spare w' w (λ k h. sym (v .kept k h)) (sym (v .size)) i

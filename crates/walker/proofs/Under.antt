@@ -14,7 +14,7 @@ use Rattle.sheet.specs.Tables.{Words}
 use Rattle.sheet.specs.Codes.{relCode}
 use Rattle.sheet.specs.Held.{endAt, TermsAt, LocalAt, height}
 use Rattle.terms.specs.Environment.{Environment, termsOf, numberOf, CallAt, Arguments}
-use Rattle.walker.specs.Stands.{filled, Stands, bodyOf, Binds}
+use Rattle.walker.specs.Stands.{filled, TermsPlannedIn, Stands, bodyOf, Binds}
 
 abbrev Either : Bool → Type 0 → Type 0 → Type 0
 Either true A B = A
@@ -23,8 +23,8 @@ Either false A B = B
 -- ---- what stands under a token
 
 module _ (D : Declared) (t : Words) (E : Environment) where
-  -- two terms from token i up to token e, in a scope
-  pub record TermsIn (i e : ℕ) (x y : Term) : Type 0 where
+  -- two terms of the formula at token h, from token i up to token e, in a scope
+  pub record TermsIn (h i e : ℕ) (x y : Term) : Type 0 where
     pub terms : TermsAt t i e x y
     pub scope : Scope
     pub locals : (l : ℕ) → T (scope l) → l < maxLocals
@@ -32,6 +32,8 @@ module _ (D : Declared) (t : Words) (E : Environment) where
     pub right : OkTerm D scope (fillTerm (termsOf E) y)
     pub left-low : height x ≤ maxNesting
     pub right-low : height y ≤ maxNesting
+    pub before : h < i
+    pub planned : TermsPlannedIn E t h i x y
 
   module _ (h : ℕ) where
     -- `and`, `or`, `imp`: two formulas
@@ -56,7 +58,7 @@ module _ (D : Declared) (t : Words) (E : Environment) where
       pub left : Term
       pub right : Term
       pub is : F ≡ make left right
-      pub terms : TermsIn (suc h) (endAt t h) left right
+      pub terms : TermsIn h (suc h) (endAt t h) left right
       pub near : suc h < maxTokens
 
     -- `ex`: a local and a formula
@@ -77,7 +79,7 @@ module _ (D : Declared) (t : Words) (E : Environment) where
       pub body : Formula
       pub is : F ≡ make l low high body
       pub binds : Binds D t E h l body
-      pub terms : TermsIn (suc (suc h)) (bodyOf t h) low high
+      pub terms : TermsIn h (suc (suc h)) (bodyOf t h) low high
 
     -- `call`: a procedure's number and its arguments; the procedure's formula filled with these does not stand here
     pub record Calls (F : Formula) : Type 0 where

@@ -1,17 +1,19 @@
--- A formula that stands in the tables, in an environment that says what its parameters stand for; the formula under a quantifier, and the values
--- left to it. Assumes nothing.
+-- A formula that stands in the tables, in an environment that says what its parameters stand for, and outside of procedures with its plan; the
+-- formula under a quantifier, and the values left to it. Assumes nothing.
 use Prim.Native.Nat.{ℕ, suc, _-_, _≤_, _<_}
 use mathlib.Core.Path.{_≡_}
+use mathlib.Core.List.{[], _∷_}
 use lib.Dec.{T}
 use lib.IntN.{ℤ, pos, _+ℤ_}
 use Rattle.specification.specs.Lines.{Declared}
-use Rattle.specification.specs.Ast.{Formula}
+use Rattle.specification.specs.Ast.{Term, Formula}
 use Rattle.specification.specs.Fill.{fill}
 use Rattle.specification.specs.WellFormed.{Scope, Ok}
 use Rattle.values.specs.Word.{signed}
 use Rattle.tables.specs.Layout.{maxTokens, maxLocals}
 use Rattle.sheet.specs.Tables.{Words}
 use Rattle.sheet.specs.Held.{endAt, LocalAt, FormulaAt, Shallow}
+use Rattle.plan.specs.Planned.{TermsPlanned, FormulaPlanned}
 use Rattle.terms.specs.Environment.{Environment, termsOf, numberOf}
 
 -- F with the environment's terms in place of its parameters
@@ -25,10 +27,21 @@ pub record Good (D : Declared) (E : Environment) (F : Formula) : Type 0 where
   -- it calls procedures earlier than the environment's only
   pub shallow : Shallow (numberOf E) F
 
+-- in the sheet's own formula terms are planned
+abbrev pub PlannedIn : Environment → Words → ℕ → Formula → Type 0
+PlannedIn [] t i F = FormulaPlanned t i F
+PlannedIn (L ∷ E) t i F = Unit {0}
+
+-- the two terms from token i on, of the formula at token h
+abbrev pub TermsPlannedIn : Environment → Words → ℕ → ℕ → Term → Term → Type 0
+TermsPlannedIn [] t h i x y = TermsPlanned t h i x y
+TermsPlannedIn (L ∷ E) t h i x y = Unit {0}
+
 -- F stands from token i of the tables t on
 pub record Stands (D : Declared) (t : Words) (E : Environment) (i : ℕ) (F : Formula) : Type 0 where
   pub held : FormulaAt t i F
   pub good : Good D E F
+  pub planned : PlannedIn E t i F
 
 -- the formula under a `some` or `all` whose token is h
 abbrev pub bodyOf : Words → ℕ → ℕ

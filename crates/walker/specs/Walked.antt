@@ -1,4 +1,4 @@
--- The contract of the whole walk: from the tables of a sheet to its run. Assumes nothing.
+-- The contract of the whole walk: from the tables of a sheet, which are planned first, to its run. Assumes nothing.
 use Prim.Native.Nat.{ℕ, _+_, _≤_}
 use mathlib.Core.Path.{_≡_}
 use mathlib.Core.List.{_++_}
@@ -13,6 +13,7 @@ use Rattle.specification.specs.Report.{endFrom}
 use Rattle.tables.specs.Layout.{nodeSlot, maxProcs, maxPath}
 use Rattle.sheet.specs.Tables.{Words}
 use Rattle.sheet.specs.Held.{FormulaAt, Shallow, Holds, Marked, ArraysAt, RangesAt, ProceduresAt}
+use Rattle.plan.specs.Planned.{FormulaPlanned}
 use Rattle.walker.specs.declared.Regs.{Regs}
 use Rattle.walker.specs.declared.Task.{Task}
 use Rattle.walker.specs.Registers.{formulaDue}
@@ -37,6 +38,15 @@ pub record Readied (w : Words) (t : Task) : Type 0 where
   pub sheet : Sheet
   pub ready : Ready w t sheet
 
+-- and the plan of its formula
+pub record Prepared (w : Words) (t : Task) (s : Sheet) : Type 0 where
+  pub ready : Ready w t s
+  pub planned : FormulaPlanned w (t .formula) (s .formula)
+
+pub record Sets (w : Words) (t : Task) : Type 0 where
+  pub sheet : Sheet
+  pub prepared : Prepared w t sheet
+
 -- before the first visit
 abbrev pub startRegs : Words → ℕ → Regs
 startRegs w formula = record {
@@ -51,7 +61,7 @@ startRegs w formula = record {
 
 -- the walk is over: its registers and the output are those of the sheet's run
 pub record Finished (w w' : Words) (o o' : Bytes) (t : Task) (r : Regs) : Type 0 where
-  pub run : (s : Sheet) → Ready w t s → (b : Bytes) × (ran (endFrom (r .mode)) (r .tallies) b ≡ resultOf (runOf s (t .setting) (length o))) × (r .written ≡ length b) × (o' ≡ b ++ drop (length b) o)
+  pub run : (s : Sheet) → Prepared w t s → (b : Bytes) × (ran (endFrom (r .mode)) (r .tallies) b ≡ resultOf (runOf s (t .setting) (length o))) × (r .written ≡ length b) × (o' ≡ b ++ drop (length b) o)
   pub words : length w' ≡ length w
   pub size : length o' ≡ length o
 

@@ -60,7 +60,7 @@ pub(crate) fn enter_eq(w: &mut [u32], r: Regs) -> Regs
 {
     let h = r.due.head;
     let e = tables::end(w, h);
-    let s = terms::evaluation::sides(w, h + 1, e, r.due.env);
+    let s = terms::evaluation::sides(w, h, h + 1, e, r.due.env);
     if s.ltag == tags::ERROR {
         return sons::err(w, r, s.left);
     }
@@ -131,7 +131,7 @@ pub(crate) fn enter_compare(w: &mut [u32], r: Regs, code: u32) -> Regs
 {
     let h = r.due.head;
     let e = tables::end(w, h);
-    let s = terms::evaluation::sides(w, h + 1, e, r.due.env);
+    let s = terms::evaluation::sides(w, h, h + 1, e, r.due.env);
     if !valued(s) {
         return sons::err(w, r, fault(s));
     }

@@ -5,7 +5,7 @@ ghost use lib.ListN.{length};
 ghost use Rattle.tables.specs.Layout.{tokenSlot};
 ghost use Rattle.walker.specs.Steps.{Visited, Stepped};
 ghost use Rattle.walker.specs.Loop.{AtLeaf, LeafDone, VisitDue, Arrived, BlockDue, Blocked, Climbs, Climbed, Runs, Settled, Live, snapshot, Moved};
-ghost use Rattle.walker.specs.Walked.{Readied, startRegs, Finished, Walked};
+ghost use Rattle.walker.specs.Walked.{Readied, Sets, startRegs, Finished, Walked};
 ghost use Rattle.walker.specs.Blocks.{HeadDue, headDue, passedRegs};
 use crate::Regs;
 use crate::Task;
@@ -196,7 +196,7 @@ fn start(w: &[u32], formula: u32) -> Regs
 }
 
 fn walk(w: &mut [u32], out: &mut [u8], task: Task) -> Regs
-    requires { ⌜ Readied (now w) task ⌝ }
+    requires { ⌜ Sets (now w) task ⌝ }
     ensures { λ r. ⌜ Finished (now (w .entry)) (now (w .exit)) (now (out .entry)) (now (out .exit)) task r ⌝ }
 {
     let mut r = start(w, task.formula);
@@ -211,6 +211,7 @@ pub fn walk_tables(w: &mut [u32], out: &mut [u8], task: Task) -> Outcome
     requires { ⌜ Readied (now w) task ⌝ }
     ensures { λ r. ⌜ Walked (now (w .entry)) (now (w .exit)) (now (out .entry)) (now (out .exit)) task r ⌝ }
 {
+    plan::plan(w, task.formula);
     let r = walk(w, out, task);
     let end = registers::end_of(r.mode);
     let t = r.tallies;

@@ -57,11 +57,11 @@ fn body(w: &[u32], h: u32) -> u32
 
 // The values of the two bounds of the quantifier at token h.
 fn bounds(w: &mut [u32], h: u32, env: u32) -> Sides
-    requires { ⌜ Middle (now w) h × Asked (now w) (h + afterLocal) (bodyOf (now w) h) env ⌝ }
-    ensures { λ s. ⌜ Valued (now (w .entry)) (now (w .exit)) (h + afterLocal) (bodyOf (now (w .entry)) h) env s ⌝ }
+    requires { ⌜ Middle (now w) h × Asked (now w) h (h + afterLocal) (bodyOf (now w) h) env ⌝ }
+    ensures { λ s. ⌜ Valued (now (w .entry)) (now (w .exit)) h (h + afterLocal) (bodyOf (now (w .entry)) h) env s ⌝ }
 {
     let e = body(w, h);
-    terms::evaluation::sides(w, h + AFTER_LOCAL, e, env)
+    terms::evaluation::sides(w, h, h + AFTER_LOCAL, e, env)
 }
 
 // `ex`: its formula, the local without a value, then the rest. Its mark (inner.rt) tells this node's depth.

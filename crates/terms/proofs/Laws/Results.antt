@@ -72,11 +72,12 @@ op-of-code rem = refl
 op-of-code div = refl
 op-of-code modulo = refl
 
+pub op-same : (o p : Op) → opCode o ≡ opCode p → o ≡ p
+op-same o p e = sym (op-of-code o) ∙ ap opOf e ∙ op-of-code p
+
 module _ (k x y : ℕ) (r : Computed) where
   pub calculated-as : (o : Op) → k ≡ opCode o → r ≡ packed (compute o (signed x) (signed y)) → Calculated k x y r
-  calculated-as o q h p n =
-      let same : o ≡ p = sym (op-of-code o) ∙ ap opOf (sym q ∙ n) ∙ op-of-code p in
-      h ∙ ap (λ (p : Op). packed (compute p (signed x) (signed y))) same
+  calculated-as o q h p n = h ∙ ap (λ (p : Op). packed (compute p (signed x) (signed y))) (op-same o p (sym q ∙ n))
 
   -- the one that is none of the others
   pub calculated-last : (k ≡ addCode → ⊥) → (k ≡ subCode → ⊥) → (k ≡ mulCode → ⊥) → (k ≡ quoCode → ⊥) → (k ≡ divCode → ⊥) → (k ≡ modCode → ⊥) →

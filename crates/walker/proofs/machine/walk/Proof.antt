@@ -8,20 +8,20 @@ use Rattle.specification.specs.Sheet.{Sheet}
 use Rattle.walker.specs.Sim.{Sim, down}
 use Rattle.walker.specs.Loop.{measure}
 use Rattle.walker.specs.States.{downMode}
-use Rattle.walker.specs.Walked.{Ready}
+use Rattle.walker.specs.Walked.{Prepared}
 use Rattle.walker.proofs.Started.{worldOf, world-fixed, start-small, start-down, finished}
 use Rattle.walker.proofs.machine.walk.Statement.{statement}
 use Rattle.walker.proofs.machine.walk.Tie as tie
 
 abbrev Inv-loop : tie.InvT-loop
 Inv-loop w₀ out₀ task r₀ w out r =
-    (length w ≡ length w₀) × (length out ≡ length out₀) × ((s : Sheet) → Ready w₀ task s → Sim (worldOf w₀ out₀ task s) out w r) × (r .mode ≤ downMode)
+    (length w ≡ length w₀) × (length out ≡ length out₀) × ((s : Sheet) → Prepared w₀ task s → Sim (worldOf w₀ out₀ task s) out w r) × (r .mode ≤ downMode)
 
 abbrev μ-loop : tie.MeasureT-loop
 μ-loop w₀ out₀ task r₀ w out r = measure (task .setting .budget) r
 
 start-requires : tie.Need-start-requires Inv-loop μ-loop
-start-requires c κs = omega (arith, start-small ((c .before .before .before .pre) .sheet) ((c .before .before .before .pre) .ready), (c .before .before .before .pre) .ready .size)
+start-requires c κs = let a = c .before .before .before .pre in omega (arith, start-small (a .sheet) (a .prepared .ready), a .prepared .ready .size)
 
 loop-holds : tie.Need-loop-holds Inv-loop μ-loop
 loop-holds c =
@@ -36,8 +36,8 @@ step-requires c κs =
     record {
       runs = record {
         c = worldOf (now (start .args .w)) (now (start .args .out)) (start .args .task) (a .sheet);
-        fixed = world-fixed (a .sheet) (a .ready);
-        sim = (at-loop .loop .inv .2) (a .sheet) (a .ready);
+        fixed = world-fixed (a .sheet) (a .prepared);
+        sim = (at-loop .loop .inv .2) (a .sheet) (a .prepared);
       };
       on = (c .before .before .if1 .taken);
     }

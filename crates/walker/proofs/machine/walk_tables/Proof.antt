@@ -1,11 +1,19 @@
 -- `machine::walk_tables` meets its contract.
 use borrow.Author.Needs.{needs}
-use Rattle.walker.proofs.Started.{walked}
+use Rattle.walker.proofs.Started.{ready-plans, prepared, walked}
 use Rattle.walker.proofs.machine.walk_tables.Statement.{statement}
 use Rattle.walker.proofs.machine.walk_tables.Tie as tie
 
+plan-requires : tie.Need-plan-requires
+plan-requires c κs =
+    let a = c .before .before .before .pre in
+    ready-plans (a .sheet) (a .ready)
+
 walk-requires : tie.Need-walk-requires
-walk-requires c κs = search needs
+walk-requires c κs =
+    let at-plan = c .before .before .before .before in
+    let a = at-plan .before .before .before .before .pre in
+    record { sheet = a .sheet; prepared = prepared _ (at-plan .plan .ensures) (a .sheet) (a .ready) }
 
 end-of-requires : tie.Need-end-of-requires
 end-of-requires c κs = search needs
@@ -18,9 +26,9 @@ same-length-2 c = search needs
 
 returns : tie.Need-returns
 returns c =
-    let at-w = c .before .before .before .before .before in
-    let at-walk = at-w .before in
-    walked (at-walk .walk .ensures) (c .before .end-of .ensures)
+    let at-walk = c .before .before .before .before .before .before in
+    let at-plan = at-walk .before .before .before .before .before in
+    walked (at-plan .plan .ensures) (at-walk .walk .ensures) (c .before .end-of .ensures)
 
 pub walk-tables-spec : {M : Type 1} → statement M
-walk-tables-spec = tie.close (tie.spec walk-requires end-of-requires same-length same-length-2 returns)
+walk-tables-spec = tie.close (tie.spec plan-requires walk-requires end-of-requires same-length same-length-2 returns)
