@@ -29,7 +29,8 @@ same-length-2 c = search needs
 returns-2 : tie.Need-returns-2
 returns-2 c =
     let at-full = c .before .before in
-    let at-tried = at-full .before .before .before .before .before .before in
+    let between = at-full .before .before .before in
+    let at-tried = between .before .before .before in
     full-valued (at-tried .tried .ensures) (at-full .full .ensures)
 
 pub sides-spec : {M : Type 1} → statement M
