@@ -6,13 +6,18 @@
 --   firsts     the first cell of each array, and the end of the cells after the last
 --   procs      2 words each, for a procedure: the first token of its formula and the number of its parameters
 --   ranges     2 words each, of scalars and then of arrays: the words of the lowest and the highest value
---   dues       3 words each: what is due while a formula is read; afterwards the results of terms that are being valued
---   arguments  2 words for each procedure and parameter: the result of a parameter that is valued again for each atom, its tag and its word
---   chain      pointers to the calls that are active where a term is valued, the innermost first
---   spare      up to the path
---   path       12 words for each node (specs/Node.antt)
+--   dues       3 words each: what is due while a formula is read
+--   path       12 words for each node: the records of a walk
 --
--- The words of dues, arguments and chain are those that the valuing of terms may change.
+-- A walk has other tables in the words from duesAt up to the path:
+--
+--   results    of terms that are being valued, up to opensAt
+--   opens      2 words for each procedure and parameter: the result of a parameter that is valued again for each atom, its tag and its word
+--   frames     20 words for each procedure (specs/Frames.antt)
+--   lasts      one word for each local: the last value of the `all` over it
+--   leaves     tokens of no formula (specs/Leaves.antt)
+--
+-- The words of results and opens are those that the valuing of terms may change.
 -- Every other file says these by name; src/lib.rt has the same numbers for the code, and proofs/Laws/Layout.antt the law that each table ends
 -- where the next begins. Assumes nothing.
 use Prim.Native.Nat.{ℕ, _+_, _*_}
@@ -72,8 +77,8 @@ dueWords = 3
 abbrev pub procWords : ℕ
 procWords = 2
 
-abbrev pub argumentWords : ℕ
-argumentWords = 2
+abbrev pub openWords : ℕ
+openWords = 2
 
 abbrev pub nodeWords : ℕ
 nodeWords = 12
@@ -105,18 +110,11 @@ resultsAt = duesAt + 2
 abbrev pub duesEnd : ℕ
 duesEnd = 5795
 
-abbrev pub argumentsAt : ℕ
-argumentsAt = 5795
+abbrev pub opensAt : ℕ
+opensAt = 5525
 
-abbrev pub chainAt : ℕ
-chainAt = 6051
-
--- the end of the words that the valuing of terms may change, which begin with the dues
-abbrev pub valuedEnd : ℕ
-valuedEnd = 6067
-
-abbrev pub spareAt : ℕ
-spareAt = 6067
+abbrev pub lastsAt : ℕ
+lastsAt = 6101
 
 abbrev pub pathAt : ℕ
 pathAt = 6144
@@ -142,20 +140,17 @@ abbrev pub dueSlot : ℕ → ℕ
 dueSlot i = duesAt + dueWords * i
 
 -- parameter n of procedure k
-abbrev pub argumentSlot : ℕ → ℕ → ℕ
-argumentSlot k n = argumentsAt + argumentWords * maxParameters * k + argumentWords * n
+abbrev pub openSlot : ℕ → ℕ → ℕ
+openSlot k n = opensAt + openWords * maxParameters * k + openWords * n
 
-abbrev pub chainSlot : ℕ → ℕ
-chainSlot j = chainAt + j
+abbrev pub lastSlot : ℕ → ℕ
+lastSlot l = lastsAt + l
 
+-- the records of a path of d nodes end here at the latest
 abbrev pub nodeSlot : ℕ → ℕ
 nodeSlot d = pathAt + nodeWords * d
 
--- the word after node d
-abbrev pub nodeEnd : ℕ → ℕ
-nodeEnd d = pathAt + nodeWords + nodeWords * d
-
--- ---- the words of tokens, cells, arrays, procedures and their arguments
+-- ---- the words of tokens, cells, arrays, procedures and last values
 
 abbrev pub codeAt : Words → ℕ → ℕ
 codeAt w i = getD w (tokenSlot i) 0
@@ -191,13 +186,6 @@ procAt w k = getD w (procSlot k) 0
 abbrev pub parametersAt : Words → ℕ → ℕ
 parametersAt w k = getD w (procSlot k + 1) 0
 
--- the tag and the word of the result of its parameter n
-abbrev pub argumentTagAt : Words → ℕ → ℕ → ℕ
-argumentTagAt w k n = getD w (argumentSlot k n) 0
-
-abbrev pub argumentAt : Words → ℕ → ℕ → ℕ
-argumentAt w k n = getD w (argumentSlot k n + 1) 0
-
--- the pointer to the active call j, of which the innermost is 0
-abbrev pub activeAt : Words → ℕ → ℕ
-activeAt w j = getD w (chainSlot j) 0
+-- the word of the last value of the `all` over local l
+abbrev pub lastAt : Words → ℕ → ℕ
+lastAt w l = getD w (lastSlot l) 0

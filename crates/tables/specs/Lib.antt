@@ -1,6 +1,7 @@
 pub mod Layout
 pub mod Codes
-pub mod Node
 pub mod Locals
 pub mod Kept
 pub mod Ranges
+pub mod Frames
+pub mod Leaves

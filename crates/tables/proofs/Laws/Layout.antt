@@ -1,11 +1,13 @@
--- The layout has no gaps before its spare words: each table ends where the next begins. Assumes nothing.
-use Prim.Native.Nat.{_+_, _≤_}
+-- The layout has no gaps: each table ends where the next begins, those of the reader and those of a walk. Assumes nothing.
+use Prim.Native.Nat.{_+_, _*_, _≤_, _<_}
 use mathlib.Core.Path.{_≡_, refl}
 use native.Mathlib.Omega.{arith}
-use Rattle.tables.specs.Layout.{maxTokens, maxCells, maxLocals, maxArrays, maxProcs, maxRanges, maxDues}
-use Rattle.tables.specs.Layout.{cellsAt, localsAt, firstsAt, procsAt, rangesAt, duesAt, duesEnd, argumentsAt, chainAt, valuedEnd, spareAt, pathAt}
-use Rattle.tables.specs.Layout.{tokenSlot, cellSlot, localSlot, firstSlot, procSlot, dueSlot, argumentSlot, chainSlot}
+use Rattle.tables.specs.Layout.{maxTokens, maxCells, maxLocals, maxArrays, maxProcs, maxParameters, maxNesting, maxRanges, maxDues}
+use Rattle.tables.specs.Layout.{cellsAt, localsAt, firstsAt, procsAt, rangesAt, duesAt, duesEnd, resultsAt, opensAt, lastsAt, pathAt}
+use Rattle.tables.specs.Layout.{tokenSlot, cellSlot, localSlot, firstSlot, procSlot, dueSlot, openWords, openSlot, lastSlot}
 use Rattle.tables.specs.Ranges.{rangeSlot}
+use Rattle.tables.specs.Frames.{framesAt, frameSlot, argumentSlot}
+use Rattle.tables.specs.Leaves.{endPlace, risePlace, failurePlace, successPlace, errorPlace, leavesEnd}
 
 pub record Joined : Type 0 where
   pub tokens : tokenSlot maxTokens ≡ cellsAt
@@ -15,11 +17,15 @@ pub record Joined : Type 0 where
   pub procs : procSlot maxProcs ≡ rangesAt
   pub ranges : rangeSlot maxRanges ≡ duesAt
   pub dues : dueSlot maxDues ≡ duesEnd
-  pub valued : duesEnd ≡ argumentsAt
-  pub arguments : argumentSlot maxProcs 0 ≡ chainAt
-  pub chain : chainSlot maxProcs ≡ valuedEnd
-  pub spare : valuedEnd ≡ spareAt
-  pub path : spareAt ≤ pathAt
+  pub read : duesEnd ≤ pathAt
+  pub results : resultsAt + openWords * (maxNesting + 1) ≡ opensAt
+  pub opens : openSlot maxProcs 0 ≡ framesAt
+  pub arguments : argumentSlot 0 maxParameters ≡ frameSlot 1
+  pub frames : frameSlot maxProcs ≡ lastsAt
+  pub lasts : lastSlot maxLocals ≡ endPlace
+  pub leaves : (endPlace < risePlace) × (risePlace < failurePlace) × (failurePlace < successPlace) × (successPlace < errorPlace)
+  pub error : errorPlace + 3 ≡ leavesEnd
+  pub path : leavesEnd ≤ pathAt
 
 pub joined : Joined
 joined = record {
@@ -30,9 +36,13 @@ joined = record {
   procs = refl;
   ranges = refl;
   dues = refl;
-  valued = refl;
+  read = omega arith;
+  results = refl;
+  opens = refl;
   arguments = refl;
-  chain = refl;
-  spare = refl;
+  frames = refl;
+  lasts = refl;
+  leaves = (omega arith, omega arith, omega arith, omega arith);
+  error = refl;
   path = omega arith;
 }
