@@ -7,7 +7,7 @@ use mathlib.Core.Path.{_≡_, refl, _∙_, ap}
 use mathlib.Core.Logic.{_≢_}
 use mathlib.Core.List.{List, [], _∷_, _++_, append-assoc, append-nil}
 use lib.ListN.{length, getD, set, take, drop, length-set, length-append}
-use lib.Seq.{getD-set-same, getD-set-other}
+use lib.Seq.{take-all, getD-set-same, getD-set-other}
 use Rattle.specification.specs.Lists.{Each}
 use Rattle.specification.specs.Lines.{Declared}
 use Rattle.specification.specs.Ast.{truth, Procedure}
@@ -37,6 +37,25 @@ unfolding proceduresTokens
 tokens-split [] m h = absurd (omega arith)
 tokens-split (P ∷ Ps) zero h = refl
 tokens-split (P ∷ Ps) (suc m) h = rw append-assoc (ap (λ xs. formulaTokens (P .formula) ++ xs) (tokens-split Ps m (omega arith)))
+
+-- the first token of the next one, of the first, and after the last
+pub first-next : (Ps : List Procedure) (m : ℕ) → m < length Ps →
+    firstToken Ps (suc m) ≡ firstToken Ps m + length (formulaTokens (getD Ps m none .formula))
+unfolding proceduresTokens
+first-next [] m h = absurd (omega arith)
+first-next (P ∷ Ps) zero h = omega (arith, length-append (formulaTokens (P .formula)) [])
+first-next (P ∷ Ps) (suc m) h =
+    let xs = formulaTokens (P .formula) in
+    let ih = first-next Ps m (omega arith) in
+    omega (arith, length-append xs (proceduresTokens (take (suc m) Ps)), length-append xs (proceduresTokens (take m Ps)))
+
+pub first-none : (Ps : List Procedure) → firstToken Ps 0 ≡ 0
+unfolding proceduresTokens
+first-none [] = refl
+first-none (P ∷ Ps) = refl
+
+pub first-all : (Ps : List Procedure) (m : ℕ) → length Ps ≤ m → firstToken Ps m ≡ length (proceduresTokens Ps)
+first-all Ps m h = ap (λ (Qs : List Procedure). length (proceduresTokens Qs)) (take-all m Ps h)
 
 pub tokens-one-more : (Ps : List Procedure) (P : Procedure) → proceduresTokens (Ps ++ (P ∷ [])) ≡ proceduresTokens Ps ++ formulaTokens (P .formula)
 unfolding proceduresTokens

@@ -1,11 +1,11 @@
 -- A sheet that is read: the first lines read no token, so that the tokens of its procedures and then of its formula count from 0, and the tables
 -- hold the sheet. Assumes nothing.
-use Prim.Native.Nat.{ℕ, _+_, _≤_}
+use Prim.Native.Nat.{ℕ, suc, _+_, _≤_, _<_}
 use native.Mathlib.Omega.{arith}
-use mathlib.Core.Path.{_≡_, refl, sym, subst, _∙_}
+use mathlib.Core.Path.{_≡_, refl, sym, ap, subst, _∙_}
 use mathlib.Core.Bool.{Bool}
-use mathlib.Core.List.{[]}
-use lib.ListN.{length, length-append}
+use mathlib.Core.List.{[], _++_}
+use lib.ListN.{length, take, drop, length-append}
 use Rattle.specification.specs.Bytes.{Bytes, bytes}
 use Rattle.specification.specs.Lists.{Each}
 use Rattle.specification.specs.Parser.{Reader, found}
@@ -20,15 +20,15 @@ use Rattle.specification.proofs.Laws.ReadSheet.{read-well-formed}
 use Rattle.tables.specs.Layout.{maxTokens, maxNesting, maxProcs, pathAt}
 use Rattle.sheet.specs.Codes.{formulaTokens, proceduresTokens}
 use Rattle.sheet.specs.Tables.{sheetTokens, formulaStart, tables}
-use Rattle.sheet.specs.Held.{FormulaAt, Shallow, ProceduresAt, Holds, Marked, ArraysAt, RangesAt}
+use Rattle.sheet.specs.Held.{endAt, procAt, FormulaAt, Shallow, ProceduresAt, InOrder, Holds, Marked, ArraysAt, RangesAt}
 use Rattle.sheet.specs.Numbered.{Numbered}
 use Rattle.sheet.proofs.After.{some-token, formula-subtree}
 use Rattle.sheet.proofs.Stays.{exactly-stays, stays-composed}
 use Rattle.sheet.proofs.Numbered.{renumbered, formula-counts}
 use Rattle.sheet.proofs.Shallow.{formula-shallow}
-use Rattle.sheet.proofs.Procs.{firstToken, few-parameters}
+use Rattle.sheet.proofs.Procs.{firstToken, first-none, first-all, tokens-split, few-parameters}
 use Rattle.sheet.proofs.Bodies.{Bodies, Read, bodies-at, procedures-read}
-use Rattle.sheet.proofs.Tables.{held, body-inside, body-held, first-held, arrays-held, start-held, start-marked, ranges-at}
+use Rattle.sheet.proofs.Tables.{held, body-inside, body-held, body-ends, first-held, arrays-held, start-held, start-marked, ranges-at}
 
 -- ---- the tokens of a sheet
 
@@ -87,6 +87,7 @@ pub record Ready (s : Sheet) (n : ℕ) : Type 0 where
   pub formula : FormulaAt (tables s n) (formulaStart s) (s .formula)
   pub shallow : Shallow maxProcs (s .formula)
   pub procedures : ProceduresAt (tables s n) (s .declared)
+  pub order : InOrder (tables s n) (length (s .declared .procedures)) (formulaStart s)
   pub values : Holds (tables s n) (start (s .given))
   pub marked : Marked (tables s n) (s .declared) (start (s .given))
   pub ranges : RangesAt (tables s n) (s .declared)
@@ -107,6 +108,34 @@ bodies-held s n h c ok K l =
       shallow = subst (λ k. Shallow k F) (omega arith) (b .shallow);
     }
 
+bodies-in-order : (s : Sheet) (n : ℕ) → pathAt ≤ n → FromZero s → WellFormed s →
+    InOrder (tables s n) (length (s .declared .procedures)) (formulaStart s)
+bodies-in-order s n h c ok = record {
+  none = λ e. sym (all-tokens 0 (omega arith)) ∙ first-none (s .declared .procedures);
+  first = λ l. at 0 l ∙ first-none (s .declared .procedures);
+  next = λ K l. at (suc K) l ∙ sym (ends K (omega arith));
+  last = λ K e. sym (all-tokens (suc K) (omega arith)) ∙ sym (ends K (omega arith));
+  before = λ K l.
+      let F = procedureOf (s .declared) K .formula in
+      omega (
+        arith,
+        at K l,
+        ap length (tokens-split (s .declared .procedures) K l),
+        length-append (proceduresTokens (take K (s .declared .procedures))) (formulaTokens F ++ proceduresTokens (drop (suc K) (s .declared .procedures))),
+        length-append (formulaTokens F) (proceduresTokens (drop (suc K) (s .declared .procedures))),
+        some-token (formulaTokens F) (formula-subtree F),
+      );
+}
+  where
+    at : (K : ℕ) → K < length (s .declared .procedures) → procAt (tables s n) K ≡ firstToken (s .declared .procedures) K
+    at K l = first-held s n h (c .few) ok K l
+
+    ends : (K : ℕ) → K < length (s .declared .procedures) → endAt (tables s n) (procAt (tables s n) K) ≡ firstToken (s .declared .procedures) (suc K)
+    ends K l = ap (λ (i : ℕ). endAt (tables s n) i) (at K l) ∙ body-ends s n h (c .few) K l
+
+    all-tokens : (m : ℕ) → length (s .declared .procedures) ≤ m → firstToken (s .declared .procedures) m ≡ formulaStart s
+    all-tokens m l = first-all (s .declared .procedures) m l
+
 pub read-ready : (strict : Bool) (b : Bytes) (s : Sheet) (r : Reader) (n : ℕ) → readWith strict b ≡ found s r → pathAt ≤ n → Ready s n
 read-ready strict b s r n e h =
     let c = read-counts strict b s r e in
@@ -115,6 +144,7 @@ read-ready strict b s r n e h =
       formula = held s n h (c .few) (c .formula);
       shallow = c .shallow;
       procedures = bodies-held s n h c ok;
+      order = bodies-in-order s n h c ok;
       values = start-held s n h (c .few) ok;
       marked = start-marked s n h (c .few) ok;
       ranges = ranges-at s n h (c .few) ok;

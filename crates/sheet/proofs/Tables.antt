@@ -23,14 +23,15 @@ use Rattle.tables.proofs.Laws.Ranges.{SameRanges}
 use Rattle.sheet.specs.declared.Token.{Token}
 use Rattle.sheet.specs.Codes.{formulaTokens, proceduresTokens}
 use Rattle.sheet.specs.Tables.{Words, laidArrays, laidCells, markOf, laidGiven, laidTokens, declaredTables, tablesOf, sheetTokens, formulaStart, tables}
-use Rattle.sheet.specs.Held.{procAt, FormulaAt, SlotAt, Holds, Marked, ArraysAt, RangesAt}
+use Rattle.sheet.specs.Held.{endAt, procAt, FormulaAt, SlotAt, Holds, Marked, ArraysAt, RangesAt}
 use Rattle.sheet.specs.Numbered.{Numbered}
-use Rattle.sheet.proofs.Laid.{tokens-other, ends-other, tokens-length, ends-length, Along, Entry, laid, skip}
+use Rattle.sheet.proofs.After.{formula-subtree}
+use Rattle.sheet.proofs.Laid.{tokens-other, ends-other, tokens-length, ends-length, Along, Entry, laid, skip, subtree}
 use Rattle.sheet.proofs.Held.{formula-at}
 use Rattle.sheet.proofs.Regions.{zeros, firsts-length, firsts-other, firsts-at, given-length, given-other, isFull, wordOf, CellWords, given-at}
 use Rattle.sheet.proofs.Marks.{span-limit, ranges-length, ranges-other}
 use Rattle.sheet.proofs.Ranged.{Fitting, many-few, marks-held, ranges-held, ranges-keep}
-use Rattle.sheet.proofs.Procs.{none, firstToken, tokens-split, procs-length, procs-other, procs-at}
+use Rattle.sheet.proofs.Procs.{none, firstToken, first-next, tokens-split, procs-length, procs-other, procs-at}
 
 -- arrays, ranges and given values, without tokens
 abbrev arrayed : Declared → ℕ → Words
@@ -67,6 +68,17 @@ formula-held D is xs F rest n enough few h =
     let e : 0 + length xs ≡ length xs = omega arith in
     formula-at w F rest (length xs) (subst (λ j. Along (Entry w) j (formulaTokens F ++ rest)) e a) h
     (omega (arith, length-append xs (formulaTokens F ++ rest), length-append (formulaTokens F) rest))
+
+-- and ends after its last token
+pub formula-ends : (D : Declared) (is : List Item) (xs : List Token) (F : Formula) (rest : List Token) (n : ℕ) → pathAt ≤ n →
+    length (xs ++ (formulaTokens F ++ rest)) ≤ maxTokens →
+    endAt (tablesOf D is (xs ++ (formulaTokens F ++ rest)) n) (length xs) ≡ length xs + length (formulaTokens F)
+formula-ends D is xs F rest n enough few =
+    let ts = xs ++ (formulaTokens F ++ rest) in
+    let w = tablesOf D is ts n in
+    let a = skip w xs (formulaTokens F ++ rest) 0 (laid ts (declaredTables D is n) (omega (arith, declared-length D is n))) in
+    let e : 0 + length xs ≡ length xs = omega arith in
+    subtree w (formulaTokens F) rest (length xs) (formula-subtree F) (subst (λ j. Along (Entry w) j (formulaTokens F ++ rest)) e a) .0
 
 -- a procedure's tokens lie among those of the sheet
 pub body-inside : (s : Sheet) (K : ℕ) → K < length (s .declared .procedures) →
@@ -120,6 +132,20 @@ module _ (s : Sheet) (n : ℕ) (enough : pathAt ≤ n) (few : length (sheetToken
       let Ps = s .declared .procedures in
       held-between (proceduresTokens (take K Ps)) (getD Ps K none .formula) (proceduresTokens (drop (suc K) Ps) ++ formulaTokens (s .formula))
       (ap (λ xs. xs ++ formulaTokens (s .formula)) (tokens-split Ps K l) ∙ rw (append-assoc, append-assoc)) h
+
+  pub body-ends : (K : ℕ) → K < length (s .declared .procedures) →
+      endAt (tables s n) (firstToken (s .declared .procedures) K) ≡ firstToken (s .declared .procedures) (suc K)
+  unfolding tables
+  body-ends K l =
+      let Ps = s .declared .procedures in
+      let xs = proceduresTokens (take K Ps) in
+      let F = getD Ps K none .formula in
+      let rest = proceduresTokens (drop (suc K) Ps) ++ formulaTokens (s .formula) in
+      let e : sheetTokens s ≡ xs ++ (formulaTokens F ++ rest) =
+      ap (λ ts. ts ++ formulaTokens (s .formula)) (tokens-split Ps K l) ∙ rw (append-assoc, append-assoc) in
+      subst (λ ts. endAt (tablesOf (s .declared) (s .given) ts n) (length xs) ≡ length xs + length (formulaTokens F)) (sym e)
+      (formula-ends (s .declared) (s .given) xs F rest n enough (omega (arith, few, ap length e)))
+      ∙ sym (first-next Ps K l)
 
   -- ---- values and arrays
 

@@ -115,6 +115,14 @@ pub record BodyAt (w : Words) (K : ℕ) (F : Formula) : Type 0 where
 abbrev pub ProceduresAt : Words → Declared → Type 0
 ProceduresAt w D = (K : ℕ) → K < length (D .procedures) → BodyAt w K (procedureOf D K .formula)
 
+-- the formulas of the first n procedures stand one after the other from token 0 on, and what stands at token i follows them
+pub record InOrder (w : Words) (n i : ℕ) : Type 0 where
+  pub none : n ≡ 0 → i ≡ 0
+  pub first : 0 < n → procAt w 0 ≡ 0
+  pub next : (K : ℕ) → suc K < n → procAt w (suc K) ≡ endAt w (procAt w K)
+  pub last : (K : ℕ) → suc K ≡ n → i ≡ endAt w (procAt w K)
+  pub before : (K : ℕ) → K < n → procAt w K < i
+
 -- ---- values
 
 -- a slot in the two words from j on
