@@ -1,24 +1,24 @@
--- Environments: what a procedure's parameters stand for where its formula is walked, and how the path node of a call holds it. A procedure's
+-- Environments: what a procedure's parameters stand for where its formula is walked, and how the frames of procedures hold it. A procedure's
 -- formula stands in the table of tokens once, with its parameters in it; a walk has it together with an environment. Assumes nothing.
-use Prim.Native.Nat.{ℕ, suc, _+_, _-_, _<_, _≤_}
+use Prim.Native.Nat.{ℕ, suc, _+_, _<_, _≤_}
 use mathlib.Core.Path.{_≡_}
-use mathlib.Core.Bool.{true, false}
 use mathlib.Core.List.{List, [], _∷_}
 use lib.ListN.{length, getD}
 use lib.Dec.{T}
 use lib.IntN.{ℤ}
+use Rattle.specification.specs.Bytes.{pick}
 use Rattle.specification.specs.Lists.{Each}
-use Rattle.specification.specs.Lines.{Declared, cells}
+use Rattle.specification.specs.Lines.{Declared, cells, procedureOf}
 use Rattle.specification.specs.Ast.{Term, constant, scalarAt, localAt, parameter, elementAt, apply}
 use Rattle.specification.specs.Fill.{fillTerm, fillTerms}
 use Rattle.specification.specs.Place.{Place, cell, local}
 use Rattle.specification.specs.Value.{Valuation, Side, val, bare, err, look, side}
 use Rattle.specification.specs.WellFormed.{Scope, OkTerm, Valid}
 use Rattle.values.specs.Word.{biased}
-use Rattle.tables.specs.Layout.{maxCells, maxLocals, maxArrays, maxNesting, maxProcs, maxParameters, nodeSlot}
+use Rattle.tables.specs.Layout.{maxCells, maxLocals, maxArrays, maxNesting, maxProcs, maxParameters, pathAt, tokenSlot, planAt}
 use Rattle.tables.specs.Codes.{procedureCode}
 use Rattle.tables.specs.Locals.{inSet}
-use Rattle.tables.specs.Node.{headAt, envAt, tagsAt, resultAt, openAt, anyOpen}
+use Rattle.tables.specs.Frames.{argumentSlot, callAt, tagsAt}
 use Rattle.sheet.specs.Tables.{Words}
 use Rattle.sheet.specs.Held.{operandAt, endAt, TokenAt, ArgumentsAt, height, slotOf, Holds, ArraysAt}
 
@@ -70,6 +70,11 @@ abbrev pub numberOf : Environment → ℕ
 numberOf [] = maxProcs
 numberOf (L ∷ E) = L .number
 
+-- one more than the number of the innermost procedure, 0 where there is none
+abbrev pub pointerOf : Environment → ℕ
+pointerOf [] = 0
+pointerOf (L ∷ E) = suc (L .number)
+
 -- ---- calls in the tokens
 
 -- at token h stands a call of procedure K with these arguments
@@ -86,7 +91,7 @@ pub record Arguments (D : Declared) (E : Environment) (ts : List Term) : Type 0 
   pub locals : (l : ℕ) → T (scope l) → l < maxLocals
   pub ok : Each (OkTerm D scope) (fillTerms (termsOf E) ts)
 
--- ---- calls on the path
+-- ---- calls in the frames
 
 -- a place that has a slot in the words
 abbrev pub Known : Place → Type 0
@@ -106,39 +111,48 @@ pub record IsPlace (D : Declared) (t : Term) (x : ℕ) : Type 0 where
   pub looks : (α : Valuation) → side D α t ≡ look (α place) place
   pub word : x ≡ slotOf place
 
--- what the tags of a call, and the word x, say of the term t that its parameter n stands for: a value, a place, or open, and then it is the
--- argument u in the environment E around the call
-pub record Result (D : Declared) (E : Environment) (tags x n : ℕ) (u t : Term) : Type 0 where
-  pub value : inSet tags n ≡ false → inSet tags (openAt n) ≡ false → IsValue t x
-  pub place : inSet tags n ≡ true → IsPlace D t x
-  pub opened : inSet tags (openAt n) ≡ true → t ≡ fillTerm (termsOf E) u
-
--- node k is that of the call L in the environment E
-pub record LevelAt (D : Declared) (w : Words) (k : ℕ) (L : Level) (E : Environment) : Type 0 where
+-- a call at token h of procedure L .number, in the environment E: what does not change while it is active
+pub record Calls (D : Declared) (w : Words) (h : ℕ) (L : Level) (E : Environment) : Type 0 where
   pub earlier : L .number < numberOf E
-  pub call : CallAt w (headAt w k) (L .number) (L .arguments)
+  pub call : CallAt w h (L .number) (L .arguments)
+  pub around : planAt w (suc h) ≡ pointerOf E
   pub arguments : Arguments D E (L .arguments)
   pub count : length (L .terms) ≡ length (L .arguments)
-  pub results : (n : ℕ) → n < length (L .terms) →
-      Result D E (tagsAt w k) (resultAt w k n) n (getD (L .arguments) n (parameter n)) (getD (L .terms) n (parameter n))
-  pub closed : inSet (tagsAt w k) anyOpen ≡ false → (n : ℕ) → n < length (L .terms) → inSet (tagsAt w k) (openAt n) ≡ false
+  pub arity : length (L .terms) ≡ procedureOf D (L .number) .parameters
 
--- p is one more than the number of the node of the call L, which is below n; `Around` is said of that number and of the pointer there
-pub record Points (D : Declared) (w : Words) (n p : ℕ) (L : Level) (E : Environment) (Around : ℕ → ℕ → Type 0) : Type 0 where
-  pub some : 0 < p
-  pub below : p ≤ n
-  pub level : LevelAt D w (p - 1) L E
-  pub around : Around (p - 1) (envAt w (p - 1))
+-- what the two words of an argument's slot say of the term t that the parameter stands for: a value, a place, or open, and then it is the argument u in
+-- the environment E around the call
+pub record Result (D : Declared) (E : Environment) (flag x : ℕ) (u t : Term) : Type 0 where
+  pub value : flag ≡ 1 → IsValue t x
+  pub place : flag ≡ 0 → ¬ (x ≡ 0) → IsPlace D t x
+  pub opened : flag ≡ 0 → x ≡ 0 → t ≡ fillTerm (termsOf E) u
 
--- from the pointer p on the nodes below n are those of E
-abbrev pub EnvAt : Declared → Words → ℕ → ℕ → Environment → Type 0
-EnvAt D w n p [] = p ≡ 0
-EnvAt D w n p (L ∷ E) = Points D w n p L E (λ k q. EnvAt D w k q E)
+-- the first word of an argument's slot, by whether it is among those that are no values
+abbrev pub flagOf : ℕ → ℕ → ℕ
+flagOf set n = pick (inSet set n) 0 1
+
+-- second words of the slots of a call's arguments, and which of them are no values
+abbrev pub Results : Declared → Environment → Level → ℕ → (ℕ → ℕ) → Type 0
+Results D E L set x =
+    (n : ℕ) → n < length (L .terms) → Result D E (flagOf set n) (x n) (getD (L .arguments) n (parameter n)) (getD (L .terms) n (parameter n))
+
+-- the frame of its procedure is that of the call L in the environment E
+pub record LevelAt (D : Declared) (w : Words) (L : Level) (E : Environment) : Type 0 where
+  pub token : ℕ
+  pub place : callAt w (L .number) ≡ tokenSlot token
+  pub calls : Calls D w token L E
+  pub results : Results D E L (tagsAt w (L .number)) (λ n. getD w (argumentSlot (L .number) n + 1) 0)
+  pub flags : (n : ℕ) → n < length (L .terms) → getD w (argumentSlot (L .number) n) 0 ≡ flagOf (tagsAt w (L .number)) n
+
+-- the frames are those of E
+abbrev pub EnvAt : Declared → Words → Environment → Type 0
+EnvAt D w [] = Unit {0}
+EnvAt D w (L ∷ E) = LevelAt D w L E × EnvAt D w E
 
 -- ---- what a term is valued from
 
--- the words hold the valuation α, the arrays of D, and from the pointer p on the environment E
-pub record Memory (w : Words) (n p : ℕ) (D : Declared) (α : Valuation) (E : Environment) : Type 0 where
+-- the words hold the valuation α, the arrays of D, and the environment E, which p points to
+pub record Memory (w : Words) (p : ℕ) (D : Declared) (α : Valuation) (E : Environment) : Type 0 where
   pub holds : Holds w α
   pub valid : Valid D α
   pub arrays : ArraysAt w D
@@ -146,5 +160,6 @@ pub record Memory (w : Words) (n p : ℕ) (D : Declared) (α : Valuation) (E : E
   pub few : length (D .arrays) ≤ maxArrays
   -- no parameter is left in a filled term
   pub filled : D .parameters ≡ 0
-  pub environment : EnvAt D w n p E
-  pub size : nodeSlot n ≤ length w
+  pub pointer : p ≡ pointerOf E
+  pub environment : EnvAt D w E
+  pub size : pathAt ≤ length w

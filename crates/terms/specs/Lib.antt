@@ -4,5 +4,4 @@ pub mod Results
 pub mod Machine
 pub mod Parts
 pub mod Calls
-pub mod Told
-pub mod Quick
+pub mod Arguments

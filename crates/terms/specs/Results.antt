@@ -1,4 +1,4 @@
--- What a term is, as words: a tag and a word. The contracts of `sides` and of the full evaluation. Assumes nothing.
+-- What a term is, as words: a tag and a word. The contract of `sides`. Assumes nothing.
 use Prim.Native.Nat.{ℕ, _+_, _<_, _≤_}
 use mathlib.Core.Path.{_≡_}
 use mathlib.Core.Logic.{_⊎_}
@@ -12,10 +12,10 @@ use Rattle.specification.specs.Place.{Place}
 use Rattle.specification.specs.Value.{Slot, Valuation, Side, val, bare, err, look, side}
 use Rattle.specification.specs.WellFormed.{Scope, OkTerm}
 use Rattle.values.specs.Word.{biased}
-use Rattle.tables.specs.Layout.{duesAt, valuedEnd, maxLocals, maxNesting}
+use Rattle.tables.specs.Layout.{duesAt, maxLocals, maxNesting}
+use Rattle.tables.specs.Frames.{framesAt}
 use Rattle.sheet.specs.Tables.{Words}
 use Rattle.sheet.specs.Held.{TermsAt, height, SlotAt, slotOf}
-use Rattle.plan.specs.Planned.{TermsPlanned}
 use Rattle.terms.specs.declared.Stack.{Stack}
 use Rattle.terms.specs.declared.Sides.{Sides}
 use Rattle.terms.specs.Environment.{Environment, termsOf, Memory}
@@ -31,10 +31,6 @@ bareTag = 1
 
 abbrev pub errorTag : ℕ
 errorTag = 2
-
--- a term that was not looked into
-abbrev pub unknownTag : ℕ
-unknownTag = 3
 
 abbrev pub tagOf : Side → ℕ
 tagOf (val z) = valueTag
@@ -63,10 +59,9 @@ pub record Span : Type 0 where
 abbrev pub span : ℕ → ℕ → Span
 span from to = record { from = from; to = to }
 
--- the terms s and t stand in these tokens, in words that hold α, the arrays of D and, from the pointer p on, the environment E
+-- the terms s and t stand in these tokens, in words that hold α, the arrays of D and the environment E, which p points to
 pub record Stand (w : Words) (x : Span) (p : ℕ) (D : Declared) (α : Valuation) (E : Environment) (s t : Term) : Type 0 where
-  pub depth : ℕ
-  pub memory : Memory w depth p D α E
+  pub memory : Memory w p D α E
   pub terms : TermsAt w (x .from) (x .to) s t
   pub scope : Scope
   pub locals : (l : ℕ) → T (scope l) → l < maxLocals
@@ -75,22 +70,7 @@ pub record Stand (w : Words) (x : Span) (p : ℕ) (D : Declared) (α : Valuation
   pub left-low : height s ≤ maxNesting
   pub right-low : height t ≤ maxNesting
 
--- the same; and they are those of the formula at token h, planned outside of calls
-pub record Given (w : Words) (h : ℕ) (x : Span) (p : ℕ) (D : Declared) (α : Valuation) (E : Environment) (s t : Term) : Type 0 where
-  pub depth : ℕ
-  pub memory : Memory w depth p D α E
-  pub terms : TermsAt w (x .from) (x .to) s t
-  pub scope : Scope
-  pub locals : (l : ℕ) → T (scope l) → l < maxLocals
-  pub left : OkTerm D scope (fillTerm (termsOf E) s)
-  pub right : OkTerm D scope (fillTerm (termsOf E) t)
-  pub left-low : height s ≤ maxNesting
-  pub right-low : height t ≤ maxNesting
-  pub before : h < x .from
-  pub planned : p ≡ 0 → TermsPlanned w h (x .from) s t
-
--- what the full evaluation asks
-pub record AskedFull (w : Words) (from to p : ℕ) : Type 0 where
+pub record Asked (w : Words) (from to p : ℕ) : Type 0 where
   pub declared : Declared
   pub valuation : Valuation
   pub environment : Environment
@@ -98,34 +78,17 @@ pub record AskedFull (w : Words) (from to p : ℕ) : Type 0 where
   pub right : Term
   pub stand : Stand w (span from to) p declared valuation environment left right
 
-pub record Asked (w : Words) (h from to p : ℕ) : Type 0 where
-  pub declared : Declared
-  pub valuation : Valuation
-  pub environment : Environment
-  pub left : Term
-  pub right : Term
-  pub given : Given w h (span from to) p declared valuation environment left right
+-- the same words below n
+abbrev pub Upto : ℕ → Words → Words → Type 0
+Upto n w w' = (j : ℕ) → j < n → getD w' j 0 ≡ getD w j 0
 
 -- all words but those that the valuing of terms may change
 abbrev pub Kept : Words → Words → Type 0
-Kept w w' = (k : ℕ) → (k < duesAt) ⊎ (valuedEnd ≤ k) → getD w' k 0 ≡ getD w k 0
+Kept w w' = (k : ℕ) → (k < duesAt) ⊎ (framesAt ≤ k) → getD w' k 0 ≡ getD w k 0
 
-pub record ValuedFull (w w' : Words) (from to p : ℕ) (r : Sides) : Type 0 where
+pub record Valued (w w' : Words) (from to p : ℕ) (r : Sides) : Type 0 where
   pub sides : (D : Declared) (α : Valuation) (E : Environment) (s t : Term) → Stand w (span from to) p D α E s t →
       r ≡ sidesOf (side D α (fillTerm (termsOf E) s)) (side D α (fillTerm (termsOf E) t))
-  pub kept : Kept w w'
-  pub size : length w' ≡ length w
-
-pub record Valued (w w' : Words) (h from to p : ℕ) (r : Sides) : Type 0 where
-  pub sides : (D : Declared) (α : Valuation) (E : Environment) (s t : Term) → Given w h (span from to) p D α E s t →
-      r ≡ sidesOf (side D α (fillTerm (termsOf E) s)) (side D α (fillTerm (termsOf E) t))
-  pub kept : Kept w w'
-  pub size : length w' ≡ length w
-
--- what was tried first: not looked into, or the sides
-pub record Tried (w w' : Words) (h from to p : ℕ) (r : Sides) : Type 0 where
-  pub sides : (D : Declared) (α : Valuation) (E : Environment) (s t : Term) → Given w h (span from to) p D α E s t →
-      (r .ltag ≡ unknownTag) ⊎ (r ≡ sidesOf (side D α (fillTerm (termsOf E) s)) (side D α (fillTerm (termsOf E) t)))
   pub kept : Kept w w'
   pub size : length w' ≡ length w
 

@@ -1,9 +1,8 @@
-// Terms over the tables in the work words: the values of terms, by their plan or by one loop over their tokens, and the arguments of calls;
-// nothing recurses.
+// Terms over the tables in the work words: the values of terms, by one loop over their tokens, and the arguments of calls; nothing recurses.
+pub mod arguments;
 pub mod calls;
 pub mod evaluation;
 pub mod kinds;
-mod quick;
 pub mod tags;
 
 // What two terms are: of each a tag (tags.rt) and a word.
@@ -18,11 +17,5 @@ pub struct Sides {
 pub(crate) struct Stack {
     pub tag: u32,
     pub value: u32,
-    pub at: usize,
-}
-
-// The same, of a plan: the last one's number (quick.rt), and where in the words the others end.
-pub(crate) struct Numbers {
-    pub acc: i64,
     pub at: usize,
 }

@@ -4,6 +4,3 @@ pub const VALUE: u32 = 0;
 pub const BARE: u32 = 1;
 
 pub const ERROR: u32 = 2;
-
-// No result: the terms were not looked into.
-pub const UNKNOWN: u32 = 3;

@@ -1,156 +1,149 @@
--- The chain of calls with open parameters, found from the innermost outwards. Assumes nothing.
+-- The calls that are active, found from the innermost procedure outwards: the next one, how many they are, and the one at a number. Assumes nothing.
 use Prim.Native.Nat.{ℕ, zero, suc, _+_, _-_, _<_, _≤_}
-use native.Mathlib.Omega.{arith, not-le}
+use native.Mathlib.Omega.{arith}
 use native.Mathlib.Numerals.{add-one}
-use borrow.Author.Count.{below-more}
-use borrow.Author.Tests.{eq-eqb, ne-eqb}
 use mathlib.Core.Path.{_≡_, refl, sym, _∙_, ap, subst}
-use mathlib.Core.Bool.{true, false}
 use mathlib.Core.List.{[], _∷_}
-use mathlib.Core.Logic.{_⊎_, inl, inr}
-use lib.ListN.{length, getD, set, drop, length-set, drop-of-length-le}
-use lib.Seq.{getD-set-same, getD-set-other}
-use lib.Dec.{eqb}
-use Rattle.specification.specs.Bytes.{pick}
+use lib.ListN.{length, getD, drop}
+use lib.Seq.{drop-cons}
 use Rattle.specification.specs.Lines.{Declared}
-use Rattle.specification.proofs.Laws.Contradiction.{contradiction}
-use Rattle.tables.specs.Layout.{Words, duesAt, valuedEnd, nodeEnd, chainSlot, activeAt, maxProcs}
-use Rattle.tables.specs.Locals.{inSet}
-use Rattle.tables.specs.Node.{restWord, envWord, envAt, tagsAt, anyOpen}
-use Rattle.terms.specs.Environment.{Environment, EnvAt}
-use Rattle.terms.specs.Results.{Kept}
-use Rattle.terms.specs.Calls.{isOpen, Settles, pointer, Chained}
-use Rattle.terms.proofs.Laws.Environment.{env-more, env-few, env-inside}
+use Rattle.tables.specs.Layout.{Words, pathAt, maxProcs, tokenSlot, planAt}
+use Rattle.tables.specs.Frames.{callAt}
+use Rattle.terms.specs.Environment.{Level, Environment, pointerOf, LevelAt, EnvAt}
+use Rattle.terms.specs.Calls.{Settles, Active, numberAt, aroundAt, Counted, Outward, Reached}
+use Rattle.terms.proofs.Laws.Here.{token-ends}
+use Rattle.terms.proofs.Laws.Environment.{env-few, number-low}
 
--- ---- whether a call has an open parameter
+-- ---- the innermost call
 
-pub open-none : (w : Words) (p : ℕ) → p ≡ 0 → isOpen w p ≡ false
-open-none w p e = rw (eq-eqb p 0 e) refl
+pub number-is : {D : Declared} {w : Words} {L : Level} {E : Environment} (p : ℕ) (v : LevelAt D w L E) → p ≡ suc (L .number) →
+    numberAt w p ≡ suc (v .token)
+number-is {w = w} {L = L} p v e =
+    let number : p - 1 ≡ L .number = omega arith in
+    let place : callAt w (p - 1) ≡ tokenSlot (v .token) = rw number (v .place) in
+    omega (arith, place)
 
-pub open-some : (w : Words) (p : ℕ) → (p ≡ 0 → ⊥) → isOpen w p ≡ inSet (tagsAt w (p - 1)) anyOpen
-open-some w p n = rw (ne-eqb p 0 n) refl
+pub around-is : {D : Declared} {w : Words} {L : Level} {E : Environment} (p : ℕ) → LevelAt D w L E → p ≡ suc (L .number) →
+    aroundAt w p ≡ pointerOf E
+around-is {w = w} p v e = ap (λ (i : ℕ). planAt w i) (number-is p v e) ∙ v .calls .around
 
-pub open-pos : (w : Words) (p : ℕ) → isOpen w p ≡ true → 0 < p
-open-pos w zero e = contradiction cc
-open-pos w (suc p) e = omega arith
+pub active-of : (D : Declared) (w : Words) (L : Level) (E : Environment) (p : ℕ) → EnvAt D w (L ∷ E) → p ≡ suc (L .number) → pathAt ≤ length w →
+    Active w p
+active-of D w L E p h e size =
+    let low = number-low D w L E h in
+    let ends = token-ends (h .0 .calls .call .token) in
+    record {
+      some = omega arith;
+      procedure = omega arith;
+      token = omega (arith, number-is p (h .0) e, ends .after, ends .inside);
+      size = size;
+    }
 
-open-kept : (w w' : Words) → Kept w w' → (p : ℕ) → isOpen w' p ≡ isOpen w p
-open-kept w w' kept p = ap (λ (t : ℕ). pick (eqb p 0) false (inSet t anyOpen)) (kept (restWord (p - 1)) (inr (omega arith)))
+-- ---- n calls further out
 
--- ---- pointers outwards
+pub env-drop : (D : Declared) (w : Words) (E : Environment) (n : ℕ) → EnvAt D w E → EnvAt D w (drop n E)
+env-drop D w E zero h = h
+env-drop D w [] (suc n) h = h
+env-drop D w (L ∷ E) (suc n) h = env-drop D w E n (h .1)
 
-pub pointer-next : (w : Words) (p j : ℕ) → pointer w p (suc j) ≡ envAt w (pointer w p j - 1)
-unfolding pointer
-pointer-next w p zero = refl
-pointer-next w p (suc j) = pointer-next w (envAt w (p - 1)) j
+pub none-left : (E : Environment) (n : ℕ) → length E ≤ n → drop n E ≡ []
+none-left [] zero l = refl
+none-left [] (suc n) l = refl
+none-left (L ∷ E) zero l = absurd (omega arith)
+none-left (L ∷ E) (suc n) l = none-left E n (omega arith)
 
-pointer-kept : (w w' : Words) → Kept w w' → (p j : ℕ) → pointer w' p j ≡ pointer w p j
-unfolding pointer
-pointer-kept w w' kept p zero = refl
-pointer-kept w w' kept p (suc j) =
-    let env : envAt w' (p - 1) ≡ envAt w (p - 1) = kept (envWord (p - 1)) (inr (omega arith)) in
-    pointer-kept w w' kept (envAt w' (p - 1)) j ∙ ap (λ (q : ℕ). pointer w q j) env
+some-left : (E : Environment) (n : ℕ) → (pointerOf (drop n E) ≡ 0 → ⊥) → n < length E
+some-left [] zero d = absurd (d refl)
+some-left [] (suc n) d = absurd (d refl)
+some-left (L ∷ E) zero d = omega arith
+some-left (L ∷ E) (suc n) d = omega (arith, some-left E n d)
 
--- from p on the environment is E, and after j calls what is left of it
-pub env-at : (D : Declared) (w : Words) (E : Environment) (n p j : ℕ) → EnvAt D w n p E → ((i : ℕ) → i < j → 0 < pointer w p i) →
-    EnvAt D w n (pointer w p j) (drop j E) × (j ≤ length E)
-unfolding pointer
-env-at D w E n p zero h pos = (h, omega arith)
-env-at D w [] n p (suc j) h pos = let q : 0 < p = pos 0 (omega arith) in absurd (omega arith)
-env-at D w (L ∷ E) n p (suc j) h pos =
-    let r = env-at D w E (p - 1) (envAt w (p - 1)) j (h .around) (λ i l. pos (suc i) (omega arith)) in
-    (env-more D w (p - 1) n (pointer w (envAt w (p - 1)) j) (omega (arith, h .below)) (drop j E) (r .0), omega (arith, r .1))
+all-passed : (E : Environment) (n : ℕ) → pointerOf (drop n E) ≡ 0 → length E ≤ n
+all-passed [] n e = omega arith
+all-passed (L ∷ E) zero e = absurd (omega arith)
+all-passed (L ∷ E) (suc n) e = omega (arith, all-passed E n e)
 
--- a pointer that is not 0 leads to one call more
-pub more-calls : (D : Declared) (w : Words) (E : Environment) (n p j : ℕ) → EnvAt D w n p (drop j E) → 0 < p → j < length E
-more-calls D w E n p j h pos =
-    not-le (length E) j (λ l. let none : p ≡ 0 = subst (EnvAt D w n p) (drop-of-length-le E l) h in omega arith)
+-- no call
+abbrev noLevel : Level
+noLevel = record { number = 0; arguments = []; terms = [] }
 
--- ---- the chain is found
+-- the call after the first n
+abbrev pub levelAt : Environment → ℕ → Level
+levelAt E n = getD E n noLevel
 
--- the first n calls from p₀ on have open parameters, the words of the chain point to them, and p is the pointer after them
-pub record Links (w₀ w : Words) (p₀ p n : ℕ) : Type 0 where
-  pub here : p ≡ pointer w₀ p₀ n
-  pub opened : (j : ℕ) → j < n → isOpen w₀ (pointer w₀ p₀ j) ≡ true
-  pub pointers : (j : ℕ) → j < n → activeAt w j ≡ pointer w₀ p₀ j
-  pub kept : Kept w₀ w
-  pub size : length w ≡ length w₀
+pub split : (E : Environment) (n : ℕ) → n < length E → drop n E ≡ levelAt E n ∷ drop (suc n) E
+split E n h = drop-cons E n noLevel h
 
-pub links-start : (w : Words) (p : ℕ) → Links w w p p 0
-unfolding pointer
-links-start w p =
-    record { here = refl; opened = λ j l. absurd (omega arith); pointers = λ j l. absurd (omega arith); kept = λ k o. refl; size = refl }
+module _ (D : Declared) (w : Words) (E : Environment) (n q : ℕ) (h : EnvAt D w E) (l : n < length E) (e : q ≡ pointerOf (drop n E)) where
+  here : EnvAt D w (levelAt E n ∷ drop (suc n) E)
+  here = subst (EnvAt D w) (split E n l) (env-drop D w E n h)
 
-module _ {w₀ w : Words} {p₀ p n : ℕ} (a : Settles w₀ p₀) (k : Links w₀ w p₀ p n) where
-  reached : EnvAt (a .declared) w₀ (a .depth) p (drop n (a .environment)) × (n ≤ length (a .environment))
-  reached =
-      rw (k .here)
-      (env-at (a .declared) w₀ (a .environment) (a .depth) p₀ n (a .memory .environment) (λ i l. open-pos w₀ (pointer w₀ p₀ i) (k .opened i l)))
+  pointed : q ≡ suc (levelAt E n .number)
+  pointed = e ∙ ap pointerOf (split E n l)
 
-  most : length (a .environment) ≤ maxProcs
-  most = omega (arith, env-few (a .declared) w₀ (a .environment) (a .depth) p₀ (a .memory .environment))
+  out-active : pathAt ≤ length w → Active w q
+  out-active = active-of D w (levelAt E n) (drop (suc n) E) q here pointed
 
-  inside : p ≤ a .depth
-  inside = env-inside (a .declared) w₀ (drop n (a .environment)) (a .depth) p (reached .0)
+  out-next : aroundAt w q ≡ pointerOf (drop (suc n) E)
+  out-next = around-is q (here .0) pointed
 
-  pub open-asked : 0 < p → nodeEnd (p - 1) ≤ length w
-  open-asked pos = omega (arith, inside, a .memory .size, k .size)
+pub calls-few : {w : Words} {p : ℕ} (a : Settles w p) → length (a .environment) ≤ maxProcs
+calls-few {w} a = omega (arith, env-few (a .declared) w (a .environment) (a .memory .environment))
 
-  pub links-end : isOpen w p ≡ false → Chained w₀ w p₀ n
-  links-end e =
-      let same = pointer-kept w₀ w (k .kept) p₀ in
+-- ---- how many they are
+
+-- n calls are passed, and q points to the next
+pub record Passing (w : Words) (p n q : ℕ) : Type 0 where
+  pub each : (D : Declared) (E : Environment) → EnvAt D w E → p ≡ pointerOf E → (n ≤ length E) × (q ≡ pointerOf (drop n E))
+
+pub passing-start : (w : Words) (p : ℕ) → Passing w p 0 p
+passing-start w p = record { each = λ D E h e. (omega arith, e) }
+
+pub passing-end : {w : Words} {p n q : ℕ} → Passing w p n q → q ≡ 0 → Counted w p n
+passing-end {n = n} g z D E h e =
+    let r = g .each D E h e in
+    omega (arith, r .0, all-passed E n (sym (r .1) ∙ z))
+
+module _ {w : Words} {p n q : ℕ} (g : Passing w p n q) (some : q ≡ 0 → ⊥) where
+  passing-more : (D : Declared) (E : Environment) → EnvAt D w E → p ≡ pointerOf E → n < length E
+  passing-more D E h e = some-left E n (λ z. some (g .each D E h e .1 ∙ z))
+
+  pub passing-asks : Settles w p → Active w q
+  passing-asks a =
+      let m = a .memory in
+      let E = a .environment in
+      out-active (a .declared) w E n q (m .environment) (passing-more (a .declared) E (m .environment) (m .pointer))
+      (g .each (a .declared) E (m .environment) (m .pointer) .1) (m .size)
+
+  pub passing-few : Settles w p → n < maxProcs
+  passing-few a =
+      let m = a .memory in
+      omega (arith, passing-more (a .declared) (a .environment) (m .environment) (m .pointer), calls-few a)
+
+  pub passing-next : {r : ℕ} → r ≡ aroundAt w q → Passing w p (n + 1) r
+  passing-next {r} is =
       record {
-        opened = λ j l. rw (same j, open-kept w₀ w (k .kept) (pointer w₀ p₀ j)) (k .opened j l);
-        pointers = λ j l. k .pointers j l ∙ sym (same j);
-        end = rw (same n, ← k .here) e;
-        few = omega (arith, reached .1, most);
-        kept = k .kept;
-        size = k .size;
+        each = λ D E h e.
+            let more = passing-more D E h e in
+            (omega arith, rw add-one (is ∙ out-next D w E n q h more (g .each D E h e .1)));
       }
 
-  module _ (e : isOpen w p ≡ true) where
-    pub link-pos : 0 < p
-    link-pos = open-pos w p e
+-- ---- the one at a number
 
-    here-open : isOpen w₀ (pointer w₀ p₀ n) ≡ true
-    here-open = rw (← k .here) (sym (open-kept w₀ w (k .kept) p) ∙ e)
+pub outward-start : (w : Words) (p : ℕ) → Reached w p 0 p
+outward-start w p D E h e l = e
 
-    pub link-room : n < maxProcs
-    link-room = omega (arith, most, more-calls (a .declared) w₀ (a .environment) (a .depth) p n (reached .0) link-pos)
+module _ (w : Words) (p : ℕ) {n q j : ℕ} (g : Reached w p n q) (less : n < j) where
+  pub outward-asks : Outward w p j → Active w q
+  outward-asks a =
+      let s = a .settles in
+      let m = s .memory in
+      let E = s .environment in
+      out-active (s .declared) w E n q (m .environment) (omega (arith, a .within))
+      (g (s .declared) E (m .environment) (m .pointer) (omega (arith, a .within))) (m .size)
 
-    pub link-low : chainSlot n < length w
-    link-low = omega (arith, link-room, a .memory .size, k .size)
+  pub outward-few : Outward w p j → n < maxProcs
+  outward-few a = omega (arith, a .within, calls-few (a .settles))
 
-    module _ {w' : Words} {q : ℕ} (stored : w' ≡ set w (chainSlot n) p) (next : q ≡ envAt w' (p - 1)) where
-      other : (j : ℕ) → (j ≡ chainSlot n → ⊥) → getD w' j 0 ≡ getD w j 0
-      other j d = rw stored (getD-set-other w (chainSlot n) j p 0 d)
-
-      env-is : q ≡ envAt w₀ (p - 1)
-      env-is = next ∙ other (envWord (p - 1)) (λ y. omega (arith, link-room)) ∙ k .kept (envWord (p - 1)) (inr (omega arith))
-
-      pub link-less : q < p
-      link-less = omega (arith, env-is, around (drop n (a .environment)) (reached .0))
-        where
-          around : (E : Environment) → EnvAt (a .declared) w₀ (a .depth) p E → envAt w₀ (p - 1) < p
-          around [] h = absurd (omega (arith, link-pos))
-          around (L ∷ E) h = omega (arith, link-pos, env-inside (a .declared) w₀ E (p - 1) (envAt w₀ (p - 1)) (h .around))
-
-      link-pointers : (j : ℕ) → j < n + 1 → activeAt w' j ≡ pointer w₀ p₀ j
-      link-pointers =
-          below-more (λ (j : ℕ). activeAt w' j ≡ pointer w₀ p₀ j) n
-          (λ j l. other (chainSlot j) (λ y. omega arith) ∙ k .pointers j l)
-          (rw stored (getD-set-same w (chainSlot n) p 0 link-low) ∙ k .here)
-
-      pub links-next : Links w₀ w' p₀ q (n + 1)
-      links-next =
-          record {
-            here = rw add-one (env-is ∙ ap (λ (p : ℕ). envAt w₀ (p - 1)) (k .here) ∙ sym (pointer-next w₀ p₀ n));
-            opened = below-more (λ (j : ℕ). isOpen w₀ (pointer w₀ p₀ j) ≡ true) n (k .opened) here-open;
-            pointers = link-pointers;
-            kept = λ j o. other j (outside j o) ∙ k .kept j o;
-            size = rw (stored, length-set) (k .size);
-          }
-        where
-          outside : (j : ℕ) → (j < duesAt) ⊎ (valuedEnd ≤ j) → j ≡ chainSlot n → ⊥
-          outside j (inl h) y = omega (arith, link-room)
-          outside j (inr h) y = omega (arith, link-room)
+  pub outward-next : {r : ℕ} → r ≡ aroundAt w q → Reached w p (n + 1) r
+  outward-next {r} is D E h e l = rw add-one (is ∙ out-next D w E n q h (omega arith) (g D E h e (omega arith)))

@@ -1,4 +1,4 @@
--- Frozen terms: well scoped as they were, and in every branch below what they would be; and what a call's node says of them. Assumes nothing.
+-- Frozen terms: well scoped as they were, and in every branch below what they would be; and what a call's frame says of them. Assumes nothing.
 use Prim.Native.Nat.{ℕ, _+_, _≤_, _<_}
 use native.Mathlib.Omega.{arith}
 use mathlib.Core.Path.{_≡_, refl, sym, _∙_, ap}

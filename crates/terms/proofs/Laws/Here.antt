@@ -3,12 +3,13 @@ use Prim.Native.Nat.{ℕ, suc, _+_, _≤_, _<_}
 use native.Mathlib.Omega.{arith}
 use mathlib.Core.Path.{_≡_, _∙_}
 use mathlib.Core.List.{List, [], _∷_}
+use Rattle.specification.specs.Lines.{Declared}
 use Rattle.specification.specs.Ast.{Term, constant, scalarAt, localAt, parameter, elementAt, apply}
-use Rattle.tables.specs.Layout.{tokenSlot, maxTokens}
+use Rattle.tables.specs.Layout.{tokenSlot, planAt, maxTokens}
 use Rattle.tables.specs.Kept.{SameTokens}
 use Rattle.sheet.specs.Tables.{Words}
 use Rattle.sheet.specs.Held.{codeAt, operandAt, endAt, TokenAt, TermAt, TermsAt, ArgumentsAt}
-use Rattle.terms.specs.Environment.{CallAt}
+use Rattle.terms.specs.Environment.{Level, Environment, CallAt, Calls}
 
 -- ---- the tokens of a term lie in the table
 
@@ -39,6 +40,9 @@ module _ (t w : Words) (s : SameTokens t w) where
 
   pub end-here : {i : ℕ} → i < maxTokens → endAt w i ≡ endAt t i
   end-here {i} h = s (tokenSlot i + 2) (omega arith)
+
+  pub plan-here : {i : ℕ} → i < maxTokens → planAt w i ≡ planAt t i
+  plan-here {i} h = s (tokenSlot i + 3) (omega arith)
 
   pub ended-here : {i : ℕ} → Ends t i → endAt w i ≡ endAt t i
   ended-here q = end-here (omega (arith, q .after, q .inside))
@@ -82,4 +86,18 @@ module _ (t w : Words) (s : SameTokens t w) where
         token = rw e (token-here (q .token));
         number = operand-kept (q .token) (q .number);
         arguments = rw e (arguments-here ts (suc (suc h)) (endAt t (suc h)) (q .arguments));
+      }
+
+  -- the call of an active procedure
+  pub calls-here : {D : Declared} {h : ℕ} {L : Level} {E : Environment} → Calls D t h L E → Calls D w h L E
+  calls-here {h = h} q =
+      let ends = token-ends (q .call .token) in
+      let inside : suc h < maxTokens = omega (arith, ends .after, ends .inside) in
+      record {
+        earlier = q .earlier;
+        call = call-here (q .call);
+        around = plan-here inside ∙ q .around;
+        arguments = q .arguments;
+        count = q .count;
+        arity = q .arity;
       }

@@ -7,7 +7,7 @@ use Rattle.specification.specs.Place.{Place, cell, local}
 use Rattle.specification.specs.Value.{Slot, empty, full, Valuation}
 use Rattle.tables.specs.Layout.{duesAt, cellSlot, localSlot, firstSlot}
 use Rattle.tables.specs.Kept.{SameTokens}
-use Rattle.tables.specs.Node.{Upto}
+use Rattle.terms.specs.Results.{Upto}
 use Rattle.sheet.specs.Tables.{Words}
 use Rattle.sheet.specs.Held.{SlotAt, slotOf, Holds, ArraysAt}
 use Rattle.terms.specs.Environment.{Known}

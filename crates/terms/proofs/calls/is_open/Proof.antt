@@ -1,33 +1,36 @@
 -- `calls::is_open` meets its contract. Assumes nothing.
-use native.Mathlib.Omega.{arith}
-use mathlib.Core.Path.{sym, _∙_}
-use Rattle.terms.proofs.Laws.Chain.{open-none, open-some}
+use Rattle.terms.proofs.Laws.Revalue.{flag-closed, flag-open}
 use borrow.Author.Needs.{needs}
 use Rattle.terms.proofs.calls.is_open.Statement.{statement}
 use Rattle.terms.proofs.calls.is_open.Tie as tie
 
+argument-requires : tie.Need-argument-requires
+argument-requires c κs = search needs
+
+word-requires : tie.Need-word-requires
+word-requires c κs = search needs
+
 returns : tie.Need-returns
 returns c =
-    let start = c .before .before in
-    sym (open-none (start .args .w .now) _ (c .if1 .taken))
+    let at-word = c .before in
+    let at-argument = at-word .before in
+    let start = at-argument .before .before in
+    flag-closed (start .args .w .now) _ _ (at-argument .argument .ensures) (at-word .word .ensures) (c .if1 .taken)
 
-sub-tags-of : tie.Need-sub-tags-of
-sub-tags-of c = search needs
+add-word : tie.Need-add-word
+add-word c = search needs
 
-tags-of-requires : tie.Need-tags-of-requires
-tags-of-requires c κs =
-    let start = c .before .before in
-    start .pre (omega (arith, c .if1 .left))
-
-has-requires : tie.Need-has-requires
-has-requires c κs = search needs
+word-requires-2 : tie.Need-word-requires-2
+word-requires-2 c κs = search needs
 
 returns-2 : tie.Need-returns-2
 returns-2 c =
-    let at-tags-of = c .before in
-    let at-if1 = at-tags-of .before in
-    let start = at-if1 .before .before in
-    rw (at-tags-of .tags-of .ensures) at (c .has .ensures) ∙ sym (open-some (start .args .w .now) _ (at-if1 .if1 .left))
+    let at-if1 = c .before in
+    let at-word = at-if1 .before in
+    let at-argument = at-word .before in
+    let start = at-argument .before .before in
+    flag-open (start .args .w .now) _ _ (at-argument .argument .ensures) (at-word .word .ensures) (at-if1 .if1 .left) (c .word2 .ensures)
 
 pub is-open-spec : {M : Type 1} → statement M
-is-open-spec = tie.close (tie.spec returns sub-tags-of tags-of-requires has-requires returns-2)
+is-open-spec =
+    tie.close (tie.spec argument-requires word-requires returns add-word word-requires-2 returns-2)

@@ -1,4 +1,4 @@
--- `evaluation::parameter` meets its contract: the store before the read leaves the call's node and the words of open parameters as they were.
+-- `evaluation::parameter` meets its contract: the store before the read leaves the frames and the words of open parameters as they were.
 -- Assumes nothing.
 use Rattle.terms.proofs.Laws.Parameter.{parameter-after, parameter-made}
 use borrow.Author.Needs.{needs}
@@ -20,7 +20,7 @@ same-length c = search needs
 returns : tie.Need-returns
 returns c =
     let at-kept = c .before .before .before .before in
-    parameter-made (at-kept .kept .ensures) (at-kept .kept .kept .0) (c .result .ensures)
+    parameter-made (at-kept .kept .ensures) (c .result .ensures)
 
 pub parameter-spec : {M : Type 1} → statement M
 parameter-spec = tie.close (tie.spec kept-requires result-requires same-length returns)

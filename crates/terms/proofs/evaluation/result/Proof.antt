@@ -1,112 +1,95 @@
 -- `evaluation::result` meets its contract. Assumes nothing.
-use native.Mathlib.Omega.{arith}
 use mathlib.Core.Path.{sym, _∙_}
-use Rattle.terms.proofs.Laws.Parameter.{place-low, entry-low, result-place, result-open, result-value}
+use Rattle.terms.proofs.Laws.Parameter.{place-low, result-place, result-open, result-value}
 use borrow.Author.Needs.{needs}
 use Rattle.terms.proofs.evaluation.result.Statement.{statement}
 use Rattle.terms.proofs.evaluation.result.Tie as tie
 
-sub-d : tie.Need-sub-d
-sub-d c = search needs
+sub-argument : tie.Need-sub-argument
+sub-argument c = search needs
 
-tags-of-requires : tie.Need-tags-of-requires
-tags-of-requires c κs = search needs
+argument-requires : tie.Need-argument-requires
+argument-requires c κs = search needs
 
-has-requires : tie.Need-has-requires
-has-requires c κs = search needs
+add-word : tie.Need-add-word
+add-word c = search needs
 
-result-of-requires : tie.Need-result-of-requires
-result-of-requires c κs = search needs
+word-requires : tie.Need-word-requires
+word-requires c κs = search needs
+
+word-requires-2 : tie.Need-word-requires-2
+word-requires-2 c κs = search needs
+
+returns : tie.Need-returns
+returns c =
+    let at-word2 = c .before in
+    let at-word = at-word2 .before in
+    let at-argument = at-word .before in
+    let start = at-argument .before .before in
+    result-value (start .args .w .now) _ _ _ (at-argument .argument .ensures) (at-word .word .ensures)
+    (λ z. (c .if1 .taken) (at-word2 .word2 .ensures ∙ z))
 
 look-requires : tie.Need-look-requires
 look-requires c κs =
     let at-if1 = c .before in
-    let at-has = at-if1 .before in
-    let at-tags-of = at-has .before in
-    let start = at-tags-of .before .before in
-    let is = sym (at-has .has .ensures) ∙ at-if1 .if1 .taken in
-    (place-low _ _ _ 0 (at-tags-of .tags-of .ensures) (start .pre) is (c .result-of .ensures), start .pre .size)
-
-returns : tie.Need-returns
-returns c =
-    let at-result-of = c .before in
-    let at-if1 = at-result-of .before in
-    let at-has = at-if1 .before in
-    let at-tags-of = at-has .before in
-    result-place _ _ _ _ (at-tags-of .tags-of .ensures) (sym (at-has .has .ensures) ∙ at-if1 .if1 .taken)
-    (at-result-of .result-of .ensures) (c .look .ensures)
-
-add-has : tie.Need-add-has
-add-has c = search needs
-
-has-requires-2 : tie.Need-has-requires-2
-has-requires-2 c κs = search needs
-
-head-of-requires : tie.Need-head-of-requires
-head-of-requires c κs = search needs
-
-add-operand : tie.Need-add-operand
-add-operand c = search needs
-
-operand-requires : tie.Need-operand-requires
-operand-requires c κs = search needs
-
-argument-tag-requires : tie.Need-argument-tag-requires
-argument-tag-requires c κs =
-    let at-head-of = c .before in
-    let at-tags-of = at-head-of .before .before .before .before .before in
-    let start = at-tags-of .before .before in
-    omega (arith, entry-low _ _ _ 0 (at-tags-of .tags-of .ensures) (at-head-of .head-of .ensures) (c .operand .ensures) (start .pre))
-
-argument-requires : tie.Need-argument-requires
-argument-requires c κs =
-    let at-operand = c .before in
-    let at-head-of = at-operand .before in
-    let at-tags-of = at-head-of .before .before .before .before .before in
-    let start = at-tags-of .before .before in
-    entry-low _ _ _ 0 (at-tags-of .tags-of .ensures) (at-head-of .head-of .ensures) (at-operand .operand .ensures) (start .pre)
+    let at-word2 = at-if1 .before in
+    let at-word = at-word2 .before in
+    let at-argument = at-word .before in
+    let start = at-argument .before .before in
+    let none = sym (at-word2 .word2 .ensures) ∙ at-if1 .if1 .left in
+    let low = place-low (start .args .w .now) _ _ 0 (at-argument .argument .ensures) (at-word .word .ensures) none (start .pre) (c .if2 .taken) in
+    (low, start .pre .size)
 
 returns-2 : tie.Need-returns-2
 returns-2 c =
-    let at-argument-tag = c .before in
-    let at-operand = at-argument-tag .before in
-    let at-head-of = at-operand .before in
-    let at-if2 = at-head-of .before in
-    let at-has2 = at-if2 .before in
-    let at-tags-of = at-has2 .before .before .before in
-    result-open _ _ _ _ (at-tags-of .tags-of .ensures) (at-head-of .head-of .ensures) (at-operand .operand .ensures) _ _
-    (sym (at-has2 .has2 .ensures) ∙ at-if2 .if2 .taken) (at-argument-tag .argument-tag .ensures) (c .argument .ensures)
+    let at-if2 = c .before in
+    let at-if1 = at-if2 .before in
+    let at-word2 = at-if1 .before in
+    let at-word = at-word2 .before in
+    let at-argument = at-word .before in
+    let start = at-argument .before .before in
+    result-place (start .args .w .now) _ _ _ (at-argument .argument .ensures) (at-word .word .ensures)
+    (sym (at-word2 .word2 .ensures) ∙ at-if1 .if1 .left) (at-if2 .if2 .taken) (c .look .ensures)
 
-result-of-requires-2 : tie.Need-result-of-requires-2
-result-of-requires-2 c κs = search needs
+sub-open-tag : tie.Need-sub-open-tag
+sub-open-tag c = search needs
+
+open-tag-requires : tie.Need-open-tag-requires
+open-tag-requires c κs = search needs
+
+sub-open : tie.Need-sub-open
+sub-open c = search needs
+
+open-requires : tie.Need-open-requires
+open-requires c κs = search needs
 
 returns-3 : tie.Need-returns-3
 returns-3 c =
-    let at-if2 = c .before in
-    let at-has2 = at-if2 .before in
-    let at-if1 = at-has2 .before in
-    let at-has = at-if1 .before in
-    let at-tags-of = at-has .before in
-    result-value _ _ _ _ (at-tags-of .tags-of .ensures) _ (sym (at-has .has .ensures) ∙ at-if1 .if1 .left)
-    (sym (at-has2 .has2 .ensures) ∙ at-if2 .if2 .left) (c .result-of2 .ensures)
+    let at-open-tag = c .before in
+    let at-if2 = at-open-tag .before in
+    let at-if1 = at-if2 .before in
+    let at-word2 = at-if1 .before in
+    let at-word = at-word2 .before in
+    let at-argument = at-word .before in
+    let start = at-argument .before .before in
+    result-open (start .args .w .now) _ _ _ (at-argument .argument .ensures) (at-word .word .ensures)
+    (sym (at-word2 .word2 .ensures) ∙ at-if1 .if1 .left) _ _ (at-if2 .if2 .left) (at-open-tag .open-tag .ensures)
+    (c .«open» .ensures)
 
 pub result-spec : {M : Type 1} → statement M
 result-spec =
     tie.close
     (tie.spec
-    sub-d
-    tags-of-requires
-    has-requires
-    result-of-requires
-    look-requires
-    returns
-    add-has
-    has-requires-2
-    head-of-requires
-    add-operand
-    operand-requires
-    argument-tag-requires
+    sub-argument
     argument-requires
+    add-word
+    word-requires
+    word-requires-2
+    returns
+    look-requires
     returns-2
-    result-of-requires-2
+    sub-open-tag
+    open-tag-requires
+    sub-open
+    open-requires
     returns-3)

@@ -1,38 +1,58 @@
 -- `evaluation::sides` meets its contract. Assumes nothing.
+use Rattle.terms.proofs.Laws.Program.{asked-settles, asked-passes, passed-both}
 use borrow.Author.Needs.{needs}
-use Rattle.terms.proofs.Laws.Tried.{tried-valued, tried-asked, full-valued}
 use Rattle.terms.proofs.evaluation.sides.Statement.{statement}
 use Rattle.terms.proofs.evaluation.sides.Tie as tie
 
-tried-requires : tie.Need-tried-requires
-tried-requires c κs =
+settle-requires : tie.Need-settle-requires
+settle-requires c κs =
     let start = c .before .before in
-    start .pre
+    asked-settles (start .pre)
+
+pass-requires : tie.Need-pass-requires
+pass-requires c κs =
+    let at-settle = c .before .before .before in
+    let start = at-settle .before .before .before in
+    asked-passes (at-settle .settle .ensures) (start .pre)
+
+add-t11 : tie.Need-add-t11
+add-t11 c = search needs
+
+mul-t12 : tie.Need-mul-t12
+mul-t12 c = search needs
+
+slice-read-t14 : tie.Need-slice-read-t14
+slice-read-t14 c = search needs
+
+add-t15 : tie.Need-add-t15
+add-t15 c = search needs
+
+mul-t16 : tie.Need-mul-t16
+mul-t16 c = search needs
+
+slice-read-t18 : tie.Need-slice-read-t18
+slice-read-t18 c = search needs
 
 same-length : tie.Need-same-length
 same-length c = search needs
 
 returns : tie.Need-returns
 returns c =
-    let at-tried = c .before .before .before .before in
-    tried-valued (at-tried .tried .ensures) (c .if1 .taken)
-
-full-requires : tie.Need-full-requires
-full-requires c κs =
-    let at-tried = c .before .before .before .before .before in
-    let start = at-tried .before .before .before in
-    tried-asked (at-tried .tried .ensures) (start .pre)
-
-same-length-2 : tie.Need-same-length-2
-same-length-2 c = search needs
-
-returns-2 : tie.Need-returns-2
-returns-2 c =
-    let at-full = c .before .before in
-    let between = at-full .before .before .before in
-    let at-tried = between .before .before .before in
-    full-valued (at-tried .tried .ensures) (at-full .full .ensures)
+    let at-pass = c .before .before .before .before in
+    let at-settle = at-pass .before .before .before .before in
+    passed-both (at-settle .settle .ensures) (at-pass .pass .ensures)
 
 pub sides-spec : {M : Type 1} → statement M
 sides-spec =
-    tie.close (tie.spec tried-requires same-length returns full-requires same-length-2 returns-2)
+    tie.close
+    (tie.spec
+    settle-requires
+    pass-requires
+    add-t11
+    mul-t12
+    slice-read-t14
+    add-t15
+    mul-t16
+    slice-read-t18
+    same-length
+    returns)
