@@ -1,16 +1,9 @@
--- What the contracts of the walk cite: the walk with continuations, the tree as it knows it, and how the work words hold it.
-pub mod States
-pub mod Walk
-pub mod Site
-pub mod Stands
-pub mod Frame
-pub mod Marks
-pub mod Path
-pub mod Made
-pub mod Registers
-pub mod Sim
+-- What the contracts of the walk's functions cite, beside the definitions of `search`.
 pub mod Steps
-pub mod Binding
+pub mod Terms
+pub mod Climbing
+pub mod Frames
 pub mod Loop
-pub mod Walked
+pub mod Walks
 pub mod Blocks
+pub mod Walked

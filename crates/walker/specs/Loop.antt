@@ -1,189 +1,94 @@
--- The contracts of going up, of leaves and blocks, of a visit, and of a step of the loop. Assumes nothing.
-use Prim.Native.Nat.{ℕ, _+_, _*_, _-_, _≤_, _<_}
+-- The contracts of the loop (src/advance.rt). Assumes nothing.
+use Prim.Native.Nat.{ℕ, _+_, _-_, _*_, _≤_, _<_}
 use mathlib.Core.Path.{_≡_}
 use mathlib.Core.Logic.{_⊎_}
-use mathlib.Core.List.{List, _∷_}
-use lib.ListN.{length}
-use Rattle.specification.specs.Bytes.{Bytes}
-use Rattle.specification.specs.Place.{Place, put}
-use Rattle.specification.specs.Value.{Slot, Valuation}
-use Rattle.tables.specs.Node.{todoAt}
+use lib.Dec.{ltb, eqb}
+use Rattle.specification.specs.Bytes.{Bytes, pick}
+use Rattle.tables.specs.Layout.{lastsAt}
+use Rattle.tables.specs.Frames.{framesAt}
+use Rattle.tables.specs.Leaves.{risePlace}
 use Rattle.sheet.specs.Tables.{Words}
-use Rattle.walker.specs.declared.Regs.{Regs}
-use Rattle.walker.specs.declared.Task.{Task}
-use Rattle.walker.specs.Frame.{Frame, here, below, len, siteIn}
-use Rattle.walker.specs.Path as paths
-use Rattle.walker.specs.Path.{World, Changed}
-use Rattle.walker.specs.Sim.{yes, no, Down, In, Up, Yes, Leaf, Sim}
-use Rattle.walker.specs.Registers.{level}
-use Rattle.walker.specs.Steps.{Visited}
-use Rattle.walker.specs.States.{downMode, upMode, wonMode, blockMode, successJob}
+use Rattle.search.specs.declared.Go.{Go}
+use Rattle.search.specs.Path.{World}
+use Rattle.search.specs.Sim.{In, Up, Sim}
+use Rattle.search.specs.Registers.{tallied, outGo}
+use Rattle.search.specs.Climb.{Set}
+use Rattle.search.specs.States.{downMode, upMode, stoppedMode}
 
--- ---- going up
+-- ---- what is due
 
--- in some world a path with u to do at its topmost node
-pub record Topped (w : Words) (r : Regs) (u : ℕ) : Type 0 where
+-- a node or leaf that no limit stops, the end of a procedure's formula before one, or going up
+pub data Due (c : World) (b : Bytes) (w : Words) (g : Go) : Type 0 where
+  visit : In c b w g → Due c b w g
+  rising : g .due ≡ risePlace → Up c b w g → Due c b w g
+
+-- in some world of these limits
+pub record Dues (w : Words) (g : Go) (path budget : ℕ) : Type 0 where
   pub c : World
-  pub α : Valuation
-  pub fr : List Frame
-  pub path : paths.Path c w (r .depth) α fr
-  pub some : 0 < r .depth
-  pub todo : todoAt w (r .depth - 1) ≡ u
+  pub b : Bytes
+  pub set : Set c path budget
+  pub mode : g .mode ≡ downMode
+  pub due : Due c b w g
 
--- a son is finished, or an inner tree has succeeded
-abbrev pub Ups : ℕ → Type 0
-Ups mode = (mode ≡ upMode) ⊎ (mode ≡ wonMode)
+-- ---- how often the loop turns
 
--- in some world a path
-pub record Rising (w : Words) (r : Regs) : Type 0 where
+-- turns that are no visits: going up, and the end of a procedure's formula, whose place is in its frame
+abbrev pub pendingAt : ℕ → ℕ
+pendingAt due = pick (eqb due risePlace) 3 (pick (ltb due framesAt) 0 (pick (ltb due lastsAt) 1 0))
+
+abbrev pub pending : Go → ℕ
+pending g = pick (eqb (g .mode) upMode) 2 (pendingAt (g .due))
+
+abbrev pub measure : ℕ → Go → ℕ
+measure budget g = 4 * (budget - tallied g .nodes) + pending g
+
+-- ---- one turn
+
+pub record Came (w w' : Words) (g q : Go) (path budget : ℕ) : Type 0 where
+  pub sim : (c : World) (b : Bytes) → Set c path budget → Due c b w g → Sim c b w' q
+  pub falls : (q .mode ≡ downMode) ⊎ (q .mode ≡ upMode) → measure budget q < measure budget g
+  pub least : tallied g .nodes ≤ tallied q .nodes
+
+-- the invariant in some world of these limits
+pub record Simulates (w : Words) (g : Go) (path budget : ℕ) : Type 0 where
   pub c : World
-  pub α : Valuation
-  pub fr : List Frame
-  pub path : paths.Path c w (r .depth) α fr
-  pub mode : Ups (r .mode)
+  pub b : Bytes
+  pub set : Set c path budget
+  pub sim : Sim c b w g
 
--- a step up
-pub record Rose (w w' : Words) (r r' : Regs) : Type 0 where
-  pub ups : (c : World) (o : Bytes) → r .mode ≡ upMode → Up c o w r → Sim c o w' r'
-  pub yes : (c : World) (o : Bytes) → r .mode ≡ wonMode → Yes c o w r → Sim c o w' r'
-  pub nodes : r' .tallies .nodes ≡ r .tallies .nodes
-  pub falls : level r' < level r
-  -- the mode stays, or a visit is due or the walk over
-  pub modes : (r' .mode ≡ r .mode) ⊎ (r' .mode ≤ downMode)
+-- no son is finished any more
+pub record Risen (w w' : Words) (g q : Go) (path budget : ℕ) : Type 0 where
+  pub sim : (c : World) (b : Bytes) → Set c path budget → Sim c b w g → Sim c b w' q
+  pub stops : ¬ (q .mode ≡ upMode)
+  pub falls : q .mode ≡ downMode → (q ≡ g) ⊎ ((g .mode ≡ upMode) × (measure budget q < measure budget g))
+  pub least : tallied g .nodes ≤ tallied q .nodes
 
--- the topmost frame, and that nothing is left to do there
-pub record Exhausted (c : World) (r : Regs) (fr : List Frame) : Type 0 where
-  pub top : Frame
-  pub under : List Frame
-  pub parts : fr ≡ top ∷ under
-  pub same-no : r .mode ≡ upMode → no c fr ≡ no c under
-  pub same-yes : yes c fr ≡ yes c under
+-- a visit that is due does not come where a limit is reached
+abbrev pub limit : Go → Go
+limit g = pick (eqb (g .mode) downMode) (pick (eqb (g .depth) (g .stop)) (outGo g stoppedMode) g) g
 
--- it changed no slot
-abbrev pub Untouched : World → Regs → List Frame → Type 0
-Untouched c r fr =
-    (s : Exhausted c r fr)
-    × (below (s .top) ≡ here (s .top))
-    × (siteIn fr .inner ≡ siteIn (s .under) .inner)
-    × (siteIn fr .marks ≡ siteIn (s .under) .marks)
+pub record Turned (w w' : Words) (g q : Go) (path budget : ℕ) : Type 0 where
+  pub sim : (c : World) (b : Bytes) → Set c path budget → Due c b w g → Sim c b w' q
+  pub stops : ¬ (q .mode ≡ upMode)
+  pub room : q .mode ≡ downMode → ¬ (q .depth ≡ q .stop)
+  pub falls : q .mode ≡ downMode → measure budget q < measure budget g
+  pub least : tallied g .nodes ≤ tallied q .nodes
 
-pub record Leaves (w : Words) (r : Regs) : Type 0 where
-  pub at : Rising w r
-  pub some : 0 < r .depth
-  pub back : (c : World) (α : Valuation) (fr : List Frame) → paths.Path c w (r .depth) α fr → Untouched c r fr
+-- ---- from leaf to leaf
 
--- it changed a slot, and its words say how it was
-abbrev pub Undoable : World → Words → Regs → List Frame → Type 0
-Undoable c w r fr =
-    (s : Exhausted c r fr) × (p : Place) × (v : Slot)
-    × (below (s .top) ≡ put (here (s .top)) p v)
-    × Changed (c .declared) w (len (s .under)) p (siteIn (s .under)) (here (s .top))
-    × ((q : Place) → ¬ (q ≡ p) → siteIn fr .marks q ≡ siteIn (s .under) .marks q)
+-- a visit is due, or the loop is left
+pub data Going (c : World) (b : Bytes) (w : Words) (g : Go) : Type 0 where
+  goes : g .mode ≡ downMode → Due c b w g → Going c b w g
+  left : ¬ (g .mode ≡ downMode) → ¬ (g .mode ≡ upMode) → Sim c b w g → Going c b w g
 
-pub record Restores (w : Words) (r : Regs) : Type 0 where
-  pub at : Rising w r
-  pub some : 0 < r .depth
-  pub back : (c : World) (α : Valuation) (fr : List Frame) → paths.Path c w (r .depth) α fr → Undoable c w r fr
-
--- ---- leaves and blocks
-
--- a leaf whose visit is counted
-pub record AtLeaf (r : Regs) : Type 0 where
-  pub w : Words
-  pub at : Visited w r
-  pub leaf : successJob ≤ r .due .job
-
-pub record LeafDone (r r' : Regs) : Type 0 where
-  pub sim : (c : World) (o : Bytes) (w : Words) → In c o w r → Sim c o w r'
-  pub nodes : r' .tallies .nodes ≡ r .tallies .nodes
-  pub falls : level r' ≤ 2 * r .depth + blockMode
-
--- the world of this task
-pub record Fixed (c : World) (t : Task) : Type 0 where
-  pub setting : c .setting ≡ t .setting
-  pub scalar-count : t .scalars ≡ c .declared .scalars
-  pub array-count : t .arrays ≡ length (c .declared .arrays)
-
--- in some world a block is due
-pub record BlockDue (w : Words) (o : Bytes) (r : Regs) (t : Task) : Type 0 where
+pub record Goings (w : Words) (g : Go) (path budget : ℕ) : Type 0 where
   pub c : World
-  pub fixed : Fixed c t
-  pub leaf : Leaf c o w r
+  pub b : Bytes
+  pub set : Set c path budget
+  pub going : Going c b w g
 
-pub record Blocked (w : Words) (o o' : Bytes) (r r' : Regs) (t : Task) : Type 0 where
-  pub sim : (c : World) → Fixed c t → Leaf c o w r → Sim c o' w r'
-  pub nodes : r' .tallies .nodes ≡ r .tallies .nodes
-  pub falls : level r' ≤ 2 * r .depth + upMode
-  pub modes : r' .mode ≤ upMode
-  pub size : length o' ≡ length o
-
--- ---- a visit
-
--- falls with every step
-abbrev pub measure : ℕ → Regs → ℕ
-measure budget r = 5 * (budget - r .tallies .nodes) + level r
-
--- in some world a visit is due
-pub record VisitDue (w : Words) (r : Regs) (path budget : ℕ) : Type 0 where
-  pub c : World
-  pub o : Bytes
-  pub path-is : c .setting .path ≡ path
-  pub budget-is : c .setting .budget ≡ budget
-  pub mode : r .mode ≡ downMode
-  pub ins : Down c o w r
-
-pub record Arrived (w w' : Words) (r r' : Regs) (path budget : ℕ) : Type 0 where
-  pub sim : (c : World) (o : Bytes) → c .setting .path ≡ path → c .setting .budget ≡ budget → Down c o w r → Sim c o w' r'
-  pub falls : measure budget r' < measure budget r
-
--- ---- steps up
-
--- in some world the invariant holds
-pub record Climbs (w : Words) (r : Regs) (mode : ℕ) : Type 0 where
-  pub c : World
-  pub o : Bytes
-  pub sim : Sim c o w r
-  pub way : Ups mode
-
--- no step up is due in that mode any more
-pub record Climbed (w w' : Words) (r r' : Regs) (mode : ℕ) : Type 0 where
-  pub sim : (c : World) (o : Bytes) → Sim c o w r → Sim c o w' r'
-  pub nodes : r' .tallies .nodes ≡ r .tallies .nodes
-  pub falls : (r' ≡ r) ⊎ ((level r' < level r) × (r' .mode ≤ downMode))
-  pub stops : r' .mode ≡ mode → ⊥
-
--- ---- a step: a visit, up, a block, and up again
-
--- in some world of this task the invariant holds
-pub record Runs (w : Words) (o : Bytes) (r : Regs) (t : Task) : Type 0 where
-  pub c : World
-  pub fixed : Fixed c t
-  pub sim : Sim c o w r
-
--- no block is due any more
-pub record Settled (w : Words) (o o' : Bytes) (r r' : Regs) (t : Task) : Type 0 where
-  pub sim : (c : World) → Fixed c t → Sim c o w r → Sim c o' w r'
-  pub nodes : r' .tallies .nodes ≡ r .tallies .nodes
-  pub falls : ((r' ≡ r) × (r .mode ≡ blockMode → ⊥)) ⊎ ((level r' < level r) × (r' .mode ≤ upMode))
-  pub size : length o' ≡ length o
-
--- a visit is due
-pub record Live (w : Words) (o : Bytes) (r : Regs) (t : Task) : Type 0 where
-  pub runs : Runs w o r t
-  pub on : r .mode ≡ downMode
-
--- the memory and the registers at one moment
-pub record Snapshot : Type 0 where
-  pub words : Words
-  pub output : Bytes
-  pub regs : Regs
-
-abbrev pub snapshot : Words → Bytes → Regs → Snapshot
-snapshot w o r = record { words = w; output = o; regs = r }
-
-pub record Moved (a b : Snapshot) (t : Task) : Type 0 where
-  pub sim : (c : World) → Fixed c t → Sim c (a .output) (a .words) (a .regs) → Sim c (b .output) (b .words) (b .regs)
-  pub falls : measure (t .setting .budget) (b .regs) < measure (t .setting .budget) (a .regs)
-  -- a visit is due again, or the walk is over
-  pub modes : b .regs .mode ≤ downMode
-  pub size : length (b .output) ≡ length (a .output)
+pub record Advanced (w w' : Words) (g q : Go) (path budget : ℕ) : Type 0 where
+  pub sim : (c : World) (b : Bytes) → Set c path budget → Going c b w g → Sim c b w' q
+  pub over : ¬ (q .mode ≡ downMode)
+  pub stops : ¬ (q .mode ≡ upMode)
+  pub least : tallied g .nodes ≤ tallied q .nodes

@@ -1,209 +1,141 @@
-// The loops of the walk: one visit after another, and after each the steps up and the block that follow it.
+// The walk of a sheet's tree: from leaf to leaf, and the block of each.
 ghost use mathlib.Core.Path.{_≡_};
-ghost use Prim.Native.Nat.{_<_};
-ghost use lib.ListN.{length};
-ghost use Rattle.tables.specs.Layout.{tokenSlot};
-ghost use Rattle.walker.specs.Steps.{Visited, Stepped};
-ghost use Rattle.walker.specs.Loop.{AtLeaf, LeafDone, VisitDue, Arrived, BlockDue, Blocked, Climbs, Climbed, Runs, Settled, Live, snapshot, Moved};
-ghost use Rattle.walker.specs.Walked.{Readied, Sets, startRegs, Finished, Walked};
-ghost use Rattle.walker.specs.Blocks.{HeadDue, headDue, passedRegs};
-use crate::Regs;
+ghost use Rattle.search.specs.Registers.{tallied};
+ghost use Rattle.walker.specs.Blocks.{LeafDue, HeadDue, headDue, passedGo, fullGo, BlockDue, Blocked};
+ghost use Rattle.walker.specs.Steps.{Visits};
+ghost use Rattle.walker.specs.Walked.{Readied, Sets, endBy, Finished, Walked};
+ghost use Rattle.walker.specs.Walks.{Onward, Onwards};
+use crate::State;
 use crate::Task;
-use crate::atoms;
-use crate::connectives;
-use crate::dues;
-use crate::inner;
-use crate::jobs;
+use crate::advance;
+use crate::leaves::visited;
 use crate::modes;
-use crate::procedures;
-use crate::quantifiers;
 use crate::registers;
-use crate::rise;
+use crate::tallies;
 use listing::Head;
 use listing::Written;
+use search::Go;
+use specification::End;
 use specification::Outcome;
-use specification::Tallies;
-use tables::codes;
+use tables::leaves;
 
-// A leaf whose visit is counted. In an inner tree a success ends it and an error is noted; in the main tree an answer or an error has a
-// block.
-fn at_leaf(r: Regs) -> Regs
-    requires { ⌜ AtLeaf r ⌝ }
-    ensures { λ q. ⌜ LeafDone r q ⌝ }
-{
-    let t = r.tallies;
-    if r.inner != inner::MAIN {
-        if r.due.job == jobs::SUCCESS {
-            return registers::leaf(r, modes::WON, r.bad, t, r.written);
-        }
-        if r.due.job == jobs::FAILURE {
-            return registers::leaf(r, modes::UP, r.bad, t, r.written);
-        }
-        return registers::leaf(r, modes::UP, 1, t, r.written);
-    }
-    if r.due.job == jobs::FAILURE {
-        let u = registers::counted(t, registers::FAILURE);
-        return registers::leaf(r, modes::UP, r.bad, u, r.written);
-    }
-    registers::leaf(r, modes::BLOCK, r.bad, t, r.written)
-}
+// The words of a token.
+const TOKEN: u32 = tables::TOKEN_WORDS as u32;
 
-// What is visited, its visit counted, by the job.
-fn enter(w: &mut [u32], r: Regs) -> Regs
-    requires { ⌜ Visited (now w) r ⌝ }
-    ensures { λ q. ⌜ Stepped (now (w .entry)) (now (w .exit)) r q ⌝ }
+// The head of the block of the leaf that is due.
+fn head(w: &[u32], g: Go) -> Head
+    requires { ⌜ HeadDue (now w) g ⌝ }
+    ensures { λ h. ⌜ h ≡ headDue (now (w .entry)) g ⌝ }
 {
-    let job = r.due.job;
-    match job {
-        jobs::EMPTY => connectives::enter_empty(w, r),
-        codes::TRUE => connectives::enter_true(w, r),
-        codes::AND => connectives::enter_and(w, r),
-        codes::OR => connectives::enter_or(w, r),
-        codes::IMP | codes::NOT => inner::enter_inner(w, r),
-        codes::EQ => atoms::enter_eq(w, r),
-        codes::EX => quantifiers::enter_ex(w, r),
-        codes::SOME => quantifiers::enter_some(w, r),
-        codes::ALL => quantifiers::enter_all(w, r),
-        codes::CALL => procedures::enter_call(w, r),
-        jobs::AGAIN => quantifiers::enter_again(w, r),
-        jobs::SUCCESS | jobs::FAILURE | jobs::ERROR => at_leaf(r),
-        _ => atoms::enter_compare(w, r, job),
-    }
-}
-
-// The visit that is due: the two limits, then the node is counted.
-fn visit(w: &mut [u32], r: Regs, path: u32, budget: u32) -> Regs
-    requires { ⌜ VisitDue (now w) r path budget ⌝ }
-    ensures { λ q. ⌜ Arrived (now (w .entry)) (now (w .exit)) r q path budget ⌝ }
-{
-    let t = r.tallies;
-    if t.nodes == budget {
-        return registers::stop(r, registers::SPENT);
-    }
-    if path <= r.depth {
-        return registers::stop(r, registers::PATH);
-    }
-    let u = registers::counted(t, registers::NODE);
-    let q = registers::leaf(r, modes::DOWN, r.bad, u, r.written);
-    enter(w, q)
-}
-
-// The head of the block that is due.
-fn head(r: Regs) -> Head
-    requires { ⌜ HeadDue r ⌝ }
-    ensures { λ h. ⌜ h ≡ headDue r ⌝ }
-{
-    let t = r.tallies;
-    if r.due.job == jobs::SUCCESS {
+    let t = g.tallies;
+    if g.due == leaves::SUCCESS {
         return Head::Answer {
             number: t.answers + 1,
         };
     }
     Head::Error {
         number: t.errors + 1,
-        kind: r.due.rest,
-        token: r.due.head,
+        kind: leaves::kind(w),
+        token: leaves::token(w),
     }
 }
 
-// A leaf with a block, its tally added: an answer or an error.
-fn passed(r: Regs, written: usize) -> Regs
-    requires { ⌜ HeadDue r ⌝ }
-    ensures { λ q. ⌜ q ≡ passedRegs r written ⌝ }
+// Its visit is counted, and so is the leaf: going up is due.
+fn passed(g: Go) -> Go
+    requires { ⌜ LeafDue g ⌝ }
+    ensures { λ q. ⌜ q ≡ passedGo g ⌝ }
 {
-    let t = r.tallies;
-    if r.due.job == jobs::SUCCESS {
-        let u = registers::counted(t, registers::ANSWER);
-        return registers::leaf(r, modes::UP, r.bad, u, written);
+    let t = visited(g);
+    if g.due == leaves::SUCCESS {
+        let u = tallies::counted(t, tallies::ANSWER);
+        return registers::rising(registers::leaf(g, modes::DOWN, g.bad, u));
     }
-    let u = registers::counted(t, registers::ERROR);
-    registers::leaf(r, modes::UP, r.bad, u, written)
+    let u = tallies::counted(t, tallies::ERROR);
+    registers::rising(registers::leaf(g, modes::DOWN, g.bad, u))
+}
+
+// Its visit is counted, and there is no room for its block.
+fn full(g: Go) -> Go
+    requires { ⌜ Visits g ⌝ }
+    ensures { λ q. ⌜ q ≡ fullGo g ⌝ }
+{
+    let t = visited(g);
+    registers::leaf(g, modes::FULL, g.bad, t)
+}
+
+fn state(go: Go, written: usize) -> State
+    ensures { λ s. ⌜ (s .go ≡ go) × (s .written ≡ written) ⌝ }
+{
+    State { go, written }
 }
 
 // The block that is due: skipped, written into the rest of the output, or without room there.
-fn block(w: &[u32], out: &mut [u8], r: Regs, task: Task) -> Regs
-    requires { ⌜ BlockDue (now w) (now out) r task ⌝ }
-    ensures { λ q. ⌜ Blocked (now (w .entry)) (now (out .entry)) (now (out .exit)) r q task ⌝ }
+fn block(w: &[u32], out: &mut [u8], s: State, task: Task) -> State
+    requires { ⌜ BlockDue (now w) (now out) s task ⌝ }
+    ensures { λ q. ⌜ Blocked (now (w .entry)) (now (out .entry)) (now (out .exit)) s q task ⌝ }
 {
-    let t = r.tallies;
-    let written = r.written;
+    let g = s.go;
+    let t = g.tallies;
+    let written = s.written;
     if t.answers + t.errors < task.setting.skip {
-        return passed(r, written);
+        return state(passed(g), written);
     }
-    let h = head(r);
+    let h = head(w, g);
     let rest = &mut out[written..];
     match listing::write(rest, w, task.scalars, task.arrays, h) {
-        Written::Full => registers::stop(r, registers::OUTPUT),
-        Written::Bytes(n) => passed(r, written + n),
+        Written::Full => state(full(g), written),
+        Written::Bytes(n) => state(passed(g), written + n),
     }
 }
 
-// Steps up as long as the mode is this one: UP or WON.
-fn climb(w: &mut [u32], r: Regs, mode: u32) -> Regs
-    requires { ⌜ Climbs (now w) r mode ⌝ }
-    ensures { λ q. ⌜ Climbed (now (w .entry)) (now (w .exit)) r q mode ⌝ }
+// To the next leaf, if there was room.
+fn onward(w: &mut [u32], s: State, task: Task) -> State
+    requires { ⌜ Onwards (now w) s task ⌝ }
+    ensures { λ q. ⌜ Onward (now (w .entry)) (now (w .exit)) s q task ⌝ }
 {
-    let mut q = r;
-    while q.mode == mode {
-        q = rise::ascend(w, q);
+    let g = s.go;
+    if g.mode == modes::FULL {
+        return s;
     }
-    q
+    state(
+        advance::advance(w, g, task.setting.path, task.setting.budget),
+        s.written,
+    )
 }
 
-// The block, if one is due.
-fn settle(w: &[u32], out: &mut [u8], r: Regs, task: Task) -> Regs
-    requires { ⌜ Runs (now w) (now out) r task ⌝ }
-    ensures { λ q. ⌜ Settled (now (w .entry)) (now (out .entry)) (now (out .exit)) r q task ⌝ }
-{
-    if r.mode == modes::BLOCK {
-        return block(w, out, r, task);
-    }
-    r
-}
-
-// One visit; up, if an inner tree has succeeded; the block, if one is due; and up, if a son is finished.
-fn step(w: &mut [u32], out: &mut [u8], r: Regs, task: Task) -> Regs
-    requires { ⌜ Live (now w) (now out) r task ⌝ }
-    ensures { λ q. ⌜ Moved (snapshot (now (w .entry)) (now (out .entry)) r) (snapshot (now (w .exit)) (now (out .exit)) q) task ⌝ }
-{
-    let d = visit(w, r, task.setting.path, task.setting.budget);
-    let c = climb(w, d, modes::WON);
-    let s = settle(w, out, c, task);
-    climb(w, s, modes::UP)
-}
-
-// The walk from the formula's first token, before its first visit.
-fn start(w: &[u32], formula: u32) -> Regs
-    requires { ⌜ tokenSlot formula < length (now w) ⌝ }
-    ensures { λ r. ⌜ r ≡ startRegs (now (w .entry)) formula ⌝ }
-{
-    let d = dues::formula(w, formula, 0, 0);
-    let t = Tallies {
-        nodes: 0,
-        answers: 0,
-        errors: 0,
-        fails: 0,
-    };
-    Regs {
-        mode: modes::DOWN,
-        depth: 0,
-        due: d,
-        inner: inner::MAIN,
-        bad: 0,
-        tallies: t,
-        written: 0,
-    }
-}
-
-fn walk(w: &mut [u32], out: &mut [u8], task: Task) -> Regs
+// (Both this function and `onward` call `advance`, so that the compiler keeps the loop a function of its own: 7 instructions a node.)
+fn walk(w: &mut [u32], out: &mut [u8], task: Task) -> State
     requires { ⌜ Sets (now w) task ⌝ }
-    ensures { λ r. ⌜ Finished (now (w .entry)) (now (w .exit)) (now (out .entry)) (now (out .exit)) task r ⌝ }
+    ensures { λ s. ⌜ Finished (now (w .entry)) (now (w .exit)) (now (out .entry)) (now (out .exit)) task s ⌝ }
 {
-    let mut r = start(w, task.formula);
-    while r.mode == modes::DOWN {
-        r = step(w, out, r, task);
+    let g = advance::limited(registers::start(
+        TOKEN * task.formula,
+        task.setting.path,
+        task.setting.budget,
+    ));
+    let first = advance::advance(w, g, task.setting.path, task.setting.budget);
+    let mut s = state(first, 0);
+    while s.go.mode == modes::BLOCK {
+        let b = block(w, out, s, task);
+        s = onward(w, b, task);
     }
-    r
+    s
+}
+
+// How the walk ended, with so many nodes visited.
+fn end_of(mode: u32, nodes: u32, budget: u32) -> End
+    ensures { λ e. ⌜ e ≡ endBy mode nodes budget ⌝ }
+{
+    if mode == modes::DONE {
+        return End::Done;
+    }
+    if mode == modes::FULL {
+        return End::Output;
+    }
+    if nodes == budget {
+        return End::Spent;
+    }
+    End::Path
 }
 
 // Walks the tree of the sheet whose tables the work words hold, and writes its listing.
@@ -212,12 +144,14 @@ pub fn walk_tables(w: &mut [u32], out: &mut [u8], task: Task) -> Outcome
     ensures { λ r. ⌜ Walked (now (w .entry)) (now (w .exit)) (now (out .entry)) (now (out .exit)) task r ⌝ }
 {
     plan::plan(w, task.formula);
-    let r = walk(w, out, task);
-    let end = registers::end_of(r.mode);
-    let t = r.tallies;
+    let s = walk(w, out, task);
+    let g = s.go;
+    let u = g.tallies;
+    let t = tallies::visited(u, g.depth - g.from);
+    let end = end_of(g.mode, t.nodes, task.setting.budget);
     Outcome::Ran {
         end,
         tallies: t,
-        written: r.written,
+        written: s.written,
     }
 }

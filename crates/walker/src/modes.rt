@@ -1,14 +1,22 @@
-// The modes of the registers; specs/States.antt has the same numbers. Below these the walk is over, and the mode is the number of its end
-// (registers.rt).
+// The modes of the registers; specs/States.antt has the same numbers.
 
 // A visit is due.
-pub(crate) const DOWN: u32 = 4;
+pub const DOWN: u32 = 1;
 
 // A son is finished.
-pub(crate) const UP: u32 = 5;
+pub const UP: u32 = 2;
 
 // An inner tree has succeeded.
-pub(crate) const WON: u32 = 6;
+pub const WON: u32 = 3;
 
-// A block is due.
-pub(crate) const BLOCK: u32 = 7;
+// The loop is left: a limit is reached,
+pub const STOPPED: u32 = 0;
+
+// a leaf of the main tree is visited that has a block,
+pub const BLOCK: u32 = 4;
+
+// all is visited.
+pub const DONE: u32 = 5;
+
+// The walk is over: there is no room for a block.
+pub const FULL: u32 = 6;

@@ -1,143 +1,134 @@
-// Entering a node whose first formula is a quantifier.
+// Quantifiers. A local's present value stands in its slot, the last value of its `all` in a word of its own.
 ghost use mathlib.Core.Path.{_≡_};
-ghost use Prim.Native.Nat.{_+_};
-ghost use Rattle.tables.specs.Codes.{exCode, someCode, allCode};
-ghost use Rattle.terms.specs.Results.{Asked, Valued};
-ghost use Rattle.walker.specs.States.{againJob};
-ghost use Rattle.walker.specs.Stands.{bodyOf};
-ghost use Rattle.walker.specs.Binding.{afterLocal, Local, Middle, binderNode};
-ghost use Rattle.walker.specs.Steps.{Visited, Entered, Stepped, Opens, Rounds};
-use crate::Regs;
-use crate::atoms;
-use crate::changes;
-use crate::dues;
+ghost use Prim.Native.Nat.{_+_, _*_, _<_, _≤_};
+ghost use mathlib.Core.List.{[], _∷_};
+ghost use lib.ListN.{length, getD};
+ghost use Rattle.tables.specs.Layout.{maxLocals, localSlot, pathAt};
+ghost use Rattle.tables.specs.Codes.{exCode, someCode, allCode, localCode};
+ghost use Rattle.search.specs.Kept.{Pushes};
+ghost use Rattle.search.specs.Records.{at, hadUnit};
+ghost use Rattle.search.specs.Steps.{Stepped, Entered, Valued};
+use crate::records::HAD;
 use crate::registers;
 use crate::sons;
-use crate::todos;
-use tables::nodes;
-use tables::nodes::Node;
+use crate::words;
+use search::Go;
 use tables::ranges::LOCAL_MARK;
 use tables::slots;
-use terms::Sides;
+use tables::word;
 
-// After the token of a quantifier comes that of its local, and then its bounds or its formula.
-pub(crate) const AFTER_LOCAL: u32 = 2;
+// The words of a token.
+const TOKEN: u32 = tables::TOKEN_WORDS as u32;
 
-// The node of the quantifier at token `head`: the slot of the local that it binds is saved in it.
-fn binder(w: &[u32], r: Regs, head: u32, todo: u32, current: u32, last: u32) -> Node
-    requires { ⌜ Local (now w) head ⌝ }
-    ensures { λ n. ⌜ n ≡ binderNode (now (w .entry)) r head todo current last ⌝ }
+// The local of the quantifier at t.
+pub(crate) fn local(w: &[u32], t: u32) -> u32
+    requires { ⌜ t + 5 < length (now w) ⌝ }
+    ensures { λ r. ⌜ r ≡ getD (now (w .entry)) (t + 5) 0 ⌝ }
 {
-    let slot = slots::LOCALS + slots::WORDS * tables::operand(w, head + 1);
-    let had = tables::word(w, slot);
-    let old = tables::word(w, slot + 1);
-    Node {
-        head,
-        rest: r.due.rest,
-        todo,
-        env: r.due.env,
-        slot,
-        had,
-        old,
-        current,
-        last,
-        inner: r.inner,
-        bad: r.bad,
+    w[t as usize + 5]
+}
+
+// Its formula.
+pub(crate) fn body(w: &[u32], t: u32) -> u32
+    requires { ⌜ t + 7 < length (now w) ⌝ }
+    ensures { λ r. ⌜ r ≡ getD (now (w .entry)) (t + 7) 0 ⌝ }
+{
+    w[t as usize + 7]
+}
+
+// The slot of a local.
+pub(crate) fn slot_of(l: u32) -> u32
+    requires { ⌜ l < maxLocals ⌝ }
+    ensures { λ r. ⌜ r ≡ localSlot l ⌝ }
+{
+    slots::LOCALS + slots::WORDS * l
+}
+
+// A record of three words: the slot's second word, the register `inner`, and the slot with its first word.
+fn keep(w: &mut [u32], top: usize, slot: u32, inner: u32)
+    requires { ⌜ (top + 3 ≤ length (now w)) × (slot + 1 < pathAt) × (getD (now w) slot 0 ≤ 1) × (pathAt ≤ length (now w)) ⌝ }
+    ensures { λ _. ⌜ Pushes (now (w .entry)) (now (w .exit)) top (at (now (w .entry)) (slot + 1) ∷ inner ∷ (slot + hadUnit * at (now (w .entry)) slot) ∷ []) ⌝ }
+{
+    let old = word(w, slot + 1);
+    let had = word(w, slot);
+    words::push3(w, top, old, inner, slot + HAD * had);
+}
+
+// `ex`: its local is without a value, and its mark tells the depth.
+pub(crate) fn enter_ex(w: &mut [u32], g: Go) -> Go
+    requires { ⌜ Entered (now w) g exCode ⌝ }
+    ensures { λ q. ⌜ Stepped (now (w .entry)) (now (w .exit)) g q ⌝ }
+{
+    let slot = slot_of(local(w, g.due));
+    keep(w, g.top, slot, g.inner);
+    tables::set_slot(w, slot as usize, 0, LOCAL_MARK + g.depth);
+    registers::down(g, g.due + 2 * TOKEN, g.top + 3, g.inner, g.bad)
+}
+
+// The first value of a `some`. A record of five words: the slot's two, the last value, the depth of the sons, the token.
+fn open(w: &mut [u32], g: Go, low: u32, high: u32) -> Go
+    requires { ⌜ Valued (now w) g someCode low high × (low ≤ high) ⌝ }
+    ensures { λ q. ⌜ Stepped (now (w .entry)) (now (w .exit)) g q ⌝ }
+{
+    let slot = slot_of(local(w, g.due));
+    let b = body(w, g.due);
+    let had = word(w, slot);
+    let old = word(w, slot + 1);
+    words::push5(w, g.top, had, old, high, g.depth + 1, g.due);
+    tables::set_slot(w, slot as usize, 1, low);
+    registers::down(g, b, g.top + 5, g.inner, g.bad)
+}
+
+pub(crate) fn enter_some(w: &mut [u32], g: Go, low: u32, high: u32) -> Go
+    requires { ⌜ Valued (now w) g someCode low high ⌝ }
+    ensures { λ q. ⌜ Stepped (now (w .entry)) (now (w .exit)) g q ⌝ }
+{
+    if high < low {
+        return sons::fail(w, g);
     }
+    open(w, g, low, high)
 }
 
-// The first token of the formula under a bounded quantifier at token h.
-fn body(w: &[u32], h: u32) -> u32
-    requires { ⌜ Middle (now w) h ⌝ }
-    ensures { λ i. ⌜ i ≡ bodyOf (now (w .entry)) h ⌝ }
+// The first value of an `all`. A record of four words: the slot's two, the last value that the local's `all` had, the token.
+fn begin(w: &mut [u32], g: Go, low: u32, high: u32) -> Go
+    requires { ⌜ Valued (now w) g allCode low high × (low ≤ high) ⌝ }
+    ensures { λ q. ⌜ Stepped (now (w .entry)) (now (w .exit)) g q ⌝ }
 {
-    let e = tables::end(w, h + AFTER_LOCAL);
-    tables::end(w, e)
+    let l = local(w, g.due);
+    let slot = slot_of(l);
+    let b = body(w, g.due);
+    let had = word(w, slot);
+    let old = word(w, slot + 1);
+    let last = tables::last(w, l);
+    words::push4(w, g.top, had, old, last, g.due);
+    tables::set_last(w, l, high);
+    tables::set_slot(w, slot as usize, 1, low);
+    registers::down(g, b, g.top + 4, g.inner, g.bad)
 }
 
-// The values of the two bounds of the quantifier at token h.
-fn bounds(w: &mut [u32], h: u32, env: u32) -> Sides
-    requires { ⌜ Middle (now w) h × Asked (now w) h (h + afterLocal) (bodyOf (now w) h) env ⌝ }
-    ensures { λ s. ⌜ Valued (now (w .entry)) (now (w .exit)) h (h + afterLocal) (bodyOf (now (w .entry)) h) env s ⌝ }
+pub(crate) fn enter_all(w: &mut [u32], g: Go, low: u32, high: u32) -> Go
+    requires { ⌜ Valued (now w) g allCode low high ⌝ }
+    ensures { λ q. ⌜ Stepped (now (w .entry)) (now (w .exit)) g q ⌝ }
 {
-    let e = body(w, h);
-    terms::evaluation::sides(w, h, h + AFTER_LOCAL, e, env)
-}
-
-// `ex`: its formula, the local without a value, then the rest. Its mark (inner.rt) tells this node's depth.
-pub(crate) fn enter_ex(w: &mut [u32], r: Regs) -> Regs
-    requires { ⌜ Entered (now w) r exCode ⌝ }
-    ensures { λ q. ⌜ Stepped (now (w .entry)) (now (w .exit)) r q ⌝ }
-{
-    let n = binder(w, r, r.due.head, todos::UNDO, 0, 0);
-    changes::alter(w, r.depth, n, 0, LOCAL_MARK + r.depth);
-    let d = dues::formula(w, r.due.head + AFTER_LOCAL, r.due.rest, r.due.env);
-    registers::due(r, r.depth + 1, d, r.inner, r.bad)
-}
-
-// `some` with its first value.
-fn open(w: &mut [u32], r: Regs, low: u32, high: u32) -> Regs
-    requires { ⌜ Opens (now w) r low high ⌝ }
-    ensures { λ q. ⌜ Stepped (now (w .entry)) (now (w .exit)) r q ⌝ }
-{
-    let b = body(w, r.due.head);
-    let n = binder(w, r, r.due.head, todos::NEXT, low, high);
-    changes::alter(w, r.depth, n, 1, low);
-    let d = dues::formula(w, b, r.due.rest, r.due.env);
-    registers::due(r, r.depth + 1, d, r.inner, r.bad)
-}
-
-pub(crate) fn enter_some(w: &mut [u32], r: Regs) -> Regs
-    requires { ⌜ Entered (now w) r someCode ⌝ }
-    ensures { λ q. ⌜ Stepped (now (w .entry)) (now (w .exit)) r q ⌝ }
-{
-    let s = bounds(w, r.due.head, r.due.env);
-    if !atoms::valued(s) {
-        return sons::err(w, r, atoms::fault(s));
+    if high < low {
+        return sons::go_on(w, g);
     }
-    if s.right < s.left {
-        return sons::fail(w, r);
-    }
-    open(w, r, s.left, s.right)
+    begin(w, g, low, high)
 }
 
-// The `all` at token `head` with the value `value`: its formula, then the same `all` over the values left, then the rest: this node is the
-// list's next cell.
-fn round(w: &mut [u32], r: Regs, head: u32, value: u32, last: u32) -> Regs
-    requires { ⌜ Rounds (now w) r head value last ⌝ }
-    ensures { λ q. ⌜ Stepped (now (w .entry)) (now (w .exit)) r q ⌝ }
+// An `all` that comes first again: its local's token is due. The record is that of a slot with a value.
+pub(crate) fn enter_again(w: &mut [u32], g: Go) -> Go
+    requires { ⌜ Entered (now w) g localCode ⌝ }
+    ensures { λ q. ⌜ Stepped (now (w .entry)) (now (w .exit)) g q ⌝ }
 {
-    let b = body(w, head);
-    let n = binder(w, r, head, todos::UNDO, value, last);
-    changes::alter(w, r.depth, n, 1, value);
-    let d = dues::formula(w, b, r.depth + 1, r.due.env);
-    registers::due(r, r.depth + 1, d, r.inner, r.bad)
-}
-
-pub(crate) fn enter_all(w: &mut [u32], r: Regs) -> Regs
-    requires { ⌜ Entered (now w) r allCode ⌝ }
-    ensures { λ q. ⌜ Stepped (now (w .entry)) (now (w .exit)) r q ⌝ }
-{
-    let s = bounds(w, r.due.head, r.due.env);
-    if !atoms::valued(s) {
-        return sons::err(w, r, atoms::fault(s));
+    let l = word(w, g.due + 1);
+    let slot = slot_of(l);
+    let value = word(w, slot + 1);
+    if value == tables::last(w, l) {
+        return registers::down(g, sons::next(w, g.due - TOKEN), g.top, g.inner, g.bad);
     }
-    if s.right < s.left {
-        return sons::go_on(w, r);
-    }
-    round(w, r, r.due.head, s.left, s.right)
-}
-
-// An `all` that comes first again: the next value, or no value left.
-pub(crate) fn enter_again(w: &mut [u32], r: Regs) -> Regs
-    requires { ⌜ (Visited (now w) r) × (r .due .job ≡ againJob) ⌝ }
-    ensures { λ q. ⌜ Stepped (now (w .entry)) (now (w .exit)) r q ⌝ }
-{
-    let k = r.due.head - 1;
-    let current = nodes::current_of(w, k);
-    let last = nodes::last_of(w, k);
-    if current == last {
-        return sons::go_on(w, r);
-    }
-    round(w, r, nodes::head_of(w, k), current + 1, last)
+    let b = sons::next(w, g.due);
+    words::push3(w, g.top, value, g.inner, slot + HAD);
+    tables::set_slot(w, slot as usize, 1, value + 1);
+    registers::down(g, b, g.top + 3, g.inner, g.bad)
 }

@@ -1,16 +1,12 @@
 -- `connectives::enter_empty` meets its contract.
 use borrow.Author.Needs.{needs}
-use Rattle.walker.proofs.Enters.{empty-success, empty-given}
+use native.Mathlib.Omega.{arith}
+use Rattle.search.proofs.Simple.{empty-errs, empty-leaf, leaf-down, depth-small}
 use Rattle.walker.proofs.connectives.enter_empty.Statement.{statement}
 use Rattle.walker.proofs.connectives.enter_empty.Tie as tie
 
-error-due-requires : tie.Need-error-due-requires
-error-due-requires c κs = search needs
-
-to-leaf-requires : tie.Need-to-leaf-requires
-to-leaf-requires c κs =
-    let (v, j) = c .before .before .before .before .before .pre in
-    rw (c .before .error-due .ensures) (empty-given v j (c .before .before .if1 .taken))
+err-requires : tie.Need-err-requires
+err-requires c κs = empty-errs (c .before .before .before .before .pre) (c .before .if1 .taken)
 
 same-length : tie.Need-same-length
 same-length c = search needs
@@ -18,21 +14,11 @@ same-length c = search needs
 returns : tie.Need-returns
 returns c = search needs
 
-bare-due-requires : tie.Need-bare-due-requires
-bare-due-requires c κs = search needs
-
-to-leaf-requires-2 : tie.Need-to-leaf-requires-2
-to-leaf-requires-2 c κs =
-    let (v, j) = c .before .before .before .before .before .pre in
-    rw (c .before .bare-due .ensures) (empty-success v j (c .before .before .if1 .left))
-
-same-length-2 : tie.Need-same-length-2
-same-length-2 c = search needs
+down-requires : tie.Need-down-requires
+down-requires c κs = omega (arith, depth-small ((c .before .before .before .pre) .at .ins))
 
 returns-2 : tie.Need-returns-2
-returns-2 c = search needs
+returns-2 c = leaf-down (empty-leaf (c .before .before .before .before .pre) (c .before .if1 .left)) (c .down .ensures)
 
 pub enter-empty-spec : {M : Type 1} → statement M
-enter-empty-spec =
-    tie.close
-    (tie.spec error-due-requires to-leaf-requires same-length returns bare-due-requires to-leaf-requires-2 same-length-2 returns-2)
+enter-empty-spec = tie.close (tie.spec err-requires same-length returns down-requires returns-2)

@@ -1,52 +1,44 @@
 -- `inner::enter_inner` meets its contract.
 use borrow.Author.Needs.{needs}
 use native.Mathlib.Omega.{arith}
-use Rattle.walker.proofs.Heads.{shallow}
-use Rattle.walker.proofs.Onto.{stepped}
-use Rattle.walker.proofs.Asked.{asks-down, question-at, question-near}
+use Rattle.search.proofs.Simple.{top-room, depth-small}
+use Rattle.walker.proofs.Laws.Asking.{asking-visited, asking-near, asking-down}
 use Rattle.walker.proofs.inner.enter_inner.Statement.{statement}
 use Rattle.walker.proofs.inner.enter_inner.Tie as tie
 
-add-h : tie.Need-add-h
-add-h c =
-    let x = (c .before .before .pre) in
-    omega (arith, question-near (question-at (x .0) (x .1) (x .2)))
+add-push4 : tie.Need-add-push4
+add-push4 c = omega (arith, depth-small (asking-visited (c .before .before .before .pre) .ins))
 
-push-requires : tie.Need-push-requires
-push-requires c κs = search needs
+push4-requires : tie.Need-push4-requires
+push4-requires c κs = omega (arith, top-room (asking-visited (c .before .before .before .pre) .ins))
 
-formula-requires : tie.Need-formula-requires
-formula-requires c κs =
-    let at-push = c .before .before .before in
-    let start = at-push .before .before .before .before in
-    let x = (start .pre) in
-    omega (arith, question-near (question-at (x .0) (x .1) (x .2)), (at-push .push .ensures) .linked .marked .size, x .0 .ins .path .size)
+add-down : tie.Need-add-down
+add-down c = omega (arith, asking-near (c .before .before .before .before .before .before .before .pre))
 
-add-due : tie.Need-add-due
-add-due c =
-    let at-push = c .before .before .before .before .before in
-    let start = at-push .before .before .before .before in
-    omega (arith, shallow ((start .pre) .0 .ins))
+add-down-2 : tie.Need-add-down-2
+add-down-2 c =
+    let at-push4 = c .before .before .before .before in
+    let start = at-push4 .before .before .before .before in
+    omega (arith, top-room (asking-visited (start .pre) .ins), at-push4 .push4 .ensures .size)
 
-add-due-2 : tie.Need-add-due-2
-add-due-2 c =
-    let at-w = c .before .before .before .before .before in
-    let start = at-w .before .before .before .before .before in
-    omega (arith, shallow ((start .pre) .0 .ins))
+add-down-3 : tie.Need-add-down-3
+add-down-3 c =
+    let start = c .before .before .before .before .before .before .before .before .before in
+    omega (arith, depth-small (asking-visited (start .pre) .ins))
 
-due-requires : tie.Need-due-requires
-due-requires c κs = search needs
+down-requires : tie.Need-down-requires
+down-requires c κs =
+    let start = c .before .before .before .before .before .before .before .before .before in
+    omega (arith, depth-small (asking-visited (start .pre) .ins))
 
 same-length : tie.Need-same-length
 same-length c = search needs
 
 returns : tie.Need-returns
 returns c =
-    let at-formula = c .before .before .before in
-    let at-push = at-formula .before .before .before .before in
-    let start = at-push .before .before .before .before in
-    let x = (start .pre) in
-    stepped (c .due .ensures) (asks-down (question-at (x .0) (x .1) (x .2)) (at-push .push .ensures) (at-formula .formula .ensures))
+    let at-push4 = c .before .before .before .before .before .before in
+    let start = at-push4 .before .before .before .before in
+    asking-down (start .pre) (at-push4 .push4 .ensures) (c .down .ensures)
 
 pub enter-inner-spec : {M : Type 1} → statement M
-enter-inner-spec = tie.close (tie.spec add-h push-requires formula-requires add-due add-due-2 due-requires same-length returns)
+enter-inner-spec = tie.close (tie.spec add-push4 push4-requires add-down add-down-2 add-down-3 down-requires same-length returns)

@@ -1,68 +1,97 @@
 -- `quantifiers::enter_ex` meets its contract.
 use borrow.Author.Needs.{needs}
 use native.Mathlib.Omega.{arith}
-use mathlib.Core.Path.{ap}
-use Rattle.tables.specs.declared.nodes.Node.{Node}
-use Rattle.walker.proofs.Heads.{shallow, room-words}
-use Rattle.walker.proofs.Pushes.{alters-size}
-use Rattle.walker.proofs.Onto.{stepped}
-use Rattle.walker.proofs.Quantified.{ex-local, ex-down}
+use mathlib.Core.Path.{_∙_, ap}
+use Rattle.tables.specs.Layout.{localSlot}
+use Rattle.search.proofs.Simple.{top-low, top-room, depth-small}
+use Rattle.search.proofs.Binders.{ex-local, ex-near, ex-down}
+use Rattle.walker.proofs.Laws.Slots.{flag-small}
 use Rattle.walker.proofs.quantifiers.enter_ex.Statement.{statement}
 use Rattle.walker.proofs.quantifiers.enter_ex.Tie as tie
 
-binder-requires : tie.Need-binder-requires
-binder-requires c κs = ex-local (c .before .before .pre)
+local-requires : tie.Need-local-requires
+local-requires c κs =
+    let x = c .before .before .pre in
+    omega (arith, ex-near x .1, top-low (x .at .ins), top-room (x .at .ins))
 
-add-alter : tie.Need-add-alter
-add-alter c =
-    let start = c .before .before .before .before .before in
-    omega (arith, shallow ((start .pre) .at .ins))
+slot-of-requires : tie.Need-slot-of-requires
+slot-of-requires c κs = rw (c .local .ensures) (ex-local (c .before .before .before .pre))
 
-alter-requires : tie.Need-alter-requires
-alter-requires c κs =
-    let start = c .before .before .before .before .before in
-    let x = (start .pre) in
-    (room-words (x .at .ins), omega (arith, ap (λ (m : Node). m .slot) (c .before .before .binder .ensures), ex-local x .local))
+keep-requires : tie.Need-keep-requires
+keep-requires c κs =
+    let x = c .before .before .before .before .before .pre in
+    let i = x .at .ins in
+    let low = top-low i in
+    let room = top-room i in
+    let small = ex-local x in
+    let slot-is = (c .before .slot-of .ensures) ∙ ap localSlot (c .before .before .local .ensures) in
+    (omega arith, omega (arith, slot-is), rw slot-is (flag-small i _ small), omega arith)
 
-add-formula : tie.Need-add-formula
-add-formula c =
-    let at-struct-known = c .before .before .before .before .before in
-    let start = at-struct-known .before .before .before .before .before in
-    omega (arith, ex-local (start .pre) .near)
+cast-set-slot : tie.Need-cast-set-slot
+cast-set-slot c = search needs
 
-formula-requires : tie.Need-formula-requires
-formula-requires c κs =
-    let at-alter = c .before .before .before .before in
-    let at-slice-known = at-alter .before .before .before .before .before in
-    let start = at-slice-known .before in
-    let x = (start .pre) in
-    omega (arith, ex-local x .near, alters-size (at-alter .alter .ensures), x .at .ins .path .size)
+add-set-slot : tie.Need-add-set-slot
+add-set-slot c =
+    let start = c .before .before .before .before .before .before .before .before .before .before in
+    omega (arith, depth-small (start .pre .at .ins))
 
-add-due : tie.Need-add-due
-add-due c =
-    let at-w = c .before .before .before .before .before in
-    let at-binder-arg = at-w .before .before .before .before .before in
-    let start = at-binder-arg .before .before in
-    omega (arith, shallow ((start .pre) .at .ins))
+set-slot-requires : tie.Need-set-slot-requires
+set-slot-requires c κs =
+    let at-keep = c .before .before .before .before in
+    let at-slot-of = at-keep .before .before in
+    let at-local = at-slot-of .before in
+    let start = at-local .before .before .before in
+    let x = start .pre in
+    let i = x .at .ins in
+    omega (arith, ex-local x, at-local .local .ensures, at-slot-of .slot-of .ensures, at-keep .keep .ensures .size, top-low i, top-room i)
 
-due-requires : tie.Need-due-requires
-due-requires c κs = search needs
+mul-down : tie.Need-mul-down
+mul-down c = search needs
+
+add-down : tie.Need-add-down
+add-down c =
+    let midway = c .before .before .before .before .before .before .before in
+    let start = midway .before .before .before .before .before .before .before in
+    omega (arith, ex-near (start .pre) .0)
+
+add-down-2 : tie.Need-add-down-2
+add-down-2 c =
+    let midway = c .before .before .before .before .before .before .before in
+    let start = midway .before .before .before .before .before .before .before .before in
+    let long = start .good .0 .1 in
+    omega (arith, top-room (start .pre .at .ins))
+
+down-requires : tie.Need-down-requires
+down-requires c κs =
+    let midway = c .before .before .before .before .before .before .before in
+    let start = midway .before .before .before .before .before .before .before .before in
+    omega (arith, depth-small (start .pre .at .ins))
 
 same-length : tie.Need-same-length
-same-length c =
-    let at-slice-known2 = c .before .before .before .before .before in
-    let at-alter = at-slice-known2 .before .before in
-    alters-size (at-alter .alter .ensures)
+same-length c = search needs
 
 returns : tie.Need-returns
 returns c =
-    let at-slice-known2 = c .before .before .before .before .before in
-    let at-alter = at-slice-known2 .before .before in
-    let at-binder = at-alter .before .before .before in
-    let start = at-binder .before .before .before in
-    stepped (c .due .ensures) (ex-down (start .pre) (at-binder .binder .ensures) (at-alter .alter .ensures) (c .before .before .formula .ensures))
+    let at-set-slot = c .before .before .before .before .before in
+    let at-keep = at-set-slot .before .before .before .before .before in
+    let at-slot-of = at-keep .before .before in
+    let at-local = at-slot-of .before in
+    let start = at-local .before .before .before in
+    ex-down (start .pre) ((at-slot-of .slot-of .ensures) ∙ ap localSlot (at-local .local .ensures)) (at-keep .keep .ensures) (at-set-slot .set-slot .ensures) (c .down .ensures)
 
 pub enter-ex-spec : {M : Type 1} → statement M
 enter-ex-spec =
     tie.close
-    (tie.spec binder-requires add-alter alter-requires add-formula formula-requires add-due due-requires same-length returns)
+    (tie.spec
+    local-requires
+    slot-of-requires
+    keep-requires
+    cast-set-slot
+    add-set-slot
+    set-slot-requires
+    mul-down
+    add-down
+    add-down-2
+    down-requires
+    same-length
+    returns)

@@ -1,78 +1,26 @@
 -- `quantifiers::enter_some` meets its contract.
 use borrow.Author.Needs.{needs}
-use borrow.Author.Tests.{not-true, not-false}
-use native.Mathlib.Omega.{arith}
-use Rattle.walker.proofs.Heads.{stepped-spare}
-use Rattle.walker.proofs.Quantified.{some-middle}
-use Rattle.walker.proofs.Sided.{terms-asked, sides-error, both-values}
-use Rattle.walker.proofs.Bounded.{some-terms, some-errs, some-none, some-opens}
+use Rattle.search.proofs.Ranges.{some-none}
 use Rattle.walker.proofs.quantifiers.enter_some.Statement.{statement}
 use Rattle.walker.proofs.quantifiers.enter_some.Tie as tie
 
-bounds-requires : tie.Need-bounds-requires
-bounds-requires c κs = let start = (c .before .before) in (some-middle (start .pre), terms-asked (some-terms (start .pre)))
-
-valued-requires : tie.Need-valued-requires
-valued-requires c κs = search needs
-
-fault-requires : tie.Need-fault-requires
-fault-requires c κs = search needs
-
-err-requires : tie.Need-err-requires
-err-requires c κs =
-    let t = c .before .before .before in
-    let b = t .before .before .before in
-    let pre = b .before .before .before .pre in
-    sides-error (some-terms pre) (b .bounds .ensures) (some-errs pre) (t .valued .result) (not-true _ (c .before .before .if1 .taken)) (t .valued .ensures)
-    (c .fault .ensures)
+fail-requires : tie.Need-fail-requires
+fail-requires c κs = some-none (c .before .before .before .pre) (c .before .if1 .taken)
 
 same-length : tie.Need-same-length
 same-length c = search needs
 
 returns : tie.Need-returns
-returns c =
-    let e = c .before .before in
-    let t = e .before .before .before .before in
-    let v = t .before .before .before .bounds .ensures in
-    stepped-spare _ _ (v .kept) (v .size) (e .err .ensures)
+returns c = search needs
 
-fail-requires : tie.Need-fail-requires
-fail-requires c κs =
-    let i = c .before .before .before in
-    let t = i .before in
-    let b = t .before .before .before in
-    let q = both-values (b .bounds .ensures) (t .valued .result) (not-false _ (i .if1 .left)) (t .valued .ensures) in
-    some-none (b .before .before .before .pre) (b .bounds .ensures) (q .0) (q .1) (c .before .if2 .taken)
+open-requires : tie.Need-open-requires
+open-requires c κs = ((c .before .before .before .pre), (c .before .if1 .left))
 
 same-length-2 : tie.Need-same-length-2
 same-length-2 c = search needs
 
 returns-2 : tie.Need-returns-2
-returns-2 c =
-    let e = c .before .before in
-    let i = e .before .before .before .before in
-    let v = i .before .before .before .before .bounds .ensures in
-    stepped-spare _ _ (v .kept) (v .size) (e .fail .ensures)
-
-open-requires : tie.Need-open-requires
-open-requires c κs =
-    let i = c .before .before .before in
-    let t = i .before in
-    let b = t .before .before .before in
-    let q = both-values (b .bounds .ensures) (t .valued .result) (not-false _ (i .if1 .left)) (t .valued .ensures) in
-    some-opens (b .before .before .before .pre) (b .bounds .ensures) (q .0) (q .1) (omega (arith, c .before .if2 .left))
-
-same-length-3 : tie.Need-same-length-3
-same-length-3 c = search needs
-
-returns-3 : tie.Need-returns-3
-returns-3 c =
-    let e = c .before .before in
-    let i = e .before .before .before .before in
-    let v = i .before .before .before .before .bounds .ensures in
-    stepped-spare _ _ (v .kept) (v .size) (e .«open» .ensures)
+returns-2 c = search needs
 
 pub enter-some-spec : {M : Type 1} → statement M
-enter-some-spec =
-    tie.close
-    (tie.spec bounds-requires valued-requires fault-requires err-requires same-length returns fail-requires same-length-2 returns-2 open-requires same-length-3 returns-3)
+enter-some-spec = tie.close (tie.spec fail-requires same-length returns open-requires same-length-2 returns-2)

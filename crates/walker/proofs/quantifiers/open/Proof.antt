@@ -1,62 +1,114 @@
 -- `quantifiers::open` meets its contract.
 use borrow.Author.Needs.{needs}
 use native.Mathlib.Omega.{arith}
-use mathlib.Core.Path.{ap}
-use Rattle.tables.specs.declared.nodes.Node.{Node}
-use Rattle.walker.proofs.Heads.{shallow, room-words}
-use Rattle.walker.proofs.Pushes.{alters-size}
-use Rattle.walker.proofs.Onto.{stepped}
-use Rattle.walker.proofs.Quantified.{open-range, open-down, open-body}
+use mathlib.Core.Path.{_∙_, ap}
+use Rattle.tables.specs.Layout.{localSlot}
+use Rattle.search.proofs.Simple.{top-low, top-room, depth-small}
+use Rattle.search.proofs.Ranges.{some-near, some-open}
 use Rattle.walker.proofs.quantifiers.open.Statement.{statement}
 use Rattle.walker.proofs.quantifiers.open.Tie as tie
 
+local-requires : tie.Need-local-requires
+local-requires c κs =
+    let x = c .before .before .pre .0 in
+    omega (arith, some-near x .1, top-low (x .at .at .ins), top-room (x .at .at .ins))
+
+slot-of-requires : tie.Need-slot-of-requires
+slot-of-requires c κs = rw (c .local .ensures) (some-near (c .before .before .before .pre .0) .0)
+
 body-requires : tie.Need-body-requires
-body-requires c κs = open-range (c .before .before .pre) .1
+body-requires c κs =
+    let x = c .before .before .before .before .before .pre .0 in
+    omega (arith, some-near x .1, top-low (x .at .at .ins), top-room (x .at .at .ins))
 
-binder-requires : tie.Need-binder-requires
-binder-requires c κs =
-    let start = c .before .before .before .before in
-    open-range (start .pre) .0
+word-requires : tie.Need-word-requires
+word-requires c κs =
+    let at-slot-of = c .before .before .before in
+    let at-local = at-slot-of .before in
+    let start = at-local .before .before .before in
+    let x = start .pre .0 in
+    omega (arith, some-near x .0, at-local .local .ensures, at-slot-of .slot-of .ensures, top-low (x .at .at .ins), top-room (x .at .at .ins))
 
-alter-requires : tie.Need-alter-requires
-alter-requires c κs =
-    let at-slice-known = c .before .before .before .before .before in
-    let start = at-slice-known .before in
-    (room-words ((start .pre) .at .at .ins), omega (arith, ap (λ (m : Node). m .slot) (c .before .binder .ensures), open-range (start .pre) .0 .local))
+add-word : tie.Need-add-word
+add-word c = search needs
 
-formula-requires : tie.Need-formula-requires
-formula-requires c κs =
-    let at-alter = c .before .before .before in
-    let at-body = at-alter .before .before .before .before in
-    let start = at-body .before .before .before in
-    omega (arith, (at-body .body .ensures), open-body (start .pre), alters-size (at-alter .alter .ensures), (start .pre) .at .at .ins .path .size)
+word-requires-2 : tie.Need-word-requires-2
+word-requires-2 c κs =
+    let at-slot-of = c .before .before .before .before .before in
+    let at-local = at-slot-of .before in
+    let start = at-local .before .before .before in
+    let x = start .pre .0 in
+    omega (arith, some-near x .0, at-local .local .ensures, at-slot-of .slot-of .ensures, top-low (x .at .at .ins), top-room (x .at .at .ins))
 
-add-due : tie.Need-add-due
-add-due c =
-    let at-alter = c .before .before .before .before .before in
-    let at-body-arg = at-alter .before .before .before .before .before in
-    let start = at-body-arg .before .before in
-    omega (arith, shallow ((start .pre) .at .at .ins))
+add-push5 : tie.Need-add-push5
+add-push5 c =
+    let midway = c .before .before .before .before .before .before in
+    let start = midway .before .before .before .before .before .before in
+    omega (arith, depth-small (start .pre .0 .at .at .ins))
 
-due-requires : tie.Need-due-requires
-due-requires c κs = search needs
+push5-requires : tie.Need-push5-requires
+push5-requires c κs =
+    let midway = c .before .before .before .before .before .before in
+    let start = midway .before .before .before .before .before .before in
+    omega (arith, top-room (start .pre .0 .at .at .ins))
+
+cast-set-slot : tie.Need-cast-set-slot
+cast-set-slot c = search needs
+
+set-slot-requires : tie.Need-set-slot-requires
+set-slot-requires c κs =
+    let at-push5 = c .before .before .before in
+    let at-slot-of = at-push5 .before .before .before .before .before .before .before .before .before in
+    let at-local = at-slot-of .before in
+    let start = at-local .before .before .before in
+    let x = start .pre .0 in
+    omega (arith, some-near x .0, at-local .local .ensures, at-slot-of .slot-of .ensures, at-push5 .push5 .ensures .size, top-low (x .at .at .ins), top-room (x .at .at .ins))
+
+add-down : tie.Need-add-down
+add-down c =
+    let midway = c .before .before .before .before .before .before .before .before .before .before in
+    let start = midway .before .before .before .before .before .before .before .before .before .before in
+    let long = start .good .0 .1 in
+    omega (arith, top-room (start .pre .0 .at .at .ins))
+
+down-requires : tie.Need-down-requires
+down-requires c κs =
+    let midway = c .before .before .before .before .before .before .before .before .before .before in
+    let start = midway .before .before .before .before .before .before .before .before .before .before in
+    omega (arith, depth-small (start .pre .0 .at .at .ins))
 
 same-length : tie.Need-same-length
-same-length c =
-    let at-w = c .before .before .before .before .before in
-    let at-alter = at-w .before in
-    alters-size (at-alter .alter .ensures)
+same-length c = search needs
 
 returns : tie.Need-returns
 returns c =
-    let at-w = c .before .before .before .before .before in
-    let at-alter = at-w .before in
-    let at-binder = at-alter .before .before in
-    let at-body = at-binder .before .before in
-    let start = at-body .before .before .before in
-    stepped (c .due .ensures) (open-down (start .pre) (at-body .body .ensures) (at-binder .binder .ensures) (at-alter .alter .ensures) (c .before .before .formula .ensures))
+    let at-set-slot = c .before .before .before .before in
+    let at-push5 = at-set-slot .before .before .before .before in
+    let at-word2 = at-push5 .before .before .before in
+    let at-word = at-word2 .before .before in
+    let at-body = at-word .before .before in
+    let at-slot-of = at-body .before .before in
+    let at-local = at-slot-of .before in
+    let start = at-local .before .before .before in
+    let words = rw (at-word .word .ensures, at-word2 .word2 .ensures) at (at-push5 .push5 .ensures) in
+    let regs = rw (at-body .body .ensures) at (c .down .ensures) in
+    some-open (start .pre .0) (start .pre .1) ((at-slot-of .slot-of .ensures) ∙ ap localSlot (at-local .local .ensures)) words (at-set-slot .set-slot .ensures) regs
 
 pub open-spec : {M : Type 1} → statement M
 open-spec =
     tie.close
-    (tie.spec body-requires binder-requires alter-requires formula-requires add-due due-requires same-length returns)
+    (tie.spec
+    local-requires
+    slot-of-requires
+    body-requires
+    word-requires
+    add-word
+    word-requires-2
+    add-push5
+    push5-requires
+    cast-set-slot
+    set-slot-requires
+    add-down
+    down-requires
+    same-length
+    returns)
