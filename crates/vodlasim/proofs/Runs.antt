@@ -19,9 +19,9 @@ use Rattle.specification.proofs.Laws.ReadSheet.{read-well-formed}
 use Rattle.tables.specs.Layout.{pathAt}
 use Rattle.sheet.specs.declared.Reading.the-variants as reading
 use Rattle.sheet.specs.Tables.{Words, formulaStart, tables}
-use Rattle.sheet.specs.Held.{FormulaAt}
+use Rattle.sheet.specs.Held.{FormulaAt, InOrder}
 use Rattle.sheet.specs.Whole.{readingOf, wordsOf}
-use Rattle.sheet.proofs.Tables.{tables-length}
+use Rattle.sheet.proofs.Tables.{tables-length, rest-zero}
 use Rattle.sheet.proofs.ReadSheet.{read-counts, read-ready}
 use Rattle.walker.specs.declared.Task.{Task}
 use Rattle.walker.specs.Walked.{Ready, Readied, Walked}
@@ -108,10 +108,12 @@ module _ (b : Bytes) (S : Setting) (n : ℕ) (limit : S .path ≤ longestPath) (
           formula = subst (λ i. FormulaAt (tables s n) i (s .formula)) (sym f) (held .formula);
           shallow = held .shallow;
           procedures = held .procedures;
+          order = subst (λ i. InOrder (tables s n) (length (s .declared .procedures)) i) (sym f) (held .order);
           holds = held .values;
           marked = held .marked;
           ranges = held .ranges;
           firsts = held .arrays;
+          lasts = λ l h. rest-zero s n enough (count .few) well _ (omega arith);
           scalar-count = p;
           array-count = q;
           limit = limit;
