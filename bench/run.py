@@ -31,6 +31,9 @@ PROGRAMS = [
     ("arrays", "arrays", "v0:299", ["--skip", MOST], 1, ["arrays", 299]),
     ("primes", "primes", "v0:9000", ["--skip", MOST], 1, ["primes", 9000]),
     ("chain", "chain", "v0:20000,v1:254", ["--skip", MOST], 1, ["chain", 20000, 254]),
+    ("unknown", "unknown", "v0:5000", ["--skip", MOST], 1, ["unknown", 5000]),
+    ("ranged", "ranged", "v0:5000", ["--skip", MOST], 1, ["ranged", 5000]),
+    ("rounding", "rounding", "v0:5000", ["--skip", MOST], 1, ["rounding", 5000]),
 ]
 
 
@@ -146,6 +149,20 @@ def instructions():
         yield weighed(f"chain, path limit {limit:,}", "chain", f"v0:20000,v1:{limit // 2 - 8}", options, 400000)
 
 
+def by_terms():
+    """Instructions for a node of a test whose left term has so many additions, those of `true` taken off."""
+    options = ["--skip", MOST, "--budget", 400000]
+    for length in (0, 1, 2, 4, 8, 16, 32):
+        term = "add " * length + "l1" + " 1" * length
+        text = f"edition=1\nscalars=0\nlocals=2\narrays=\ngiven=\nformula=some l0 1 5000 some l1 1 1000 lt {term} 0\n"
+        costs = {}
+        for engine in ENGINES:
+            empty, few = collected(engine, sheet("true", ""), options)
+            whole, nodes = collected(engine, text, options)
+            costs[engine] = (whole - empty) / (nodes - few)
+        yield [length] + row(costs, "walker", "library")
+
+
 def together(word, formulas):
     """The formulas under one word of two operands, nested as little as can be."""
     half = len(formulas) // 2
@@ -193,6 +210,8 @@ def main():
     table(["path limit", "walker, chain", "library, chain", "ratio", "walker, bottom", "library, bottom", "ratio"], by_path())
     print("Instructions for a node\n")
     table(["search", "nodes", "walker", "library", "library / walker"], instructions())
+    print("Instructions for a node, by the length of a term\n")
+    table(["additions", "walker", "library", "library / walker"], by_terms())
     print("Instructions to read a full sheet\n")
     table(["sheet, long in its", "walker", "library", "library / walker"], reading())
 

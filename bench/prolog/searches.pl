@@ -90,3 +90,25 @@ chain(Times, Length) :- between(1, Times, _), link(1, Length).
 
 link(I, Length) :- I > Length, !.
 link(I, Length) :- I =\= 0, Next is I + 1, link(Next, Length).
+
+% ---- unknown: `not` over a cell without a value
+
+unknown(N) :-
+    between(1, N, X),
+    between(1, 1000, Y),
+    \+ (X + Y < 3, _ = X).
+
+% ---- ranged: a cell that may have 500 of 1,000 values
+
+ranged(N) :-
+    between(1, N, _),
+    between(0, 999, Y),
+    Y >= 0, Y =< 499, Cell = Y,
+    Cell < -1.
+
+% ---- rounding: arithmetic with divisions that round down
+
+rounding(N) :-
+    between(1, N, X),
+    between(1, 1000, Y),
+    ((((X * 31 + Y) mod 10007 * 17 + X) mod 10007 * 13 - Y) mod 101) div 7 =:= 5.
