@@ -4,8 +4,8 @@ use Rattle.specification.specs.Bytes.{Bytes}
 use Rattle.specification.specs.Lines.{Declared, cells}
 use Rattle.specification.specs.Value.{Valuation}
 use Rattle.specification.specs.WellFormed.{Valid}
-use Rattle.specification.specs.Listing.{block_of, blockText}
-use Rattle.tables.specs.Layout.{maxCells, maxArrays}
+use Rattle.specification.specs.Listing.{block_of, block_text}
+use Rattle.tables.specs.Layout.{max_cells, max_arrays}
 use Rattle.sheet.specs.Tables.{Words}
 use Rattle.sheet.specs.Held.{Holds, ArraysAt}
 use Rattle.listing.specs.declared.Head.{Head}
@@ -16,10 +16,10 @@ use Rattle.listing.specs.Model.{Sized, head_of}
 -- the words hold a valuation of the declared cells, so many of them scalars, with so many arrays
 pub record Shows (w : Words) (scalars arrays : ℕ) (D : Declared) (β : Valuation) : Type 0 where
   pub size : Sized w
-  pub scalar-count : scalars ≡ D.scalars
+  pub scalar_count : scalars ≡ D.scalars
   pub array_count : arrays ≡ length D.arrays
-  pub few : arrays ≤ maxArrays
-  pub limit : cells D ≤ maxCells
+  pub few : arrays ≤ max_arrays
+  pub limit : cells D ≤ max_cells
   pub firsts : ArraysAt w D
   pub holds : Holds w β
   pub valid : Valid D β
@@ -38,4 +38,4 @@ Wrote b o o' (Count n) = (n ≡ length b) × (n ≤ length o) × (o' ≡ b ++ dr
 -- the block of whatever the words hold
 abbrev pub Listed : Words → ℕ → ℕ → Head → Bytes → Bytes → Written → Type 0
 Listed w scalars arrays h o o' r =
-    (D : Declared) (β : Valuation) → Shows w scalars arrays D β → Wrote (blockText (block_of D (head_of h) β)) o o' r
+    (D : Declared) (β : Valuation) → Shows w scalars arrays D β → Wrote (block_text (block_of D (head_of h) β)) o o' r

@@ -16,5 +16,5 @@ pub record Put (o o' : Bytes) (at : ℕ) (t : Bytes) (after : ℕ) : Type 0 wher
   pub end : after ≡ at + length t
 
 -- what stands after a cell's name
-abbrev pub endText : ℕ → Bytes
-endText w = bytes "=" ++ (printℤ (signed w) ++ bytes "\n")
+abbrev pub end_text : ℕ → Bytes
+end_text w = bytes "=" ++ (printℤ (signed w) ++ bytes "\n")

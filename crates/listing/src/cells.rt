@@ -1,10 +1,10 @@
 // The lines of the cells that have a value, from the work words (specs/Model.antt). Each function gives the place after them.
 ghost use Rattle.std.specs.Prelude.{◌+◌, ◌<◌, ◌≤◌};
 ghost use Rattle.specification.specs.Lines.{scalar, element};
-ghost use Rattle.specification.specs.Listing.{cellLabel, labelText, linesText};
-ghost use Rattle.tables.specs.Layout.{maxCells, maxArrays};
+ghost use Rattle.specification.specs.Listing.{cell_label, label_text, lines_text};
+ghost use Rattle.tables.specs.Layout.{max_cells, max_arrays};
 ghost use Rattle.listing.specs.Put.{Room, Put};
-ghost use Rattle.listing.specs.Model.{Sized, Spans, Laid, eachLine, line_at, scalarLine, elementLine, arrayLines};
+ghost use Rattle.listing.specs.Model.{Sized, Spans, Laid, each_line, line_at, scalar_line, element_line, array_lines};
 
 use crate::put;
 
@@ -12,8 +12,8 @@ use crate::put;
 
 // `v0`
 fn scalar_name(out: &mut [u8], at: usize, n: u32) -> usize
-    requires { Room at (labelText (cellLabel (scalar n))) }
-    ensures { Put out.old out.new at (labelText (cellLabel (scalar n))) result }
+    requires { Room at (label_text (cell_label (scalar n))) }
+    ensures { Put out.old out.new at (label_text (cell_label (scalar n))) result }
 {
     let p = put::byte(out, at, b'v');
     put::number(out, p, n as u64)
@@ -21,8 +21,8 @@ fn scalar_name(out: &mut [u8], at: usize, n: u32) -> usize
 
 // `a0.2`
 fn element_name(out: &mut [u8], at: usize, a: u32, e: u32) -> usize
-    requires { Room at (labelText (cellLabel (element a e))) }
-    ensures { Put out.old out.new at (labelText (cellLabel (element a e))) result }
+    requires { Room at (label_text (cell_label (element a e))) }
+    ensures { Put out.old out.new at (label_text (cell_label (element a e))) result }
 {
     let p = put::byte(out, at, b'a');
     let q = put::number(out, p, a as u64);
@@ -32,8 +32,8 @@ fn element_name(out: &mut [u8], at: usize, a: u32, e: u32) -> usize
 
 // `v0=7`, if the cell has a value.
 fn scalar(out: &mut [u8], at: usize, w: &[u32], n: u32) -> usize
-    requires { (Sized w.now) × (n < maxCells) × (Room at (linesText (scalarLine w.now n))) }
-    ensures { Put out.old out.new at (linesText (scalarLine w.now n)) result }
+    requires { (Sized w.now) × (n < max_cells) × (Room at (lines_text (scalar_line w.now n))) }
+    ensures { Put out.old out.new at (lines_text (scalar_line w.now n)) result }
 {
     if tables::cell_flag(w, n) == 0 {
         return at;
@@ -45,8 +45,8 @@ fn scalar(out: &mut [u8], at: usize, w: &[u32], n: u32) -> usize
 
 // `a0.2=-1`, if the cell has a value.
 fn element(out: &mut [u8], at: usize, w: &[u32], a: u32, e: u32, c: u32) -> usize
-    requires { (Sized w.now) × (c < maxCells) × (Room at (linesText (line_at w.now (element a e) c))) }
-    ensures { Put out.old out.new at (linesText (line_at w.now (element a e) c)) result }
+    requires { (Sized w.now) × (c < max_cells) × (Room at (lines_text (line_at w.now (element a e) c))) }
+    ensures { Put out.old out.new at (lines_text (line_at w.now (element a e) c)) result }
 {
     if tables::cell_flag(w, c) == 0 {
         return at;
@@ -60,8 +60,8 @@ fn element(out: &mut [u8], at: usize, w: &[u32], a: u32, e: u32, c: u32) -> usiz
 
 // The n scalars.
 pub(crate) fn scalars(out: &mut [u8], at: usize, w: &[u32], n: u32) -> usize
-    requires { (Sized w.now) × (n ≤ maxCells) × (Room at (linesText (eachLine (scalarLine w.now) 0 n))) }
-    ensures { Put out.old out.new at (linesText (eachLine (scalarLine w.now) 0 n)) result }
+    requires { (Sized w.now) × (n ≤ max_cells) × (Room at (lines_text (each_line (scalar_line w.now) 0 n))) }
+    ensures { Put out.old out.new at (lines_text (each_line (scalar_line w.now) 0 n)) result }
 {
     let mut p = at;
     let mut i = 0;
@@ -74,8 +74,8 @@ pub(crate) fn scalars(out: &mut [u8], at: usize, w: &[u32], n: u32) -> usize
 
 // The n elements of array a, whose first cell is c.
 fn elements(out: &mut [u8], at: usize, w: &[u32], a: u32, c: u32, n: u32) -> usize
-    requires { (Sized w.now) × (c + n ≤ maxCells) × (Room at (linesText (eachLine (elementLine w.now a c) 0 n))) }
-    ensures { Put out.old out.new at (linesText (eachLine (elementLine w.now a c) 0 n)) result }
+    requires { (Sized w.now) × (c + n ≤ max_cells) × (Room at (lines_text (each_line (element_line w.now a c) 0 n))) }
+    ensures { Put out.old out.new at (lines_text (each_line (element_line w.now a c) 0 n)) result }
 {
     let mut p = at;
     let mut i = 0;
@@ -88,8 +88,8 @@ fn elements(out: &mut [u8], at: usize, w: &[u32], a: u32, c: u32, n: u32) -> usi
 
 // The elements of array a.
 fn array(out: &mut [u8], at: usize, w: &[u32], a: u32) -> usize
-    requires { (Sized w.now) × (a < maxArrays) × (Spans w.now a) × (Room at (linesText (arrayLines w.now a))) }
-    ensures { Put out.old out.new at (linesText (arrayLines w.now a)) result }
+    requires { (Sized w.now) × (a < max_arrays) × (Spans w.now a) × (Room at (lines_text (array_lines w.now a))) }
+    ensures { Put out.old out.new at (lines_text (array_lines w.now a)) result }
 {
     let from = tables::first_cell(w, a);
     let to = tables::first_cell(w, a + 1);
@@ -98,8 +98,8 @@ fn array(out: &mut [u8], at: usize, w: &[u32], a: u32) -> usize
 
 // The n arrays.
 pub(crate) fn arrays(out: &mut [u8], at: usize, w: &[u32], n: u32) -> usize
-    requires { (Laid w.now n) × (Room at (linesText (eachLine (arrayLines w.now) 0 n))) }
-    ensures { Put out.old out.new at (linesText (eachLine (arrayLines w.now) 0 n)) result }
+    requires { (Laid w.now n) × (Room at (lines_text (each_line (array_lines w.now) 0 n))) }
+    ensures { Put out.old out.new at (lines_text (each_line (array_lines w.now) 0 n)) result }
 {
     let mut p = at;
     let mut a = 0;

@@ -1,9 +1,9 @@
 // One block of the listing, written into the rest of the output if all of it fits. A block is counted and written by the same
 // functions: bytes beyond the lent memory's end are counted and not kept.
 ghost use Rattle.std.specs.Prelude.{◌≡◌, ◌≤◌, length};
-ghost use Rattle.tables.specs.Layout.{maxCells};
+ghost use Rattle.tables.specs.Layout.{max_cells};
 ghost use Rattle.listing.specs.Put.{Put};
-ghost use Rattle.listing.specs.Model.{Laid, Headed, modelText};
+ghost use Rattle.listing.specs.Model.{Laid, Headed, model_text};
 ghost use Rattle.listing.specs.Block.{Ready, Listed};
 
 mod cells;
@@ -56,8 +56,8 @@ fn top(out: &mut [u8], head: Head) -> usize
 
 // All of it from the start of the memory, or as much as there is room for. Gives its length.
 fn block(out: &mut [u8], w: &[u32], scalars: u32, arrays: u32, head: Head) -> usize
-    requires { (Laid w.now arrays) × (scalars ≤ maxCells) }
-    ensures { Put out.old out.new 0 (modelText w.now scalars arrays head) result }
+    requires { (Laid w.now arrays) × (scalars ≤ max_cells) }
+    ensures { Put out.old out.new 0 (model_text w.now scalars arrays head) result }
 {
     let p = top(out, head);
     let q = cells::scalars(out, p, w, scalars);
@@ -66,8 +66,8 @@ fn block(out: &mut [u8], w: &[u32], scalars: u32, arrays: u32, head: Head) -> us
 
 // Its length, by writing it into no memory.
 fn size(w: &[u32], scalars: u32, arrays: u32, head: Head) -> usize
-    requires { (Laid w.now arrays) × (scalars ≤ maxCells) }
-    ensures { result ≡ length (modelText w.now scalars arrays head) }
+    requires { (Laid w.now arrays) × (scalars ≤ max_cells) }
+    ensures { result ≡ length (model_text w.now scalars arrays head) }
 {
     let mut none = [0u8; 0];
     block(&mut none, w, scalars, arrays, head)

@@ -3,9 +3,9 @@
 ghost use Rattle.std.specs.Prelude.{◌≡◌, [], ◌∷◌, length};
 ghost use Rattle.std.proofs.lemmas.List.Edits.{sets};
 ghost use Rattle.specification.specs.Number.{printℕ, printℤ};
-ghost use Rattle.specification.specs.Printed.{fieldText};
+ghost use Rattle.specification.specs.Printed.{field_text};
 ghost use Rattle.values.specs.Word.{signed};
-ghost use Rattle.listing.specs.Put.{Room, Put, endText};
+ghost use Rattle.listing.specs.Put.{Room, Put, end_text};
 
 // The word of 0.
 const ZERO: u32 = 2147483648;
@@ -91,8 +91,8 @@ pub(crate) fn value(out: &mut [u8], at: usize, word: u32) -> usize
 
 // What stands after a cell's name: an equals sign, the value of a word and a line feed.
 pub(crate) fn ending(out: &mut [u8], at: usize, word: u32) -> usize
-    requires { Room at (endText word) }
-    ensures { Put out.old out.new at (endText word) result }
+    requires { Room at (end_text word) }
+    ensures { Put out.old out.new at (end_text word) result }
 {
     let p = byte(out, at, b'=');
     let q = value(out, p, word);
@@ -101,8 +101,8 @@ pub(crate) fn ending(out: &mut [u8], at: usize, word: u32) -> usize
 
 // A key with its equals sign, a number and a line feed.
 pub fn field(out: &mut [u8], at: usize, key: &[u8], n: u64) -> usize
-    requires { Room at (fieldText key.now n) }
-    ensures { Put out.old out.new at (fieldText key.now n) result }
+    requires { Room at (field_text key.now n) }
+    ensures { Put out.old out.new at (field_text key.now n) result }
 {
     let p = text(out, at, key);
     let q = number(out, p, n);

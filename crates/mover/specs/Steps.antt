@@ -3,13 +3,13 @@ use Rattle.std.specs.Prelude.{ℕ, ◌≤◌, ◌≡◌, [], length, ltb}
 use Rattle.std.proofs.Math.Option.{Option, none, some as just}
 use Rattle.specification.specs.Bytes.{Bytes, bytes, pick}
 use Rattle.specification.specs.declared.Move.{Move}
-use Rattle.specification.specs.Moves.{Result, longestSheet, outcome, outputAfter}
-use Rattle.tables.specs.Layout.{Words, pathAt}
+use Rattle.specification.specs.Moves.{Result, longest_sheet, outcome, output_after}
+use Rattle.tables.specs.Layout.{Words, path_at}
 use Rattle.mover.specs.declared.Place.{Place}
 use Rattle.mover.specs.declared.Place.TheVariants.{Nowhere, At}
 use Rattle.mover.specs.declared.Way.{Way}
 use Rattle.mover.specs.declared.Way.TheVariants.{Up, Tidy, Down}
-use Rattle.mover.specs.Model.{linesLength, headLines, upText, tidyText, downText, upResult, tidyResult, downResult}
+use Rattle.mover.specs.Model.{lines_length, head_lines, up_text, tidy_text, down_text, up_result, tidy_result, down_result}
 
 -- a place that is answered
 abbrev pub placed : Place → Option ℕ
@@ -24,22 +24,22 @@ kept i until t = pick (ltb i until) [] t
 
 -- what a move leans on: the sheet is no longer than any is, its lines are there, and so are the tables
 pub record Movable (s : Bytes) (w : Words) : Type 0 where
-  pub short : length s ≤ longestSheet
-  pub head : length (bytes "edition=2\n") ≤ linesLength headLines s
-  pub tables : pathAt ≤ length w
+  pub short : length s ≤ longest_sheet
+  pub head : length (bytes "edition=2\n") ≤ lines_length head_lines s
+  pub tables : path_at ≤ length w
 
 -- the text that each way writes
-abbrev pub movedText : Way → ℕ → Words → Bytes → Bytes
-movedText Up n w s = upText n w s
-movedText Tidy n w s = tidyText w s
-movedText Down n w s = downText w s
+abbrev pub moved_text : Way → ℕ → Words → Bytes → Bytes
+moved_text Up n w s = up_text n w s
+moved_text Tidy n w s = tidy_text w s
+moved_text Down n w s = down_text w s
 
 -- and what is due for it
-abbrev pub movedResult : Way → ℕ → Words → Bytes → Result
-movedResult Up n w s = upResult n w s
-movedResult Tidy n w s = tidyResult w s
-movedResult Down n w s = downResult n w s
+abbrev pub moved_result : Way → ℕ → Words → Bytes → Result
+moved_result Up n w s = up_result n w s
+moved_result Tidy n w s = tidy_result w s
+moved_result Down n w s = down_result n w s
 
 -- what a move with this result returns, and leaves of the output that was held
 abbrev pub Done : Result → Move → Bytes → Bytes → Type 0
-Done x r held out = (r ≡ outcome x) × (out ≡ outputAfter x held)
+Done x r held out = (r ≡ outcome x) × (out ≡ output_after x held)

@@ -3,11 +3,11 @@
 ghost use Rattle.std.specs.Prelude.{◌≡◌, ◌++◌, suc, ◌≤◌, length};
 ghost use Rattle.specification.specs.Bytes.{bytes};
 ghost use Rattle.specification.specs.Moves.{unless, fitted};
-ghost use Rattle.tables.specs.Layout.{pathAt};
+ghost use Rattle.tables.specs.Layout.{path_at};
 ghost use Rattle.listing.specs.Put.{Room, Put};
-ghost use Rattle.mover.specs.Model.{linesLength, headLines, headRest, restText, upText, tidyText, downText};
-ghost use Rattle.mover.specs.Model.{downResult, roundingOf};
-ghost use Rattle.mover.specs.Steps.{Movable, movedText, movedResult, Done};
+ghost use Rattle.mover.specs.Model.{lines_length, head_lines, head_rest, rest_text, up_text, tidy_text, down_text};
+ghost use Rattle.mover.specs.Model.{down_result, rounding_of};
+ghost use Rattle.mover.specs.Steps.{Movable, moved_text, moved_result, Done};
 
 use listing::put;
 use specification::Move;
@@ -50,8 +50,8 @@ const HEAD: usize = 4;
 
 // The lines before that of ranges, with another line of the edition.
 fn head(out: &mut [u8], s: &[u8], edition: &[u8]) -> usize
-    requires { (length s.now ≤ 4096) × (length (bytes "edition=2\n") ≤ linesLength headLines s.now) × (length edition.now ≤ 4096) }
-    ensures { Put out.old out.new 0 (edition.now ++ headRest s.now) result }
+    requires { (length s.now ≤ 4096) × (length (bytes "edition=2\n") ≤ lines_length head_lines s.now) × (length edition.now ≤ 4096) }
+    ensures { Put out.old out.new 0 (edition.now ++ head_rest s.now) result }
 {
     let h = lines::lines_end(s, HEAD);
     let p = put::text(out, 0, edition);
@@ -60,8 +60,8 @@ fn head(out: &mut [u8], s: &[u8], edition: &[u8]) -> usize
 
 // What stands after so many lines: the line of given values, and those of formulas.
 fn rest(out: &mut [u8], at: usize, s: &[u8], lines: usize, w: &[u32], newer: bool) -> usize
-    requires { (length s.now ≤ 4096) × (pathAt ≤ length w.now) × (lines ≤ suc headLines) × Room at (restText w.now newer lines s.now) }
-    ensures { Put out.old out.new at (restText w.now newer lines s.now) result }
+    requires { (length s.now ≤ 4096) × (path_at ≤ length w.now) × (lines ≤ suc head_lines) × Room at (rest_text w.now newer lines s.now) }
+    ensures { Put out.old out.new at (rest_text w.now newer lines s.now) result }
 {
     let k = lines::lines_end(s, lines);
     let e = lines::lines_end(s, lines + 1);
@@ -73,7 +73,7 @@ fn rest(out: &mut [u8], at: usize, s: &[u8], lines: usize, w: &[u32], newer: boo
 
 fn up_text(s: &[u8], ranges: u32, w: &[u32], out: &mut [u8]) -> usize
     requires { Movable s.now w.now × (ranges ≤ 80) }
-    ensures { Put out.old out.new 0 (upText ranges w.now s.now) result }
+    ensures { Put out.old out.new 0 (up_text ranges w.now s.now) result }
 {
     let p = head(out, s, b"edition=3\n");
     let q = ranges::full_line(out, p, ranges);
@@ -82,7 +82,7 @@ fn up_text(s: &[u8], ranges: u32, w: &[u32], out: &mut [u8]) -> usize
 
 fn tidy_text(s: &[u8], w: &[u32], out: &mut [u8]) -> usize
     requires { Movable s.now w.now }
-    ensures { Put out.old out.new 0 (tidyText w.now s.now) result }
+    ensures { Put out.old out.new 0 (tidy_text w.now s.now) result }
 {
     let k = lines::lines_end(s, HEAD + 1);
     let p = put::text(out, 0, &s[..k]);
@@ -91,7 +91,7 @@ fn tidy_text(s: &[u8], w: &[u32], out: &mut [u8]) -> usize
 
 fn down_text(s: &[u8], w: &[u32], out: &mut [u8]) -> usize
     requires { Movable s.now w.now }
-    ensures { Put out.old out.new 0 (downText w.now s.now) result }
+    ensures { Put out.old out.new 0 (down_text w.now s.now) result }
 {
     let p = head(out, s, b"edition=2\n");
     rest(out, p, s, HEAD + 1, w, false)
@@ -99,7 +99,7 @@ fn down_text(s: &[u8], w: &[u32], out: &mut [u8]) -> usize
 
 fn moved_text(way: Way, s: &[u8], ranges: u32, w: &[u32], out: &mut [u8]) -> usize
     requires { Movable s.now w.now × (ranges ≤ 80) }
-    ensures { Put out.old out.new 0 (movedText way ranges w.now s.now) result }
+    ensures { Put out.old out.new 0 (moved_text way ranges w.now s.now) result }
 {
     match way {
         Way::Up => up_text(s, ranges, w, out),
@@ -113,7 +113,7 @@ fn moved_text(way: Way, s: &[u8], ranges: u32, w: &[u32], out: &mut [u8]) -> usi
 // The length of the text, by writing it into no memory.
 fn size(way: Way, s: &[u8], ranges: u32, w: &[u32]) -> usize
     requires { Movable s.now w.now × (ranges ≤ 80) }
-    ensures { result ≡ length (movedText way ranges w.now s.now) }
+    ensures { result ≡ length (moved_text way ranges w.now s.now) }
 {
     let mut none = [0u8; 0];
     moved_text(way, s, ranges, w, &mut none)
@@ -122,7 +122,7 @@ fn size(way: Way, s: &[u8], ranges: u32, w: &[u32]) -> usize
 // The text, where it is no longer than any sheet.
 fn fit(way: Way, s: &[u8], ranges: u32, w: &[u32], out: &mut [u8]) -> Move
     requires { Movable s.now w.now × (ranges ≤ 80) × (4096 ≤ length out.old) }
-    ensures { Done (fitted (movedText way ranges w.now s.now)) result out.old out.new }
+    ensures { Done (fitted (moved_text way ranges w.now s.now)) result out.old out.new }
 {
     let n = size(way, s, ranges, w);
     if LONGEST < n {
@@ -138,7 +138,7 @@ fn fit(way: Way, s: &[u8], ranges: u32, w: &[u32], out: &mut [u8]) -> Move
 // Where every range is full.
 fn down_full(s: &[u8], w: &[u32], out: &mut [u8]) -> Move
     requires { Movable s.now w.now × (4096 ≤ length out.old) }
-    ensures { Done (unless 16 (roundingOf s.now) (fitted (downText w.now s.now)))
+    ensures { Done (unless 16 (rounding_of s.now) (fitted (down_text w.now s.now)))
         result out.old out.new }
 {
     match words::rounding(s, lines::lines_end(s, HEAD + 1)) {
@@ -153,7 +153,7 @@ fn down_full(s: &[u8], w: &[u32], out: &mut [u8]) -> Move
 // From edition 3 to edition 2, where there are so many ranges.
 fn down(s: &[u8], ranges: u32, w: &[u32], out: &mut [u8]) -> Move
     requires { Movable s.now w.now × (ranges ≤ 80) × (4096 ≤ length out.old) }
-    ensures { Done (downResult ranges w.now s.now) result out.old out.new }
+    ensures { Done (down_result ranges w.now s.now) result out.old out.new }
 {
     match ranges::narrow(s, lines::lines_end(s, HEAD) + ranges::KEY, ranges) {
         Place::At(p) => Move::Refused {
@@ -167,7 +167,7 @@ fn down(s: &[u8], ranges: u32, w: &[u32], out: &mut [u8]) -> Move
 // A sheet on its way, where edition 3 has so many ranges.
 pub fn moved(way: Way, s: &[u8], ranges: u32, w: &[u32], out: &mut [u8]) -> Move
     requires { Movable s.now w.now × (ranges ≤ 80) × (4096 ≤ length out.old) }
-    ensures { Done (movedResult way ranges w.now s.now) result out.old out.new }
+    ensures { Done (moved_result way ranges w.now s.now) result out.old out.new }
 {
     match way {
         Way::Up => fit(Way::Up, s, ranges, w, out),

@@ -2,7 +2,7 @@
 ghost use Rattle.std.specs.Prelude.{◌≡◌, ◌++◌, drop};
 ghost use Rattle.specification.specs.Bytes.{begins};
 ghost use Rattle.listing.specs.Put.{Room, Put};
-ghost use Rattle.mover.specs.Model.{fullRange, markAfter, fullRanges, fullLine, narrowPlace};
+ghost use Rattle.mover.specs.Model.{full_range, mark_after, full_ranges, full_line, narrow_place};
 ghost use Rattle.mover.specs.Steps.{placed};
 
 use crate::Place;
@@ -15,8 +15,8 @@ pub(crate) const KEY: usize = 7;
 
 // A full range that some more come after.
 fn full_range(out: &mut [u8], at: usize, after: u32) -> usize
-    requires { Room at (fullRange ++ markAfter after) }
-    ensures { Put out.old out.new at (fullRange ++ markAfter after) result }
+    requires { Room at (full_range ++ mark_after after) }
+    ensures { Put out.old out.new at (full_range ++ mark_after after) result }
 {
     if after == 0 {
         return put::text(out, at, b"-2147483648:2147483647\n");
@@ -25,8 +25,8 @@ fn full_range(out: &mut [u8], at: usize, after: u32) -> usize
 }
 
 fn full_ranges(out: &mut [u8], at: usize, n: u32) -> usize
-    requires { Room at (fullRanges n) }
-    ensures { Put out.old out.new at (fullRanges n) result }
+    requires { Room at (full_ranges n) }
+    ensures { Put out.old out.new at (full_ranges n) result }
 {
     let mut p = at;
     let mut left = n;
@@ -39,8 +39,8 @@ fn full_ranges(out: &mut [u8], at: usize, n: u32) -> usize
 
 // The line of n full ranges.
 pub(crate) fn full_line(out: &mut [u8], at: usize, n: u32) -> usize
-    requires { Room at (fullLine n) }
-    ensures { Put out.old out.new at (fullLine n) result }
+    requires { Room at (full_line n) }
+    ensures { Put out.old out.new at (full_line n) result }
 {
     if n == 0 {
         return put::text(out, at, b"ranges=\n");
@@ -51,7 +51,7 @@ pub(crate) fn full_line(out: &mut [u8], at: usize, n: u32) -> usize
 
 // Whether a full range that some more come after stands at a place.
 fn full_at(s: &[u8], at: usize, after: u32) -> bool
-    ensures { result ≡ begins (fullRange ++ markAfter after) (drop at s.now) }
+    ensures { result ≡ begins (full_range ++ mark_after after) (drop at s.now) }
 {
     if after == 0 {
         return text::begins(s, at, b"-2147483648:2147483647\n");
@@ -61,7 +61,7 @@ fn full_at(s: &[u8], at: usize, after: u32) -> bool
 
 // The place of the first of n ranges that is not full, where the first begins at a place.
 pub(crate) fn narrow(s: &[u8], at: usize, n: u32) -> Place
-    ensures { placed result ≡ narrowPlace at n (drop at s.now) }
+    ensures { placed result ≡ narrow_place at n (drop at s.now) }
 {
     let mut p = at;
     let mut left = n;

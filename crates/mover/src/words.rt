@@ -1,11 +1,11 @@
 // The lines of formulas, word by word: the table of tokens says which word is written anew and which are dropped.
 ghost use Rattle.std.specs.Prelude.{◌≡◌, ◌||◌, ◌+◌, ◌≤◌, length, take, drop};
 ghost use Rattle.specification.specs.Bytes.{pick, run, begins};
-ghost use Rattle.specification.specs.Moves.{longestSheet};
-ghost use Rattle.tables.specs.Layout.{pathAt};
+ghost use Rattle.specification.specs.Moves.{longest_sheet};
+ghost use Rattle.tables.specs.Layout.{path_at};
 ghost use Rattle.listing.specs.Put.{Room, Put};
-ghost use Rattle.mover.specs.Model.{chunks, in_word, tokenCode, empty_at, standIn, spelling, untilAfter, word_piece, rewritten};
-ghost use Rattle.mover.specs.Model.{roundingPlace};
+ghost use Rattle.mover.specs.Model.{chunks, in_word, token_code, empty_at, stand_in, spelling, until_after, word_piece, rewritten};
+ghost use Rattle.mover.specs.Model.{rounding_place};
 ghost use Rattle.mover.specs.Steps.{kept, placed};
 
 use crate::Place;
@@ -65,8 +65,8 @@ fn either_at(s: &[u8], at: usize, one: &[u8], other: &[u8]) -> bool
 
 // The code of token i, 0 where the table has none.
 fn code(w: &[u32], i: u32) -> u32
-    requires { pathAt ≤ length w.now }
-    ensures { result ≡ tokenCode w.now i }
+    requires { path_at ≤ length w.now }
+    ensures { result ≡ token_code w.now i }
 {
     if tables::MAX_TOKENS <= i {
         return 0;
@@ -76,7 +76,7 @@ fn code(w: &[u32], i: u32) -> u32
 
 // Whether a quantifier with an empty range begins at token i. No sheet has more tokens than bytes.
 fn empty_at(w: &[u32], i: u32) -> bool
-    requires { (pathAt ≤ length w.now) × (i ≤ longestSheet) }
+    requires { (path_at ≤ length w.now) × (i ≤ longest_sheet) }
     ensures { result ≡ empty_at w.now i }
 {
     let c = code(w, i);
@@ -97,8 +97,8 @@ fn empty_at(w: &[u32], i: u32) -> bool
 
 // Tokens below this are dropped, once token i is passed.
 fn until_after(w: &[u32], i: u32, until: u32) -> u32
-    requires { (pathAt ≤ length w.now) × (i ≤ longestSheet) }
-    ensures { result ≡ untilAfter w.now i until }
+    requires { (path_at ≤ length w.now) × (i ≤ longest_sheet) }
+    ensures { result ≡ until_after w.now i until }
 {
     if i < until {
         return until;
@@ -113,8 +113,8 @@ fn until_after(w: &[u32], i: u32, until: u32) -> u32
 
 // What stands for the quantifier with an empty range at token i: a `some` never holds, an `all` always does.
 fn stand_in(out: &mut [u8], at: usize, w: &[u32], i: u32) -> usize
-    requires { (pathAt ≤ length w.now) × Room at (standIn w.now i) }
-    ensures { Put out.old out.new at (standIn w.now i) result }
+    requires { (path_at ≤ length w.now) × Room at (stand_in w.now i) }
+    ensures { Put out.old out.new at (stand_in w.now i) result }
 {
     if code(w, i) == codes::SOME {
         return put::text(out, at, b"eq 0 1");
@@ -156,7 +156,7 @@ fn put_word(
     until: u32,
     letters: &[u8],
 ) -> usize
-    requires { (pathAt ≤ length w.now) × (i ≤ longestSheet) × Room at (word_piece w.now newer i until letters.now) }
+    requires { (path_at ≤ length w.now) × (i ≤ longest_sheet) × Room at (word_piece w.now newer i until letters.now) }
     ensures { Put out.old out.new at (word_piece w.now newer i until letters.now) result }
 {
     if i < until {
@@ -188,7 +188,7 @@ pub(crate) fn rewrite(
     w: &[u32],
     newer: bool,
 ) -> usize
-    requires { (from ≤ length s.now) × (length s.now ≤ longestSheet) × (pathAt ≤ length w.now)
+    requires { (from ≤ length s.now) × (length s.now ≤ longest_sheet) × (path_at ≤ length w.now)
         × Room at (rewritten w.now newer 0 0 (chunks (drop from s.now))) }
     ensures { Put out.old out.new at
         (rewritten w.now newer 0 0 (chunks (drop from s.now))) result }
@@ -217,7 +217,7 @@ pub(crate) fn rewrite(
 
 // The place of the first word of the newer edition that rounds down, from a place on.
 pub(crate) fn rounding(s: &[u8], at: usize) -> Place
-    ensures { placed result ≡ roundingPlace at (drop at s.now) }
+    ensures { placed result ≡ rounding_place at (drop at s.now) }
 {
     let mut i = at;
     while i < s.len() {

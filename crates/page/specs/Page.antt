@@ -3,8 +3,8 @@ use Rattle.std.specs.Prelude.{ℕ, ◌≤◌, ◌≡◌, List, ◌++◌, length,
 use Rattle.specification.specs.declared.Outcome.{Outcome}
 use Rattle.specification.specs.declared.Outcome.TheVariants.{Refused, Ran}
 use Rattle.specification.specs.Bytes.{Bytes}
-use Rattle.specification.specs.Outcome.{Result, call, written, outcome, outputAfter}
-use Rattle.specification.specs.Printed.{closing, boxSetting, boxWords, boxOutput, box}
+use Rattle.specification.specs.Outcome.{Result, call, written, outcome, output_after}
+use Rattle.specification.specs.Printed.{closing, box_setting, box_words, box_output, box}
 use Rattle.listing.specs.Put.{Put}
 use Rattle.vodlasim.specs.Lent.{Lent}
 use Rattle.page.specs.declared.Page.{Page}
@@ -15,11 +15,11 @@ written_of (Refused number place) = 0
 written_of (Ran end t n) = n
 
 -- the longest line of an end, `end=output`; and the longest lines after a listing, that and four tallies of ten digits
-abbrev pub endMost : ℕ
-endMost = 11
+abbrev pub end_most : ℕ
+end_most = 11
 
-abbrev pub closingMost : ℕ
-closingMost = 82
+abbrev pub closing_most : ℕ
+closing_most = 82
 
 -- some of these lines, put from a place on; they end among the first so many bytes
 pub record Lined (most : ℕ) (b b' : Bytes) (at : ℕ) (t : Bytes) (r : ℕ) : Type 0 where
@@ -32,17 +32,17 @@ pub record Closed (o : Outcome) (b b' : Bytes) (r : ℕ) : Type 0 where
   pub count : r ≡ length (closing o)
 
 -- the box's run of a sheet
-abbrev pub boxRun : Bytes → Result
-boxRun sheet = call sheet boxSetting boxWords boxOutput
+abbrev pub box_run : Bytes → Result
+box_run sheet = call sheet box_setting box_words box_output
 
 -- its page in the output o and in the memory l of the lines after the listing, where the call leaves the work words w'
 pub record Paged (sheet : Bytes) (w' : List ℕ) (o l : Lent) (r : Page) : Type 0 where
   -- what the box prints
   pub page : take r.listing o.after ++ take r.closing l.after ≡ box sheet
   -- the listing, and beyond it what the output held
-  pub listing : r.listing ≡ length (written (boxRun sheet))
-  pub output : o.after ≡ outputAfter (boxRun sheet) o.before
+  pub listing : r.listing ≡ length (written (box_run sheet))
+  pub output : o.after ≡ output_after (box_run sheet) o.before
   -- the lines after it, and beyond them what their memory held
-  pub closed : Closed (outcome (boxRun sheet)) l.before l.after r.closing
+  pub closed : Closed (outcome (box_run sheet)) l.before l.after r.closing
   -- the work words are zero
-  pub work : w' ≡ replicate boxWords 0
+  pub work : w' ≡ replicate box_words 0

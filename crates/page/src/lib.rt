@@ -1,8 +1,8 @@
 // What the box prints, in lent memory: the lines after a listing, and a sheet's whole page. To print it is left to the programs.
 ghost use Rattle.std.specs.Prelude.{◌≡◌, ◌≤◌};
-ghost use Rattle.specification.specs.Printed.{endLine, tallyLines, refusalLines};
+ghost use Rattle.specification.specs.Printed.{end_line, tally_lines, refusal_lines};
 ghost use Rattle.vodlasim.specs.Lent.{lent};
-ghost use Rattle.page.specs.Page.{written_of, endMost, closingMost, Lined, Closed, Paged};
+ghost use Rattle.page.specs.Page.{written_of, end_most, closing_most, Lined, Closed, Paged};
 
 use listing::put;
 use specification::{End, Outcome, Setting, Tallies};
@@ -34,7 +34,7 @@ pub struct Page {
 // ---- the lines after the listing
 
 fn end_line(lines: &mut [u8], end: End) -> usize
-    ensures { Lined endMost lines.old lines.new 0 (endLine end) result }
+    ensures { Lined end_most lines.old lines.new 0 (end_line end) result }
 {
     match end {
         End::Done => put::text(lines, 0, b"end=done\n"),
@@ -45,8 +45,8 @@ fn end_line(lines: &mut [u8], end: End) -> usize
 }
 
 fn tally_lines(lines: &mut [u8], at: usize, t: Tallies) -> usize
-    requires { at ≤ endMost }
-    ensures { Lined closingMost lines.old lines.new at (tallyLines t) result }
+    requires { at ≤ end_most }
+    ensures { Lined closing_most lines.old lines.new at (tally_lines t) result }
 {
     let p = put::field(lines, at, b"nodes=", t.nodes as u64);
     let q = put::field(lines, p, b"answers=", t.answers as u64);
@@ -55,7 +55,7 @@ fn tally_lines(lines: &mut [u8], at: usize, t: Tallies) -> usize
 }
 
 fn refusal_lines(lines: &mut [u8], number: u32, place: usize) -> usize
-    ensures { Lined closingMost lines.old lines.new 0 (refusalLines number place) result }
+    ensures { Lined closing_most lines.old lines.new 0 (refusal_lines number place) result }
 {
     let p = put::field(lines, 0, b"refused=", number as u64);
     put::field(lines, p, b"at=", place as u64)

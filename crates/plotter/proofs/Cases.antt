@@ -2,8 +2,8 @@
 use Rattle.std.proofs.Common.{◌≡◌, ℕ, [], ◌∷◌, refl}
 use Rattle.specification.specs.Bytes.{Bytes, bytes}
 use Rattle.plotter.specs.declared.Port.{Port}
-use Rattle.plotter.specs.Port.{bit, is_set, put, After, takes, acknowledged, send, attempt, step, readyAgain, interruptsOn, interruptsOff, occur}
-use Rattle.plotter.specs.History.{aStep, event, action, then, play, chances}
+use Rattle.plotter.specs.Port.{bit, is_set, put, After, takes, acknowledged, send, attempt, step, ready_again, interrupts_on, interrupts_off, occur}
+use Rattle.plotter.specs.History.{a_step, event, action, then, play, chances}
 
 -- status, control, data, sum
 abbrev port : ℕ → ℕ → ℕ → ℕ → Port
@@ -13,11 +13,11 @@ abbrev after : Port → Bytes → Bytes → After
 after p sent unsent = record { port = p; sent = sent; unsent = unsent }
 
 -- ready again where it is set: pending is set if control lets it through, and else nothing changes
-pub ready-twice : occur readyAgain (port 1 1 0 0) ≡ port 5 1 0 0
+pub ready-twice : occur ready_again (port 1 1 0 0) ≡ port 5 1 0 0
 unfolding occur put bit is_set
 ready-twice = refl
 
-pub ready-twice-off : occur readyAgain (port 1 0 0 0) ≡ port 1 0 0 0
+pub ready-twice-off : occur ready_again (port 1 0 0 0) ≡ port 1 0 0 0
 unfolding occur put bit is_set
 ready-twice-off = refl
 
@@ -31,16 +31,16 @@ unfolding step attempt acknowledged takes put bit is_set
 paper-out = refl
 
 -- a step with nothing left counts among those that find ready set and paper in
-pub counts-with-nothing-left : chances (aStep ∷ aStep ∷ []) (port 1 0 0 0) [] ≡ 2
+pub counts-with-nothing-left : chances (a_step ∷ a_step ∷ []) (port 1 0 0 0) [] ≡ 2
 unfolding chances step attempt acknowledged takes put bit is_set
 counts-with-nothing-left = refl
 
 -- control is looked at when ready is set, and at no other time
-pub on-after-ready : play (event readyAgain ∷ event interruptsOn ∷ []) (port 0 0 0 0) [] ≡ after (port 1 1 0 0) [] []
+pub on-after-ready : play (event ready_again ∷ event interrupts_on ∷ []) (port 0 0 0 0) [] ≡ after (port 1 1 0 0) [] []
 unfolding play then action occur put bit is_set
 on-after-ready = refl
 
-pub off-after-ready : play (event readyAgain ∷ event interruptsOff ∷ []) (port 0 1 0 0) [] ≡ after (port 5 0 0 0) [] []
+pub off-after-ready : play (event ready_again ∷ event interrupts_off ∷ []) (port 0 1 0 0) [] ≡ after (port 5 0 0 0) [] []
 unfolding play then action occur put bit is_set
 off-after-ready = refl
 

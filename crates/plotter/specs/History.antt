@@ -6,7 +6,7 @@ use Rattle.plotter.specs.declared.Port.{Port}
 use Rattle.plotter.specs.Port.{After, Event, step, occur, takes}
 
 pub data Action : Type 0 where
-  aStep : Action
+  a_step : Action
   event : Event → Action
 
 abbrev pub History : Type 0
@@ -14,7 +14,7 @@ History = List Action
 
 -- what one action leaves; an event sends nothing
 unfoldable pub action : Action → Port → Bytes → After
-action aStep p u = step p u
+action a_step p u = step p u
 action (event e) p u = record { port = occur e p; sent = []; unsent = u }
 
 -- one after the other: what the last leaves, with the bytes that both sent
@@ -31,7 +31,7 @@ play (x ∷ h) p u =
 -- how many of its steps find ready set and paper in, whether or not a byte is left to send
 unfoldable pub chances : History → Port → Bytes → ℕ
 chances [] p u = 0
-chances (aStep ∷ h) p u =
+chances (a_step ∷ h) p u =
     let first = step p u in
     pick (takes p) 1 0 + chances h first.port first.unsent
 chances (event e ∷ h) p u = chances h (occur e p) u

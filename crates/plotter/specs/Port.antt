@@ -22,8 +22,8 @@ put k d r = r - bit k r * 2 ^ k + d * 2 ^ k
 abbrev pub ready : ℕ
 ready = 0
 
-abbrev pub paperOut : ℕ
-paperOut = 1
+abbrev pub paper_out : ℕ
+paper_out = 1
 
 abbrev pub pending : ℕ
 pending = 2
@@ -33,11 +33,11 @@ abbrev pub interrupts : ℕ
 interrupts = 0
 
 -- the port with another status, with another control
-abbrev pub withStatus : ℕ → Port → Port
-withStatus s p = record { status = s; control = p.control; «data» = p.«data»; sum = p.sum }
+abbrev pub with_status : ℕ → Port → Port
+with_status s p = record { status = s; control = p.control; «data» = p.«data»; sum = p.sum }
 
-abbrev pub withControl : ℕ → Port → Port
-withControl c p = record { status = p.status; control = c; «data» = p.«data»; sum = p.sum }
+abbrev pub with_control : ℕ → Port → Port
+with_control c p = record { status = p.status; control = c; «data» = p.«data»; sum = p.sum }
 
 -- ---- the step
 
@@ -49,11 +49,11 @@ pub record After : Type 0 where
 
 -- the plotter takes a byte: ready is set and paper is in
 unfoldable pub takes : Port → Bool
-takes p = is_set ready p.status && not (is_set paperOut p.status)
+takes p = is_set ready p.status && not (is_set paper_out p.status)
 
 -- pending is cleared
 unfoldable pub acknowledged : Port → Port
-acknowledged p = withStatus (put pending 0 p.status) p
+acknowledged p = with_status (put pending 0 p.status) p
 
 -- a byte goes to data, ready is cleared, and sum moves on, wrapping past 255
 unfoldable pub send : ℕ → Port → Port
@@ -82,14 +82,14 @@ pub record Steps (p : Port) (unsent : Bytes) (r : Stepped) : Type 0 where
 -- ---- the events
 
 pub data Event : Type 0 where
-  readyAgain outOfPaper paperIn interruptsOn interruptsOff : Event
+  ready_again out_of_paper paper_in interrupts_on interrupts_off : Event
 
 -- the registers after an event; the device sets ready again, and pending too if control lets interrupts through
 unfoldable pub occur : Event → Port → Port
-occur readyAgain p =
+occur ready_again p =
     let s = put ready 1 p.status in
-    withStatus (pick (is_set interrupts p.control) (put pending 1 s) s) p
-occur outOfPaper p = withStatus (put paperOut 1 p.status) p
-occur paperIn p = withStatus (put paperOut 0 p.status) p
-occur interruptsOn p = withControl (put interrupts 1 p.control) p
-occur interruptsOff p = withControl (put interrupts 0 p.control) p
+    with_status (pick (is_set interrupts p.control) (put pending 1 s) s) p
+occur out_of_paper p = with_status (put paper_out 1 p.status) p
+occur paper_in p = with_status (put paper_out 0 p.status) p
+occur interrupts_on p = with_control (put interrupts 1 p.control) p
+occur interrupts_off p = with_control (put interrupts 0 p.control) p

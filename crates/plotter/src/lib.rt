@@ -1,7 +1,7 @@
 // The plotter's port (document 02, Four): the step by which the box sends a listing, byte by byte, and a function for each event from
 // outside. Nothing here holds a listing: a step is lent what is still unsent. Bits that have no name here stay what they are.
 ghost use Rattle.std.specs.Prelude.{◌≡◌, ◌+◌, ◌%◌};
-ghost use Rattle.plotter.specs.Port.{takes, acknowledged, send, Steps, occur, readyAgain, outOfPaper, paperIn, interruptsOn, interruptsOff};
+ghost use Rattle.plotter.specs.Port.{takes, acknowledged, send, Steps, occur, ready_again, out_of_paper, paper_in, interrupts_on, interrupts_off};
 
 // The four registers: of status bit 0 is ready, bit 1 paper out and bit 2 interrupt pending; of control bit 0 lets interrupts through; data has
 // the byte sent last, and to sum every byte sent is added.
@@ -89,7 +89,7 @@ fn summed(sum: u8, byte: u8) -> u8
 
 // The device sets ready again, and pending too if control lets interrupts through.
 pub fn ready_again(port: Port) -> Port
-    ensures { result ≡ occur readyAgain port }
+    ensures { result ≡ occur ready_again port }
 {
     let mut next = port;
     next.status |= READY;
@@ -101,7 +101,7 @@ pub fn ready_again(port: Port) -> Port
 
 // Paper runs out.
 pub fn out_of_paper(port: Port) -> Port
-    ensures { result ≡ occur outOfPaper port }
+    ensures { result ≡ occur out_of_paper port }
 {
     let mut next = port;
     next.status |= PAPER_OUT;
@@ -110,7 +110,7 @@ pub fn out_of_paper(port: Port) -> Port
 
 // Paper is put in.
 pub fn paper_in(port: Port) -> Port
-    ensures { result ≡ occur paperIn port }
+    ensures { result ≡ occur paper_in port }
 {
     let mut next = port;
     next.status &= !PAPER_OUT;
@@ -119,7 +119,7 @@ pub fn paper_in(port: Port) -> Port
 
 // Control lets interrupts through from now on.
 pub fn interrupts_on(port: Port) -> Port
-    ensures { result ≡ occur interruptsOn port }
+    ensures { result ≡ occur interrupts_on port }
 {
     let mut next = port;
     next.control |= INTERRUPTS;
@@ -128,7 +128,7 @@ pub fn interrupts_on(port: Port) -> Port
 
 // Control lets none through from now on.
 pub fn interrupts_off(port: Port) -> Port
-    ensures { result ≡ occur interruptsOff port }
+    ensures { result ≡ occur interrupts_off port }
 {
     let mut next = port;
     next.control &= !INTERRUPTS;

@@ -4,8 +4,8 @@ use mathlib.Core.Path.{◌≡◌, refl, ◌∙◌, ap, ap₂}
 use mathlib.Core.Bool.{Bool, true, false}
 use mathlib.Core.List.{List, [], ◌∷◌}
 use lib.IntN.{ℤ}
-use Rattle.specification.specs.Ast.{Rel, Term, constant, scalarAt, local_at, parameter, elementAt, apply, Formula, truth, and, or, imp, neg, eq, compare, ex, some, all, call}
-use Rattle.specification.specs.Fill.{fillTerm, fillTerms, fill}
+use Rattle.specification.specs.Ast.{Rel, Term, constant, scalar_at, local_at, parameter, element_at, apply, Formula, truth, and, or, imp, neg, eq, compare, ex, some, all, call}
+use Rattle.specification.specs.Fill.{fill_term, fill_terms, fill}
 use Rattle.specification.specs.Arithmetic.{test}
 use Rattle.specification.specs.Value.{Valuation, Pair, values, faulty}
 use Rattle.specification.specs.Tree.{Verdict, succeeds, fails, undecided, verdict, ask, Rest, check, compared, bounded, denied, implied, enquire}
@@ -48,17 +48,17 @@ implied-same tok undecided g g' k k' α d e = refl
 
 -- ---- formulas filled with nothing
 
-term-none : (t : Term) → fillTerm [] t ≡ t
-unfolding fillTerm
+term-none : (t : Term) → fill_term [] t ≡ t
+unfolding fill_term
 term-none (constant z) = refl
-term-none (scalarAt c) = refl
+term-none (scalar_at c) = refl
 term-none (local_at l) = refl
 term-none (parameter n) = refl
-term-none (elementAt a t) = ap (elementAt a) (term-none t)
+term-none (element_at a t) = ap (element_at a) (term-none t)
 term-none (apply o s t) = ap₂ (apply o) (term-none s) (term-none t)
 
-terms-none : (ts : List Term) → fillTerms [] ts ≡ ts
-unfolding fillTerms
+terms-none : (ts : List Term) → fill_terms [] ts ≡ ts
+unfolding fill_terms
 terms-none [] = refl
 terms-none (t ∷ ts) = ap₂ ◌∷◌ (term-none t) (terms-none ts)
 

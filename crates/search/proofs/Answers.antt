@@ -5,28 +5,28 @@ use mathlib.Core.Path.{◌≡◌, refl, ◌∙◌, ap}
 use mathlib.Core.Bool.{Bool, true, false, ◌||◌, or_assoc}
 use mathlib.Core.List.{List, [], ◌∷◌}
 use Rattle.specification.specs.Bytes.{pick}
-use Rattle.specification.specs.Tree.{Tree, successLeaf, failureLeaf, errorLeaf, step, fork, fan, ask, Verdict, succeeds, fails, undecided, join, joined, verdict}
+use Rattle.specification.specs.Tree.{Tree, success_leaf, failure_leaf, error_leaf, step, fork, fan, ask, Verdict, succeeds, fails, undecided, join, joined, verdict}
 use Rattle.specification.specs.Leaves.{answer, error, fail}
-use Rattle.specification.specs.Visits.{Event, node, leaf, Visit, at, ◌then◌, each, insideThen, inside, visits}
+use Rattle.specification.specs.Visits.{Event, node, leaf, Visit, at, ◌then◌, each, inside_then, inside, visits}
 
 -- ---- whether there is an answer
 
-abbrev isAnswer : Event → Bool
-isAnswer node = false
-isAnswer (leaf fail) = false
-isAnswer (leaf (answer β)) = true
-isAnswer (leaf (error κ t β)) = false
+abbrev is_answer : Event → Bool
+is_answer node = false
+is_answer (leaf fail) = false
+is_answer (leaf (answer β)) = true
+is_answer (leaf (error κ t β)) = false
 
 unfoldable pub answered : List Visit → Bool
 answered [] = false
-answered (v ∷ vs) = isAnswer v.event || answered vs
+answered (v ∷ vs) = is_answer v.event || answered vs
 
-abbrev pub isSuccess : Verdict → Bool
-isSuccess succeeds = true
-isSuccess fails = false
-isSuccess undecided = false
+abbrev pub is_success : Verdict → Bool
+is_success succeeds = true
+is_success fails = false
+is_success undecided = false
 
-success-join : (v u : Verdict) → isSuccess (join v u) ≡ isSuccess v || isSuccess u
+success-join : (v u : Verdict) → is_success (join v u) ≡ is_success v || is_success u
 success-join succeeds u = refl
 success-join fails u = refl
 success-join undecided succeeds = refl
@@ -36,7 +36,7 @@ success-join undecided undecided = refl
 answered-then : (xs ys : List Visit) → answered (xs then ys) ≡ answered xs || answered ys
 unfolding answered ◌then◌
 answered-then [] ys = refl
-answered-then (x ∷ xs) ys = rw (answered-then xs ys, or_assoc (isAnswer x.event))
+answered-then (x ∷ xs) ys = rw (answered-then xs ys, or_assoc (is_answer x.event))
 
 -- ---- one list and then another, read inside an inner tree
 
@@ -47,7 +47,7 @@ inside-then [] ys = refl
 inside-then (x ∷ xs) ys = go x.event (inside-then xs ys)
   where
     go : (e : Event) → inside (xs then ys) ≡ inside xs then pick (answered xs) [] (inside ys) →
-        insideThen x.depth e (inside (xs then ys)) ≡ insideThen x.depth e (inside xs) then pick (isAnswer e || answered xs) [] (inside ys)
+        inside_then x.depth e (inside (xs then ys)) ≡ inside_then x.depth e (inside xs) then pick (is_answer e || answered xs) [] (inside ys)
     go node h = ap (at x.depth node ∷◌) h
     go (leaf fail) h = ap (at x.depth node ∷◌) h
     go (leaf (answer β)) h = refl
@@ -55,7 +55,7 @@ inside-then (x ∷ xs) ys = go x.event (inside-then xs ys)
 
 -- what is read inside an inner tree has no answer, and is read again as it is
 module _ (ys : List Visit) where
-  nodes-only : (d : ℕ) (e : Event) (vs : List Visit) → answered (vs then ys) ≡ answered ys → answered (insideThen d e vs then ys) ≡ answered ys
+  nodes-only : (d : ℕ) (e : Event) (vs : List Visit) → answered (vs then ys) ≡ answered ys → answered (inside_then d e vs then ys) ≡ answered ys
   unfolding answered ◌then◌
   nodes-only d node vs h = h
   nodes-only d (leaf fail) vs h = h
@@ -73,7 +73,7 @@ module _ (ys : List Visit) where
   inside-inside (x ∷ xs) = go x.event (inside-inside xs)
     where
       go : (e : Event) → inside (inside xs then ys) ≡ inside xs then inside ys →
-          inside (insideThen x.depth e (inside xs) then ys) ≡ insideThen x.depth e (inside xs) then inside ys
+          inside (inside_then x.depth e (inside xs) then ys) ≡ inside_then x.depth e (inside xs) then inside ys
       go node h = ap (at x.depth node ∷◌) h
       go (leaf fail) h = ap (at x.depth node ∷◌) h
       go (leaf (answer β)) h = refl
@@ -82,16 +82,16 @@ module _ (ys : List Visit) where
 -- ---- a tree's visits have an answer exactly where its verdict is success
 
 answered-each : (n i : ℕ) (f : ℕ → List Visit) (judge : ℕ → Verdict) →
-    ((j : ℕ) → answered (f j) ≡ isSuccess (judge j)) → answered (each n i f) ≡ isSuccess (joined n i judge)
+    ((j : ℕ) → answered (f j) ≡ is_success (judge j)) → answered (each n i f) ≡ is_success (joined n i judge)
 unfolding answered each joined
 answered-each zero i f judge h = refl
 answered-each (suc n) i f judge h = rw (answered-then, h i, answered-each n (suc i) f judge h, success-join)
 
-pub answered-visits : (T : Tree) (d : ℕ) → answered (visits d T) ≡ isSuccess (verdict T)
+pub answered-visits : (T : Tree) (d : ℕ) → answered (visits d T) ≡ is_success (verdict T)
 unfolding answered visits verdict
-answered-visits (successLeaf β) d = refl
-answered-visits failureLeaf d = refl
-answered-visits (errorLeaf κ t β) d = refl
+answered-visits (success_leaf β) d = refl
+answered-visits failure_leaf d = refl
+answered-visits (error_leaf κ t β) d = refl
 answered-visits (step T) d = answered-visits T (suc d)
 answered-visits (fork T U) d = rw (answered-then, answered-visits T (suc d), answered-visits U (suc d), success-join)
 answered-visits (fan x n f) d = answered-each n 0 (λ i. visits (suc d) (f i)) (λ i. verdict (f i)) (λ j. answered-visits (f j) (suc d))

@@ -8,14 +8,14 @@ use borrow.Author.Tests.{eqb-true, eq-eqb, ne_eqb}
 use Rattle.specification.specs.Bytes.{pick}
 use Rattle.specification.specs.Lines.{Declared}
 use Rattle.specification.specs.Ast.{Rel, ne, lt, le, gt, ge, Term, Formula, truth, and, or, imp, neg, eq, compare, ex, some, all, call}
-use Rattle.specification.specs.Fill.{fillTerm, fill}
+use Rattle.specification.specs.Fill.{fill_term, fill}
 use Rattle.specification.specs.WellFormed.{Scope, enter, OkTerm, Ok}
-use Rattle.tables.specs.Layout.{maxLocals, maxNesting, tokenSlot}
-use Rattle.tables.specs.Codes.{firstFormula, allCode, trueCode, andCode, orCode, impCode, notCode, eqCode, exCode, someCode, callCode, neCode, geCode}
+use Rattle.tables.specs.Layout.{max_locals, max_nesting, token_slot}
+use Rattle.tables.specs.Codes.{first_formula, all_code, true_code, and_code, or_code, imp_code, not_code, eq_code, ex_code, some_code, call_code, ne_code, ge_code}
 use Rattle.sheet.specs.Tables.{Words}
-use Rattle.sheet.specs.Codes.{relCode}
+use Rattle.sheet.specs.Codes.{rel_code}
 use Rattle.sheet.specs.Held.{code_at, end_at, TermsAt, LocalAt, FormulaAt, height, Shallow}
-use Rattle.terms.specs.Environment.{Environment, termsOf, number_of}
+use Rattle.terms.specs.Environment.{Environment, terms_of, number_of}
 use Rattle.terms.proofs.Laws.Here.{term-ends}
 use Rattle.tables.specs.Layout.{plan_at}
 use Rattle.plan.specs.Next.{Next, end, token, place_of}
@@ -26,11 +26,11 @@ use Rattle.search.proofs.Subformulas.{TermsIn, Parts, Joined, Choice, Implied, A
 
 -- ---- the scope under a binder
 
-enter-locals : (S : Scope) (l : ℕ) → ((j : ℕ) → T (S j) → j < maxLocals) → l < maxLocals → (j : ℕ) → T (enter S l j) → j < maxLocals
+enter-locals : (S : Scope) (l : ℕ) → ((j : ℕ) → T (S j) → j < max_locals) → l < max_locals → (j : ℕ) → T (enter S l j) → j < max_locals
 unfolding enter
 enter-locals S l f h j q = go (eqb j l) refl q
   where
-    go : (b : Bool) → eqb j l ≡ b → T (pick b true (S j)) → j < maxLocals
+    go : (b : Bool) → eqb j l ≡ b → T (pick b true (S j)) → j < max_locals
     go true e x = let z : j ≡ l = eqb-true j l e in omega arith
     go false e x = f j x
 
@@ -39,7 +39,7 @@ module _ {D : Declared} {E : Environment} where
   abbrev same-scope : {F : Formula} (g : Good D E F) (G : Formula) → Ok D g.scope (filled E G) → Shallow (number_of E) G → Good D E G
   same-scope g G o s = record { scope = g.scope; locals = g.locals; ok = o; shallow = s }
 
-  abbrev in_scope : {F : Formula} (g : Good D E F) (l : ℕ) (G : Formula) → l < maxLocals → Ok D (enter g.scope l) (filled E G) →
+  abbrev in_scope : {F : Formula} (g : Good D E F) (l : ℕ) (G : Formula) → l < max_locals → Ok D (enter g.scope l) (filled E G) →
       Shallow (number_of E) G → Good D E G
   in_scope g l G h o s =
       record { scope = enter g.scope l; locals = enter-locals g.scope l g.locals h; ok = o; shallow = s }
@@ -51,15 +51,15 @@ enter-same S l = rw (eq-eqb l l refl) tt
 -- ---- the inversion
 
 terms-in : {D : Declared} {t : Words} {E : Environment} {n : Next} {F : Formula} {h : ℕ} (g : Good D E F) (i e : ℕ) (x y : Term) → TermsAt t i e x y →
-    OkTerm D g.scope (fillTerm (termsOf E) x) → OkTerm D g.scope (fillTerm (termsOf E) y) → height x ≤ maxNesting → height y ≤ maxNesting →
+    OkTerm D g.scope (fill_term (terms_of E) x) → OkTerm D g.scope (fill_term (terms_of E) y) → height x ≤ max_nesting → height y ≤ max_nesting →
     TermsPlanned t (number_of E) h i x y → TermsIn D t E n g.scope h i e x y
 terms-in g i e x y q ox oy hx hy p =
-    record { terms = q; scope = g.scope; locals = g.locals; left = ox; right = oy; left-low = hx; right-low = hy; planned = p }
+    record { terms = q; scope = g.scope; locals = g.locals; left = ox; right = oy; left_low = hx; right_low = hy; planned = p }
 
 module _ {D : Declared} {t : Words} {E : Environment} {h : ℕ} where
   -- a bounded quantifier, whose formula m comes after
-  abbrev binds : (l : ℕ) (a b : Term) (A : Formula) (m : Next) → LocalAt t (suc h) l → l < maxLocals → TermsAt t (suc (suc h)) (body_of t h) a b →
-      plan_at t (suc h) ≡ tokenSlot (body_of t h) → (f : Stands D t E (body_of t h) A m) → T (f.good.scope l) → Binds D t E h l A m
+  abbrev binds : (l : ℕ) (a b : Term) (A : Formula) (m : Next) → LocalAt t (suc h) l → l < max_locals → TermsAt t (suc (suc h)) (body_of t h) a b →
+      plan_at t (suc h) ≡ token_slot (body_of t h) → (f : Stands D t E (body_of t h) A m) → T (f.good.scope l) → Binds D t E h l A m
   binds l a b A m q s ts p f sc =
       let z = term-ends t (suc (suc h)) a ts.0 in
       let y = term-ends t (end_at t (suc (suc h))) b ts.1 in
@@ -88,7 +88,7 @@ module _ {D : Declared} {t : Words} {E : Environment} {h : ℕ} {n : Next} where
       let z = term-ends t (suc h) x q.terms.0 in
       record { left = x; right = y; is = e; terms = q; near = omega (arith, z.after, z.inside); next = p }
 
-  says-rel : {S : Scope} (r : Rel) (F : Formula) → Atom D t E n S h (compare h r) F → Says D t E n S h (relCode r) F
+  says-rel : {S : Scope} (r : Rel) (F : Formula) → Atom D t E n S h (compare h r) F → Says D t E n S h (rel_code r) F
   says-rel ne F a = (ne, refl, a)
   says-rel lt F a = (lt, refl, a)
   says-rel le F a = (le, refl, a)
@@ -241,25 +241,25 @@ module _ {D : Declared} {t : Words} {E : Environment} {h : ℕ} {n : Next} where
   says {F} s e = subst (λ k. Says D t E n s.good.scope h k F) e (code-says F s)
 
   -- and for an atom that compares
-  pub says-compared : {F : Formula} {k : ℕ} (s : Stands D t E h F n) → code_at t h ≡ k → neCode ≤ k → k ≤ geCode →
+  pub says-compared : {F : Formula} {k : ℕ} (s : Stands D t E h F n) → code_at t h ≡ k → ne_code ≤ k → k ≤ ge_code →
       Compared D t E n s.good.scope h k F
   says-compared {F} {k} s e a b =
       rw (
-        ne_eqb k trueCode (λ x. omega arith),
-        ne_eqb k andCode (λ x. omega arith),
-        ne_eqb k orCode (λ x. omega arith),
-        ne_eqb k impCode (λ x. omega arith),
-        ne_eqb k notCode (λ x. omega arith),
-        ne_eqb k eqCode (λ x. omega arith),
-        ne_eqb k exCode (λ x. omega arith),
-        ne_eqb k someCode (λ x. omega arith),
-        ne_eqb k allCode (λ x. omega arith),
-        ne_eqb k callCode (λ x. omega arith),
+        ne_eqb k true_code (λ x. omega arith),
+        ne_eqb k and_code (λ x. omega arith),
+        ne_eqb k or_code (λ x. omega arith),
+        ne_eqb k imp_code (λ x. omega arith),
+        ne_eqb k not_code (λ x. omega arith),
+        ne_eqb k eq_code (λ x. omega arith),
+        ne_eqb k ex_code (λ x. omega arith),
+        ne_eqb k some_code (λ x. omega arith),
+        ne_eqb k all_code (λ x. omega arith),
+        ne_eqb k call_code (λ x. omega arith),
       ) at (says s e)
 
 -- ---- no other codes
 
-rel-code : (r : Rel) → (neCode ≤ relCode r) × (relCode r ≤ geCode)
+rel-code : (r : Rel) → (ne_code ≤ rel_code r) × (rel_code r ≤ ge_code)
 rel-code ne = (omega arith, omega arith)
 rel-code lt = (omega arith, omega arith)
 rel-code le = (omega arith, omega arith)
@@ -267,7 +267,7 @@ rel-code gt = (omega arith, omega arith)
 rel-code ge = (omega arith, omega arith)
 
 pub code-range : (D : Declared) (t : Words) (E : Environment) (h : ℕ) (F : Formula) (n : Next) → Stands D t E h F n →
-    (firstFormula ≤ code_at t h) × (code_at t h ≤ callCode)
+    (first_formula ≤ code_at t h) × (code_at t h ≤ call_code)
 code-range D t E h truth n s = (omega (arith, s.held.code), omega (arith, s.held.code))
 code-range D t E h (and A B) n s = (omega (arith, s.held.0.code), omega (arith, s.held.0.code))
 code-range D t E h (or A B) n s = (omega (arith, s.held.0.code), omega (arith, s.held.0.code))

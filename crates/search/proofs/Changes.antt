@@ -8,17 +8,17 @@ use lib.ListN.{length, get_or, set, length-set}
 use lib.Seq.{get_or-set_same, get_or-set_other}
 use Rattle.specification.specs.Place.{Place}
 use Rattle.specification.specs.Value.{Slot}
-use Rattle.tables.specs.Layout.{cellsAt, firstsAt, pathAt, maxLocals}
+use Rattle.tables.specs.Layout.{cells_at, firsts_at, path_at, max_locals}
 use Rattle.tables.specs.Kept.{SameSlots}
 use Rattle.sheet.specs.Tables.{Words}
 use Rattle.search.specs.Marks.{InTable}
-use Rattle.tables.specs.Leaves.{errorPlace, kind_at, tokenAt}
+use Rattle.tables.specs.Leaves.{error_place, kind_at, token_at}
 use Rattle.search.specs.Kept.{Kept, SameStore, Pushes, Lasts}
 use Rattle.search.proofs.Slots.{in_table, Altered}
 
 -- ---- all words below one are the same
 
-module _ {w w' : Words} {top : ℕ} {xs : List ℕ} (g : Pushes w w' top xs) (h : pathAt ≤ top) where
+module _ {w w' : Words} {top : ℕ} {xs : List ℕ} (g : Pushes w w' top xs) (h : path_at ≤ top) where
   pub pushed-kept : Kept top w w'
   pushed-kept = record {
     tokens = λ j k. g.low j (omega arith);
@@ -69,7 +69,7 @@ kept_less h a = record {
 -- ---- a slot
 
 module _ {w w' : Words} {p : Place} {s : Slot} (h : InTable p) (a : Altered w w' p s) where
-  off-slot : (j : ℕ) → (j < cellsAt) ⊎ (firstsAt ≤ j) → get_or w' j 0 ≡ get_or w j 0
+  off-slot : (j : ℕ) → (j < cells_at) ⊎ (firsts_at ≤ j) → get_or w' j 0 ≡ get_or w j 0
   off-slot j (inl k) = let z = in_table p h in a.others j (λ e. omega (arith, z.low)) (λ e. omega (arith, z.low))
   off-slot j (inr k) = let z = in_table p h in a.others j (λ e. omega (arith, z.high)) (λ e. omega (arith, z.high))
 
@@ -88,7 +88,7 @@ module _ {w w' : Words} {p : Place} {s : Slot} (h : InTable p) (a : Altered w w'
 
 -- ---- a last value
 
-module _ {w w' : Words} {l v : ℕ} (h : l < maxLocals) (a : Lasts w w' l v) where
+module _ {w w' : Words} {l v : ℕ} (h : l < max_locals) (a : Lasts w w' l v) where
   pub lasts-kept : (top : ℕ) → Kept top w w'
   lasts-kept top = record {
     tokens = λ j k. a.others j (λ e. omega arith);
@@ -104,10 +104,10 @@ module _ {w w' : Words} {l v : ℕ} (h : l < maxLocals) (a : Lasts w w' l v) whe
 
 -- ---- an error leaf's kind and token
 
-module _ (w : Words) {w' : Words} (kind tok : ℕ) (words : w' ≡ set (set w (errorPlace + 1) kind) (errorPlace + 2) tok) where
-  off-error : (j : ℕ) → ¬ (j ≡ errorPlace + 1) → ¬ (j ≡ errorPlace + 2) → get_or w' j 0 ≡ get_or w j 0
+module _ (w : Words) {w' : Words} (kind tok : ℕ) (words : w' ≡ set (set w (error_place + 1) kind) (error_place + 2) tok) where
+  off-error : (j : ℕ) → ¬ (j ≡ error_place + 1) → ¬ (j ≡ error_place + 2) → get_or w' j 0 ≡ get_or w j 0
   off-error j m n =
-      rw (words, get_or-set_other (set w (errorPlace + 1) kind) (errorPlace + 2) j tok 0 n, get_or-set_other w (errorPlace + 1) j kind 0 m)
+      rw (words, get_or-set_other (set w (error_place + 1) kind) (error_place + 2) j tok 0 n, get_or-set_other w (error_place + 1) j kind 0 m)
 
   pub error-kept : (top : ℕ) → Kept top w w'
   error-kept top = record {
@@ -125,10 +125,10 @@ module _ (w : Words) {w' : Words} (kind tok : ℕ) (words : w' ≡ set (set w (e
   pub error-store : SameStore w w'
   error-store = record { same = λ j k m. off-error j (λ z. omega arith) (λ z. omega arith) }
 
-  pub error-told : pathAt ≤ length w → (kind_at w' ≡ kind) × (tokenAt w' ≡ tok)
+  pub error-told : path_at ≤ length w → (kind_at w' ≡ kind) × (token_at w' ≡ tok)
   error-told h =
-      let w1 : Words = set w (errorPlace + 1) kind in
-      let len1 : length w1 ≡ length w = length-set w (errorPlace + 1) kind in (
-        rw (words, get_or-set_other w1 (errorPlace + 2) (errorPlace + 1) tok 0 (λ z. omega arith)) (get_or-set_same w (errorPlace + 1) kind 0 (omega arith)),
-        rw words (get_or-set_same w1 (errorPlace + 2) tok 0 (omega arith)),
+      let w1 : Words = set w (error_place + 1) kind in
+      let len1 : length w1 ≡ length w = length-set w (error_place + 1) kind in (
+        rw (words, get_or-set_other w1 (error_place + 2) (error_place + 1) tok 0 (λ z. omega arith)) (get_or-set_same w (error_place + 1) kind 0 (omega arith)),
+        rw words (get_or-set_same w1 (error_place + 2) tok 0 (omega arith)),
       )

@@ -10,10 +10,10 @@ use Rattle.specification.specs.Tree.{Verdict, succeeds, fails, undecided, join}
 use Rattle.specification.specs.Leaves.{Leaf}
 use Rattle.specification.specs.Visits as visited
 use Rattle.specification.specs.Visits.{Event, node, Visit, at, ◌then◌, inside}
-use Rattle.specification.specs.Run.{Conditions, addNode, spent, path, Run, going, stopped, arrive, visit, scan}
+use Rattle.specification.specs.Run.{Conditions, add_node, spent, path, Run, going, stopped, arrive, visit, scan}
 use Rattle.specification.proofs.Laws.Run.{scan-stopped, scan-append}
 use Rattle.search.specs.Walk.{Next, onto, flagged, gated, leaf}
-use Rattle.search.proofs.Answers.{answered, isSuccess, inside-then, inside-inside}
+use Rattle.search.proofs.Answers.{answered, is_success, inside-then, inside-inside}
 
 -- ---- what follows a tree
 
@@ -89,7 +89,7 @@ module _ (C : Conditions) where
   unfolding through scan visit gated
   through-visit k d v vs = fun_ext (λ t. fun_ext (λ w.
       scan-onto k vs (visit C (at d v) t w) ∙
-      onto-pick (through k vs) (eqb t.nodes C.setting.budget) (ltb C.setting.path d) t w (arrive C v (addNode t) w)))
+      onto-pick (through k vs) (eqb t.nodes C.setting.budget) (ltb C.setting.path d) t w (arrive C v (add_node t) w)))
 
   pub through-leaf : (k : Next) (d : ℕ) (l : Leaf) (vs : List Visit) →
       through k (at d (visited.leaf l) ∷ vs) ≡ gated C d (leaf C l (through k vs))
@@ -104,13 +104,13 @@ module _ (C : Conditions) where
 
   -- xs are the visits of the first, whose verdict is v, and ys those of the second, whose verdict is u
   pub through-both : (m : Bool) (v u : Verdict) (xs ys : List Visit) (y : Next) (k second : Bool → Next) (e : Bool) →
-      answered xs ≡ isSuccess v → ((e' : Bool) → second e' ≡ through (after m u y k e') (seen m ys)) →
+      answered xs ≡ is_success v → ((e' : Bool) → second e' ≡ through (after m u y k e') (seen m ys)) →
       through (after m v y second e) (seen m xs) ≡ through (after m (join v u) y k e) (seen m (xs then ys))
   through-both false v u xs ys y k second e a h = rw (through-then, h e)
   through-both true v u xs ys y k second e a h = rw (inside-then, a) (go v u h)
     where
       go : (v u : Verdict) → ((e' : Bool) → second e' ≡ through (choose u y k e') (inside ys)) →
-          through (choose v y second e) (inside xs) ≡ through (choose (join v u) y k e) (inside xs then pick (isSuccess v) [] (inside ys))
+          through (choose v y second e) (inside xs) ≡ through (choose (join v u) y k e) (inside xs then pick (is_success v) [] (inside ys))
       go succeeds u h = rw (through-then, through-nil)
       go fails u h = rw (through-then, h e)
       go undecided succeeds h = rw (through-then, h true)

@@ -2,13 +2,13 @@
 use Prim.Native.Nat.{ℕ, suc, ◌+◌, ◌-◌, ◌≤◌, ◌<◌, min}
 use native.Mathlib.Omega.{arith}
 use mathlib.Core.Path.{◌≡◌, refl, sym, ◌∙◌, ap}
-use Rattle.specification.specs.Run.{tallies, addNode}
+use Rattle.specification.specs.Run.{tallies, add_node}
 use Rattle.search.specs.declared.Go.{Go}
 use Rattle.search.specs.Path.{World}
-use Rattle.search.specs.Registers.{tallied, Gauge, downGo}
+use Rattle.search.specs.Registers.{tallied, Gauge, down_go}
 
 module _ {c : World} {g : Go} (q : Gauge c g) (room : g.depth < g.stop) where
-  pub down-gauge : (t top inner bad : ℕ) → Gauge c (downGo g t top inner bad)
+  pub down-gauge : (t top inner bad : ℕ) → Gauge c (down_go g t top inner bad)
   down-gauge t top inner bad = record {
     tallies = record { fits = q.tallies.fits; budget = q.tallies.budget; leaves = q.tallies.leaves };
     begun = omega (arith, q.begun);
@@ -16,7 +16,7 @@ module _ {c : World} {g : Go} (q : Gauge c g) (room : g.depth < g.stop) where
     stop = q.stop;
   }
 
-  pub down-tallied : (t top inner bad : ℕ) → tallied (downGo g t top inner bad) ≡ addNode (tallied g)
+  pub down-tallied : (t top inner bad : ℕ) → tallied (down_go g t top inner bad) ≡ add_node (tallied g)
   down-tallied t top inner bad =
       let h = q.begun in
       ap (λ n. tallies n g.tallies.answers g.tallies.errors g.tallies.fails) (omega arith)

@@ -12,8 +12,8 @@ use Rattle.specification.specs.Bytes.{Bytes}
 use Rattle.specification.specs.Ast.{Formula}
 use Rattle.specification.specs.Value.{Valuation}
 use Rattle.specification.proofs.Laws.Contradiction.{contradiction}
-use Rattle.tables.specs.Layout.{tokenSlot, maxTokens, maxProcs}
-use Rattle.tables.specs.Codes.{allCode, localCode, callCode, firstFormula, lastFormula}
+use Rattle.tables.specs.Layout.{token_slot, max_tokens, max_procs}
+use Rattle.tables.specs.Codes.{all_code, local_code, call_code, first_formula, last_formula}
 use Rattle.tables.specs.Kept.{SameTokens}
 use Rattle.sheet.specs.Tables.{Words}
 use Rattle.sheet.specs.Held.{code_at}
@@ -21,17 +21,17 @@ use Rattle.terms.specs.Environment.{Environment, number_of}
 use Rattle.terms.proofs.Laws.Here.{code_here}
 use Rattle.search.specs.declared.Go.{Go}
 use Rattle.tables.specs.Layout.{plan_at}
-use Rattle.tables.specs.Frames.{frameSlot}
-use Rattle.tables.specs.Leaves.{endPlace, failurePlace, successPlace, errorPlace, emptyCode, failureCode, successCode, errorCode, returnCode, kind_at, tokenAt}
+use Rattle.tables.specs.Frames.{frame_slot}
+use Rattle.tables.specs.Leaves.{end_place, failure_place, success_place, error_place, empty_code, failure_code, success_code, error_code, return_code, kind_at, token_at}
 use Rattle.plan.specs.Next.{Next, end, token, back, place_of, From}
 use Rattle.search.specs.Stands.{filled, Stands, Binds}
-use Rattle.search.specs.Store.{Call, Store, resolve, backOf, EnvIn}
-use Rattle.search.specs.Frame.{Item, form, again, What, the, success, failure, error, treeItems, siteIn, storeIn}
+use Rattle.search.specs.Store.{Call, Store, resolve, back_of, EnvIn}
+use Rattle.search.specs.Frame.{Item, form, again, What, the, success, failure, error, tree_items, site_in, store_in}
 use Rattle.search.specs.Pend.{Scoped, Inside, Left, FormNext, AgainNext, Pend}
 use Rattle.search.specs.Path.{World, Tables, Job}
 use Rattle.tables.specs.Leaves.{Leaves}
 use Rattle.search.specs.Sim.{tree, In}
-use Rattle.search.specs.Site.{growAt}
+use Rattle.search.specs.Site.{grow_at}
 use Rattle.search.proofs.Subformulas.{Says}
 use Rattle.search.proofs.ByCode.{code-range, says}
 
@@ -48,8 +48,8 @@ module _ (c : World) (σ : Store) (α : Valuation) (due : ℕ) where
   pub record FormHead (E : Environment) (F : Formula) (is : List Item) : Type 0 where
     pub h : ℕ
     pub n : Next
-    pub place : due ≡ tokenSlot h
-    pub inside : h < maxTokens
+    pub place : due ≡ token_slot h
+    pub inside : h < max_tokens
     pub stands : Stands c.declared c.tables E h F n
     pub env : EnvIn σ E
     pub scoped : Scoped stands.good.scope is
@@ -59,8 +59,8 @@ module _ (c : World) (σ : Store) (α : Valuation) (due : ℕ) where
   pub record AgainHead (E : Environment) (l : ℕ) (F : Formula) (k : ℕ) (v : ℤ) (is : List Item) : Type 0 where
     pub h : ℕ
     pub n : Next
-    pub place : due ≡ tokenSlot (suc h)
-    pub code : code_at c.tables h ≡ allCode
+    pub place : due ≡ token_slot (suc h)
+    pub code : code_at c.tables h ≡ all_code
     pub next : plan_at c.tables h ≡ place_of n
     pub binds : Binds c.declared c.tables E h l F (token (suc h))
     pub left : Left α σ l k v
@@ -70,18 +70,18 @@ module _ (c : World) (σ : Store) (α : Valuation) (due : ℕ) where
 
   -- directly
   abbrev pub Direct : Words → What → Type 0
-  Direct w (the []) = due ≡ endPlace
+  Direct w (the []) = due ≡ end_place
   Direct w (the (form E F ∷ is)) = FormHead E F is
   Direct w (the (again E l F k v ∷ is)) = AgainHead E l F k v is
-  Direct w success = due ≡ successPlace
-  Direct w failure = due ≡ failurePlace
-  Direct w (error κ tok) = (due ≡ errorPlace) × (kind_at w ≡ κ) × (tokenAt w ≡ tok)
+  Direct w success = due ≡ success_place
+  Direct w failure = due ≡ failure_place
+  Direct w (error κ tok) = (due ≡ error_place) × (kind_at w ≡ κ) × (token_at w ≡ tok)
 
   -- or past a procedure's end
   pub record Return (w : Words) (x : What) : Type 0 where
     pub K : ℕ
-    pub small : K < maxProcs
-    pub place : due ≡ frameSlot K
+    pub small : K < max_procs
+    pub place : due ≡ frame_slot K
     pub is : List Item
     pub the-is : x ≡ the is
     pub m : ℕ
@@ -102,7 +102,7 @@ module _ (c : World) (σ : Store) (α : Valuation) (due : ℕ) where
       inl (record {
         h = q.i;
         n = q.n;
-        place = e ∙ ap tokenSlot same;
+        place = e ∙ ap token_slot same;
         inside = q.inside;
         stands = q.stands;
         env = q.env;
@@ -117,7 +117,7 @@ module _ (c : World) (σ : Store) (α : Valuation) (due : ℕ) where
       inl (record {
         h = q.h;
         n = q.n;
-        place = e ∙ ap tokenSlot same;
+        place = e ∙ ap token_slot same;
         code = q.code;
         next = q.next;
         binds = q.binds;
@@ -139,7 +139,7 @@ module _ (c : World) (σ : Store) (α : Valuation) (due : ℕ) where
 
 module _ {c : World} {b : Bytes} {w : Words} {g : Go} (i : In c b w g) where
   abbrev σ : Store
-  σ = storeIn i.fr
+  σ = store_in i.fr
 
   pub here : Head c σ i.α g.due w i.x
   here = head c σ i.α g.due w i.x i.job
@@ -148,14 +148,14 @@ module _ {c : World} {b : Bytes} {w : Words} {g : Go} (i : In c b w g) where
   leaves = i.path.tables.leaves
 
   -- the code of a token of the table
-  token-code : (h : ℕ) → g.due ≡ tokenSlot h → h < maxTokens → get_or w g.due 0 ≡ code_at c.tables h
+  token-code : (h : ℕ) → g.due ≡ token_slot h → h < max_tokens → get_or w g.due 0 ≡ code_at c.tables h
   token-code h e z = rw e (code_here c.tables w i.path.tables.tokens z)
 
-  return-code : (x : What) → Return c σ i.α g.due w x → get_or w g.due 0 ≡ returnCode
+  return-code : (x : What) → Return c σ i.α g.due w x → get_or w g.due 0 ≡ return_code
   return-code x r = rw r.place (leaves.returns r.K r.small)
 
   local-token : (E : Environment) (l : ℕ) (F : Formula) (k : ℕ) (v : ℤ) (is : List Item) → AgainHead c σ i.α g.due E l F k v is →
-      get_or w g.due 0 ≡ localCode
+      get_or w g.due 0 ≡ local_code
   local-token E l F k v is a = token-code (suc a.h) a.place (omega (arith, a.binds.near)) ∙ a.binds.local.0.code
 
   -- a formula, with what its code says
@@ -168,7 +168,7 @@ module _ {c : World} {b : Bytes} {w : Words} {g : Go} (i : In c b w g) where
     pub code : code_at c.tables form.h ≡ n
     pub under : Says c.declared c.tables E form.n form.stands.good.scope form.h n F
 
-  pub at-form : {n : ℕ} → get_or w g.due 0 ≡ n → firstFormula ≤ n → n ≤ lastFormula → AtForm n
+  pub at-form : {n : ℕ} → get_or w g.due 0 ≡ n → first_formula ≤ n → n ≤ last_formula → AtForm n
   at-form {n} e low high = by i.x refl here
     where
       by : (x : What) → i.x ≡ x → Head c σ i.α g.due w x → AtForm n
@@ -183,8 +183,8 @@ module _ {c : World} {b : Bytes} {w : Words} {g : Go} (i : In c b w g) where
       by x z (inr q) = absurd (omega (arith, sym e ∙ return-code x q))
 
   pub form-tree : {n : ℕ} (a : AtForm n) →
-      tree c i.fr i.x i.α ≡ growAt c.declared (filled a.E a.F) (λ s β. treeItems c.declared a.is s β) (siteIn i.fr) i.α
-  unfolding treeItems
+      tree c i.fr i.x i.α ≡ grow_at c.declared (filled a.E a.F) (λ s β. tree_items c.declared a.is s β) (site_in i.fr) i.α
+  unfolding tree_items
   form-tree a = rw a.x-is
 
   -- an `all` that comes first again
@@ -198,7 +198,7 @@ module _ {c : World} {b : Bytes} {w : Words} {g : Go} (i : In c b w g) where
     pub x-is : i.x ≡ the (again E l F k v ∷ is)
     pub form : AgainHead c σ i.α g.due E l F k v is
 
-  pub at_again : get_or w g.due 0 ≡ localCode → AtAgain
+  pub at_again : get_or w g.due 0 ≡ local_code → AtAgain
   at_again e = by i.x refl here
     where
       by : (x : What) → i.x ≡ x → Head c σ i.α g.due w x → AtAgain
@@ -213,7 +213,7 @@ module _ {c : World} {b : Bytes} {w : Words} {g : Go} (i : In c b w g) where
       by x z (inr q) = absurd (omega (arith, sym e ∙ return-code x q))
 
   -- the empty list
-  pub at-empty : get_or w g.due 0 ≡ emptyCode → i.x ≡ the []
+  pub at-empty : get_or w g.due 0 ≡ empty_code → i.x ≡ the []
   at-empty e = by i.x refl here
     where
       by : (x : What) → i.x ≡ x → Head c σ i.α g.due w x → i.x ≡ the []
@@ -228,7 +228,7 @@ module _ {c : World} {b : Bytes} {w : Words} {g : Go} (i : In c b w g) where
       by x z (inr q) = absurd (omega (arith, sym e ∙ return-code x q))
 
   -- a procedure's end
-  pub at_return : get_or w g.due 0 ≡ returnCode → Return c σ i.α g.due w i.x
+  pub at_return : get_or w g.due 0 ≡ return_code → Return c σ i.α g.due w i.x
   at_return e = by i.x here
     where
       by : (x : What) → Head c σ i.α g.due w x → Return c σ i.α g.due w x
@@ -243,7 +243,7 @@ module _ {c : World} {b : Bytes} {w : Words} {g : Go} (i : In c b w g) where
       by x (inr q) = q
 
   -- the leaves
-  pub at-success : get_or w g.due 0 ≡ successCode → i.x ≡ success
+  pub at-success : get_or w g.due 0 ≡ success_code → i.x ≡ success
   at-success e = by i.x refl here
     where
       by : (x : What) → i.x ≡ x → Head c σ i.α g.due w x → i.x ≡ success
@@ -257,7 +257,7 @@ module _ {c : World} {b : Bytes} {w : Words} {g : Go} (i : In c b w g) where
       by (error κ tok) z (inl q) = absurd (omega (arith, sym (rw q.0 at e) ∙ leaves.error))
       by x z (inr q) = absurd (omega (arith, sym e ∙ return-code x q))
 
-  pub at-failure : get_or w g.due 0 ≡ failureCode → i.x ≡ failure
+  pub at-failure : get_or w g.due 0 ≡ failure_code → i.x ≡ failure
   at-failure e = by i.x refl here
     where
       by : (x : What) → i.x ≡ x → Head c σ i.α g.due w x → i.x ≡ failure
@@ -276,9 +276,9 @@ module _ {c : World} {b : Bytes} {w : Words} {g : Go} (i : In c b w g) where
     pub tok : ℕ
     pub x-is : i.x ≡ error κ tok
     pub kind : kind_at w ≡ κ
-    pub token : tokenAt w ≡ tok
+    pub token : token_at w ≡ tok
 
-  pub at-error : get_or w g.due 0 ≡ errorCode → AtError
+  pub at-error : get_or w g.due 0 ≡ error_code → AtError
   at-error e = by i.x refl here
     where
       by : (x : What) → i.x ≡ x → Head c σ i.α g.due w x → AtError

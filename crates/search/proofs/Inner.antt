@@ -10,8 +10,8 @@ use Rattle.specification.specs.Bytes.{Bytes}
 use Rattle.specification.specs.Ast.{Formula}
 use Rattle.specification.specs.Fill.{fill}
 use Rattle.specification.specs.Tree.{enquire}
-use Rattle.tables.specs.Layout.{tokenSlot, pathAt, maxTokens}
-use Rattle.tables.specs.Codes.{impCode, notCode}
+use Rattle.tables.specs.Layout.{token_slot, path_at, max_tokens}
+use Rattle.tables.specs.Codes.{imp_code, not_code}
 use Rattle.sheet.specs.Tables.{Words}
 use Rattle.sheet.specs.Held.{code_at}
 use Rattle.terms.specs.Environment.{number_of}
@@ -19,14 +19,14 @@ use Rattle.search.specs.declared.Go.{Go}
 use Rattle.tables.specs.Layout.{plan_at}
 use Rattle.plan.specs.Next.{Next, end, token, place_of}
 use Rattle.search.specs.Kept.{Pushes}
-use Rattle.search.specs.Frame.{form, the, treeItems, Question, denying, implying, siteIn, storeIn}
-use Rattle.search.specs.Site.{growAt}
+use Rattle.search.specs.Frame.{form, the, tree_items, Question, denying, implying, site_in, store_in}
+use Rattle.search.specs.Site.{grow_at}
 use Rattle.search.specs.Records.{AskRecord, Asks}
 use Rattle.search.specs.Stands.{Stands}
 use Rattle.search.specs.Path.{World, Job}
 use Rattle.search.specs.Sim.{In}
-use Rattle.search.specs.Registers.{downGo}
-use Rattle.search.specs.States.{innerRoot}
+use Rattle.search.specs.Registers.{down_go}
+use Rattle.search.specs.States.{inner_root}
 use Rattle.search.specs.Steps.{Entered, Stepped}
 use Rattle.search.proofs.Sites.{site-depth}
 use Rattle.search.proofs.Changes.{pushed-kept, pushed-slots, pushed-store}
@@ -38,8 +38,8 @@ use Rattle.search.proofs.Simple.{stepped, top-low}
 
 module _ {w w' : Words} {g : Go} (p : Pushes w w' g.top (g.inner ∷ g.bad ∷ (g.depth + 1) ∷ g.due ∷ [])) where
   asked : {c : World} {b : Bytes} (i : In c b w g) {n : ℕ} (a : AtForm i n) (q : Question) → plan_at c.tables a.form.h ≡ place_of a.form.n →
-      Asks c.declared c.tables w' g.top (siteIn i.fr) (storeIn i.fr) a.form.h q a.is a.form.n i.α →
-      AskRecord c.declared c.tables w' g.top (siteIn i.fr) (storeIn i.fr) a.form.h q a.is i.α i.e
+      Asks c.declared c.tables w' g.top (site_in i.fr) (store_in i.fr) a.form.h q a.is a.form.n i.α →
+      AskRecord c.declared c.tables w' g.top (site_in i.fr) (store_in i.fr) a.form.h q a.is i.α i.e
   asked i a q next r =
       let z : g.top + 0 ≡ g.top = omega arith in
       record {
@@ -56,8 +56,8 @@ module _ {w w' : Words} {g : Go} (p : Pushes w w' g.top (g.inner ∷ g.bad ∷ (
       }
 
   -- the first part, inside
-  first-job : {c : World} {b : Bytes} (i : In c b w g) {n : ℕ} (a : AtForm i n) (F : Formula) → suc a.form.h < maxTokens →
-      Stands c.declared c.tables a.E (suc a.form.h) F end → Job c w' (storeIn i.fr) i.α (g.due + 4) (the (form a.E F ∷ []))
+  first-job : {c : World} {b : Bytes} (i : In c b w g) {n : ℕ} (a : AtForm i n) (F : Formula) → suc a.form.h < max_tokens →
+      Stands c.declared c.tables a.E (suc a.form.h) F end → Job c w' (store_in i.fr) i.α (g.due + 4) (the (form a.E F ∷ []))
   first-job i a F near stands = let z = a.form.place in record {
     m = number_of a.E;
     next = token (suc a.form.h);
@@ -76,10 +76,10 @@ module _ {w w' : Words} {g : Go} (p : Pushes w w' g.top (g.inner ∷ g.bad ∷ (
     };
   }
 
-module _ {w : Words} {g : Go} (x : Entered w g impCode) where
+module _ {w : Words} {g : Go} (x : Entered w g imp_code) where
   pub imp-down : {w' : Words} {q : Go} → Pushes w w' g.top (g.inner ∷ g.bad ∷ (g.depth + 1) ∷ g.due ∷ []) →
-      q ≡ downGo g (g.due + 4) (g.top + 4) (g.depth + innerRoot) 0 → Stepped w w' g q
-  unfolding growAt treeItems fill enquire
+      q ≡ down_go g (g.due + 4) (g.top + 4) (g.depth + inner_root) 0 → Stepped w w' g q
+  unfolding grow_at tree_items fill enquire
   imp-down {w'} p e = stepped x.at e (λ c b i.
       let a = at-form i x.code (omega arith) (omega arith) in
       let u = a.under in
@@ -90,10 +90,10 @@ module _ {w : Words} {g : Go} (x : Entered w g impCode) where
       (a.code, u.leads, u.parts.far, u.right, a.form.env, rw u.right-scope a.form.scoped, a.form.rest))
       (first-job p i a u.first u.parts.near u.left))
 
-module _ {w : Words} {g : Go} (x : Entered w g notCode) where
+module _ {w : Words} {g : Go} (x : Entered w g not_code) where
   pub not-down : {w' : Words} {q : Go} → Pushes w w' g.top (g.inner ∷ g.bad ∷ (g.depth + 1) ∷ g.due ∷ []) →
-      q ≡ downGo g (g.due + 4) (g.top + 4) (g.depth + innerRoot) 0 → Stepped w w' g q
-  unfolding growAt treeItems fill enquire
+      q ≡ down_go g (g.due + 4) (g.top + 4) (g.depth + inner_root) 0 → Stepped w w' g q
+  unfolding grow_at tree_items fill enquire
   not-down {w'} p e = stepped x.at e (λ c b i.
       let a = at-form i x.code (omega arith) (omega arith) in
       let u = a.under in

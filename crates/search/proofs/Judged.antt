@@ -9,29 +9,29 @@ use lib.ListN.{length, get_or, set}
 use Rattle.specification.specs.Bytes.{Bytes}
 use Rattle.specification.specs.Lines.{Declared}
 use Rattle.specification.specs.Ast.{Formula}
-use Rattle.specification.specs.Arithmetic.{undecidedInside}
+use Rattle.specification.specs.Arithmetic.{undecided_inside}
 use Rattle.specification.specs.Value.{Valuation}
-use Rattle.specification.specs.Tree.{Tree, failureLeaf, errorLeaf, Verdict, succeeds, fails, undecided}
-use Rattle.tables.specs.Layout.{cellsAt, tokenSlot, pathAt, maxTokens}
+use Rattle.specification.specs.Tree.{Tree, failure_leaf, error_leaf, Verdict, succeeds, fails, undecided}
+use Rattle.tables.specs.Layout.{cells_at, token_slot, path_at, max_tokens}
 use Rattle.tables.specs.Kept.{SameSlots}
-use Rattle.tables.specs.Codes.{impCode, notCode}
+use Rattle.tables.specs.Codes.{imp_code, not_code}
 use Rattle.sheet.specs.Tables.{Words}
 use Rattle.sheet.specs.Held.{code_at, end_at, Holds}
 use Rattle.terms.specs.Environment.{Environment, number_of}
 use Rattle.terms.proofs.Laws.Here.{code_here, operand-here}
-use Rattle.search.specs.Marks.{marksIn, Marks}
+use Rattle.search.specs.Marks.{marks_in, Marks}
 use Rattle.search.specs.declared.Go.{Go}
 use Rattle.tables.specs.Layout.{plan_at}
-use Rattle.tables.specs.Leaves.{failurePlace, errorPlace}
+use Rattle.tables.specs.Leaves.{failure_place, error_place}
 use Rattle.plan.specs.Next.{Next, token, place_of}
 use Rattle.search.specs.Kept.{Kept, SameStore}
 use Rattle.search.specs.Walk.{flagged}
 use Rattle.search.specs.Site.{Site}
-use Rattle.search.specs.Frame.{Item, form, What, the, failure, error, treeItems, Question, denying, implying, sonOf, Frame, pass, asks, len, top_of, siteIn, storeIn}
+use Rattle.search.specs.Frame.{Item, form, What, the, failure, error, tree_items, Question, denying, implying, son_of, Frame, pass, asks, len, top_of, site_in, store_in}
 use Rattle.search.specs.Records.{at, bit}
 use Rattle.search.specs.Path.{World, Job, Path}
 use Rattle.search.specs.Sim.{yes, no, Down, Up, Yes}
-use Rattle.search.specs.Climb.{aroundGo, Set, Rose, Granted}
+use Rattle.search.specs.Climb.{around_go, Set, Rose, Granted}
 use Rattle.search.proofs.Sites.{site-depth}
 use Rattle.search.proofs.Slots.{holds-keep, marks-keep}
 use Rattle.search.proofs.Changes.{kept_refl, error-kept, error-slots, error-store, error-told}
@@ -43,11 +43,11 @@ use Rattle.search.proofs.Resumed.{resumed, rose-down}
 
 -- ---- the son of a verdict
 
-son-fails : (D : Declared) (tok : ℕ) (q : Question) (is : List Item) (s : Site) (α : Valuation) → sonOf D tok q is fails s α ≡ treeItems D is s α
+son-fails : (D : Declared) (tok : ℕ) (q : Question) (is : List Item) (s : Site) (α : Valuation) → son_of D tok q is fails s α ≡ tree_items D is s α
 son-fails D tok denying is s α = refl
 son-fails D tok (implying E G) is s α = refl
 
-son-undecided : (D : Declared) (tok : ℕ) (q : Question) (is : List Item) (s : Site) (α : Valuation) → sonOf D tok q is undecided s α ≡ errorLeaf undecidedInside tok α
+son-undecided : (D : Declared) (tok : ℕ) (q : Question) (is : List Item) (s : Site) (α : Valuation) → son_of D tok q is undecided s α ≡ error_leaf undecided_inside tok α
 son-undecided D tok denying is s α = refl
 son-undecided D tok (implying E G) is s α = refl
 
@@ -64,7 +64,7 @@ unseen false bad h n = refl
 
 module _ {c : World} {w : Words} {top : ℕ} {α : Valuation} {tok : ℕ} {q : Question} {is : List Item} {β : Valuation} {e : Bool} {fr : List Frame}
     (P : Path c w top α (asks tok q is β e ∷ fr)) where
-  pub ask-token : at w (top - 1) ≡ tokenSlot tok
+  pub ask-token : at w (top - 1) ≡ token_slot tok
   ask-token = let z : top - 1 ≡ top_of fr + 3 = omega (arith, P.ends) in ap (at w) z ∙ P.stack.0.token
 
   ask-depth : at w (top - 2) ≡ suc (len fr)
@@ -73,23 +73,23 @@ module _ {c : World} {w : Words} {top : ℕ} {α : Valuation} {tok : ℕ} {q : Q
   ask-bad : at w (top - 3) ≡ bit e
   ask-bad = let z : top - 3 ≡ top_of fr + 1 = omega (arith, P.ends) in ap (at w) z ∙ P.stack.0.bad
 
-  ask-inner : at w (top - 4) ≡ (siteIn fr).inner
+  ask-inner : at w (top - 4) ≡ (site_in fr).inner
   ask-inner = let z : top - 4 ≡ top_of fr = omega (arith, P.ends) in ap (at w) z ∙ P.stack.0.inner
 
   -- its place in the path is that of a node with nothing left to do
   ask-path : {w' : Words} → Kept (top_of fr) w w' → SameSlots w w' → SameStore w w' → Path c w' (top - 4) β (pass β ∷ fr)
   ask-path {w'} k s t =
       path-top P k (pass β) (omega (arith, P.ends)) refl tt (holds-keep s (subst (Holds w) P.chain.0 P.holds))
-      (marks-keep s (subst (λ γ. Marks w γ (marksIn c.declared (siteIn fr).marks)) P.chain.0 P.marks)) (stored-keep t P.stored) P.chain.1
+      (marks-keep s (subst (λ γ. Marks w γ (marks_in c.declared (site_in fr).marks)) P.chain.0 P.marks)) (stored-keep t P.stored) P.chain.1
 
   -- the rest of the list comes next
-  ask-rest : Job c w (storeIn fr) β (at w (at w (top - 1) + 3)) (the is)
+  ask-rest : Job c w (store_in fr) β (at w (at w (top - 1) + 3)) (the is)
   ask-rest =
       let r = P.stack.0 in
       record {
         m = r.m;
         next = r.n;
-        place = ap (λ k. at w (k + 3)) ask-token ∙ P.tables.tokens (tokenSlot tok + 3) (omega (arith, r.small)) ∙ r.next;
+        place = ap (λ k. at w (k + 3)) ask-token ∙ P.tables.tokens (token_slot tok + 3) (omega (arith, r.small)) ∙ r.next;
         rest = r.rest;
       }
 
@@ -101,36 +101,36 @@ same-slots w = record { same = λ j k m. refl }
 same_store : (w : Words) → SameStore w w
 same_store w = record { same = λ j k m. refl }
 
-module _ {w : Words} {g : Go} (some : ¬ (g.top ≡ pathAt)) (low : at w (g.top - 1) < cellsAt)
-    (code : (at w (at w (g.top - 1)) ≡ notCode) ⊎ (at w (at w (g.top - 1)) ≡ impCode)) where
-  fails-down : {path budget : ℕ} → ¬ (g.bad ≡ 1) → (c : World) (b : Bytes) → Set c path budget → Up c b w g → Down c b w (aroundGo w g (at w (at w (g.top - 1) + 3)) path budget)
+module _ {w : Words} {g : Go} (some : ¬ (g.top ≡ path_at)) (low : at w (g.top - 1) < cells_at)
+    (code : (at w (at w (g.top - 1)) ≡ not_code) ⊎ (at w (at w (g.top - 1)) ≡ imp_code)) where
+  fails-down : {path budget : ℕ} → ¬ (g.bad ≡ 1) → (c : World) (b : Bytes) → Set c path budget → Up c b w g → Down c b w (around_go w g (at w (at w (g.top - 1) + 3)) path budget)
   fails-down {path} {budget} none c b st u =
       let s = up-strip c u in
-      top-asks (λ fr. Left c b g u.e fr → Down c b w (aroundGo w g (at w (at w (g.top - 1) + 3)) path budget)) some low code
+      top-asks (λ fr. Left c b g u.e fr → Down c b w (around_go w g (at w (at w (g.top - 1) + 3)) path budget)) some low code
       (λ tok q is β e fr P left.
       resumed st u.tallies (pass β) fr (ask-path P (kept_refl (top_of fr) w) (same-slots w) (same_store w)) (ask-depth P) (the is) e (ask-inner P) (ask-bad P) (ask-rest P)
       (rw (unseen u.e g.bad u.bad none, son-fails) at left.1))
       s.fr s.bare s.path s.said
 
-  pub rose-failed : {path budget : ℕ} {q : Go} → ¬ (g.bad ≡ 1) → q ≡ aroundGo w g (at w (at w (g.top - 1) + 3)) path budget → Rose w w g q path budget
+  pub rose-failed : {path budget : ℕ} {q : Go} → ¬ (g.bad ≡ 1) → q ≡ around_go w g (at w (at w (g.top - 1) + 3)) path budget → Rose w w g q path budget
   rose-failed none e = rose-down e (fails-down none)
 
-  module _ {w' : Words} (words : w' ≡ set (set w (errorPlace + 1) undecidedInside) (errorPlace + 2) (at w (g.top - 1) / 4)) where
-    undecided-down : {path budget : ℕ} → g.bad ≡ 1 → (c : World) (b : Bytes) → Set c path budget → Up c b w g → Down c b w' (aroundGo w g errorPlace path budget)
+  module _ {w' : Words} (words : w' ≡ set (set w (error_place + 1) undecided_inside) (error_place + 2) (at w (g.top - 1) / 4)) where
+    undecided-down : {path budget : ℕ} → g.bad ≡ 1 → (c : World) (b : Bytes) → Set c path budget → Up c b w g → Down c b w' (around_go w g error_place path budget)
     undecided-down {path} {budget} one c b st u =
         let s = up-strip c u in
-        top-asks (λ fr. Left c b g u.e fr → Down c b w' (aroundGo w g errorPlace path budget)) some low code
+        top-asks (λ fr. Left c b g u.e fr → Down c b w' (around_go w g error_place path budget)) some low code
         (λ tok q is β e fr P left.
         let four : at w (g.top - 1) / 4 ≡ tok = omega (arith, ask-token P) in
-        let ws = words ∙ ap (set (set w (errorPlace + 1) undecidedInside) (errorPlace + 2)) four in
-        let told = error-told w undecidedInside tok ws (words-there P) in
+        let ws = words ∙ ap (set (set w (error_place + 1) undecided_inside) (error_place + 2)) four in
+        let told = error-told w undecided_inside tok ws (words-there P) in
         resumed st u.tallies (pass β) fr
-        (ask-path P (error-kept w undecidedInside tok ws (top_of fr)) (error-slots w undecidedInside tok ws) (error-store w undecidedInside tok ws)) (ask-depth P)
-        (error undecidedInside tok) e (ask-inner P) (ask-bad P) (refl, told.0, told.1)
+        (ask-path P (error-kept w undecided_inside tok ws (top_of fr)) (error-slots w undecided_inside tok ws) (error-store w undecided_inside tok ws)) (ask-depth P)
+        (error undecided_inside tok) e (ask-inner P) (ask-bad P) (refl, told.0, told.1)
         (rw (seen u.e g.bad u.bad one, son-undecided) at left.1))
         s.fr s.bare s.path s.said
 
-    pub rose-undecided : {path budget : ℕ} {q : Go} → g.bad ≡ 1 → q ≡ aroundGo w g errorPlace path budget → Rose w w' g q path budget
+    pub rose-undecided : {path budget : ℕ} {q : Go} → g.bad ≡ 1 → q ≡ around_go w g error_place path budget → Rose w w' g q path budget
     rose-undecided one e = rose-down e (undecided-down one)
 
 -- ---- an inner tree has succeeded
@@ -141,11 +141,11 @@ module _ {c : World} {w : Words} {top : ℕ} {α : Valuation} {tok : ℕ} {is : 
   asked-code q n P h = sym (ap (at w) (ask-token P) ∙ code_here c.tables w P.tables.tokens P.stack.0.small) ∙ h
 
   -- `imp`: its second part
-  second-part : (q : Question) (P : Path c w top α (asks tok q is β e ∷ fr)) → at w (at w (top - 1)) ≡ impCode →
+  second-part : (q : Question) (P : Path c w top α (asks tok q is β e ∷ fr)) → at w (at w (top - 1)) ≡ imp_code →
       (js : List Item)
-      × (sonOf c.declared tok q is succeeds (siteIn (pass β ∷ fr)) β ≡ treeItems c.declared js (siteIn (pass β ∷ fr)) β)
-      × Job c w (storeIn fr) β (at w (at w (top - 1) + 1)) (the js)
-  second-part denying P h = absurd (omega (arith, asked-code denying impCode P h, P.stack.0.question))
+      × (son_of c.declared tok q is succeeds (site_in (pass β ∷ fr)) β ≡ tree_items c.declared js (site_in (pass β ∷ fr)) β)
+      × Job c w (store_in fr) β (at w (at w (top - 1) + 1)) (the js)
+  second-part denying P h = absurd (omega (arith, asked-code denying imp_code P h, P.stack.0.question))
   second-part (implying E G) P h =
       let r = P.stack.0 in
       let a = r.question in (
@@ -171,40 +171,40 @@ module _ {c : World} {w : Words} {top : ℕ} {α : Valuation} {tok : ℕ} {is : 
       )
 
   -- `not`: a failure leaf
-  denial : (q : Question) (P : Path c w top α (asks tok q is β e ∷ fr)) → at w (at w (top - 1)) ≡ notCode →
-      sonOf c.declared tok q is succeeds (siteIn (pass β ∷ fr)) β ≡ failureLeaf
+  denial : (q : Question) (P : Path c w top α (asks tok q is β e ∷ fr)) → at w (at w (top - 1)) ≡ not_code →
+      son_of c.declared tok q is succeeds (site_in (pass β ∷ fr)) β ≡ failure_leaf
   denial denying P h = refl
-  denial (implying E G) P h = absurd (omega (arith, asked-code (implying E G) notCode P h, P.stack.0.question.0))
+  denial (implying E G) P h = absurd (omega (arith, asked-code (implying E G) not_code P h, P.stack.0.question.0))
 
-module _ {w : Words} {g : Go} (some : ¬ (g.top ≡ pathAt)) (low : at w (g.top - 1) < cellsAt) where
-  second-down : {path budget : ℕ} → at w (at w (g.top - 1)) ≡ impCode → (c : World) (b : Bytes) → Set c path budget → Yes c b w g →
-      Down c b w (aroundGo w g (at w (at w (g.top - 1) + 1)) path budget)
+module _ {w : Words} {g : Go} (some : ¬ (g.top ≡ path_at)) (low : at w (g.top - 1) < cells_at) where
+  second-down : {path budget : ℕ} → at w (at w (g.top - 1)) ≡ imp_code → (c : World) (b : Bytes) → Set c path budget → Yes c b w g →
+      Down c b w (around_go w g (at w (at w (g.top - 1) + 1)) path budget)
   second-down {path} {budget} h c b st u =
       let s = yes-strip c u in
-      top-asks (λ fr. yes c fr g.tallies b ≡ c.result → Down c b w (aroundGo w g (at w (at w (g.top - 1) + 1)) path budget)) some low (inr h)
+      top-asks (λ fr. yes c fr g.tallies b ≡ c.result → Down c b w (around_go w g (at w (at w (g.top - 1) + 1)) path budget)) some low (inr h)
       (λ tok q is β e fr P r.
       let p = second-part q P h in
       resumed st u.tallies (pass β) fr (ask-path P (kept_refl (top_of fr) w) (same-slots w) (same_store w)) (ask-depth P) (the p.0) e (ask-inner P) (ask-bad P) p.2
       (rw p.1 at r))
       s.fr s.bare s.path s.said
 
-  denied-down : {path budget : ℕ} → at w (at w (g.top - 1)) ≡ notCode → (c : World) (b : Bytes) → Set c path budget → Yes c b w g →
-      Down c b w (aroundGo w g failurePlace path budget)
+  denied-down : {path budget : ℕ} → at w (at w (g.top - 1)) ≡ not_code → (c : World) (b : Bytes) → Set c path budget → Yes c b w g →
+      Down c b w (around_go w g failure_place path budget)
   denied-down {path} {budget} h c b st u =
       let s = yes-strip c u in
-      top-asks (λ fr. yes c fr g.tallies b ≡ c.result → Down c b w (aroundGo w g failurePlace path budget)) some low (inl h)
+      top-asks (λ fr. yes c fr g.tallies b ≡ c.result → Down c b w (around_go w g failure_place path budget)) some low (inl h)
       (λ tok q is β e fr P r.
       resumed st u.tallies (pass β) fr (ask-path P (kept_refl (top_of fr) w) (same-slots w) (same_store w)) (ask-depth P) failure e (ask-inner P) (ask-bad P) refl
       (rw (denial q P h) at r))
       s.fr s.bare s.path s.said
 
-  granted : {q : Go} {due path budget : ℕ} → q ≡ aroundGo w g due path budget →
-      ((c : World) (b : Bytes) → Set c path budget → Yes c b w g → Down c b w (aroundGo w g due path budget)) → Granted w g q path budget
+  granted : {q : Go} {due path budget : ℕ} → q ≡ around_go w g due path budget →
+      ((c : World) (b : Bytes) → Set c path budget → Yes c b w g → Down c b w (around_go w g due path budget)) → Granted w g q path budget
   granted e f = rw e (record { down = f; mode = refl; nodes = refl; counted = refl })
 
-  pub granted-second : {q : Go} {path budget : ℕ} → at w (at w (g.top - 1)) ≡ impCode → q ≡ aroundGo w g (at w (at w (g.top - 1) + 1)) path budget →
+  pub granted-second : {q : Go} {path budget : ℕ} → at w (at w (g.top - 1)) ≡ imp_code → q ≡ around_go w g (at w (at w (g.top - 1) + 1)) path budget →
       Granted w g q path budget
   granted-second h e = granted e (second-down h)
 
-  pub granted-failure : {q : Go} {path budget : ℕ} → at w (at w (g.top - 1)) ≡ notCode → q ≡ aroundGo w g failurePlace path budget → Granted w g q path budget
+  pub granted-failure : {q : Go} {path budget : ℕ} → at w (at w (g.top - 1)) ≡ not_code → q ≡ around_go w g failure_place path budget → Granted w g q path budget
   granted-failure h e = granted e (denied-down h)

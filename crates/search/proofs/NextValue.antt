@@ -17,22 +17,22 @@ use Rattle.specification.proofs.Laws.Contradiction.{contradiction}
 use Rattle.specification.proofs.Laws.Place.{put_same, put_other, valid-put}
 use Rattle.values.specs.Word.{signed, biased}
 use Rattle.values.proofs.Laws.Word.{biased-signed, signed-in32, signed_add}
-use Rattle.tables.specs.Layout.{cellsAt, tokenSlot, localSlot, pathAt, maxLocals, maxTokens}
-use Rattle.tables.specs.Codes.{someCode}
+use Rattle.tables.specs.Layout.{cells_at, token_slot, local_slot, path_at, max_locals, max_tokens}
+use Rattle.tables.specs.Codes.{some_code}
 use Rattle.sheet.specs.Tables.{Words}
 use Rattle.sheet.specs.Held.{slot_of, Holds, SlotAt}
 use Rattle.terms.specs.Environment.{Environment, number_of}
 use Rattle.terms.proofs.Laws.Here.{operand-kept}
-use Rattle.search.specs.Marks.{InTable, marksIn, Marks}
+use Rattle.search.specs.Marks.{InTable, marks_in, Marks}
 use Rattle.search.specs.declared.Go.{Go}
 use Rattle.plan.specs.Next.{Next, token, place_of}
-use Rattle.search.specs.Walk.{sonsFrom}
-use Rattle.search.specs.Frame.{Item, form, the, Frame, range, here, below, len, size_of, top_of, siteIn, storeIn}
+use Rattle.search.specs.Walk.{sons_from}
+use Rattle.search.specs.Frame.{Item, form, the, Frame, range, here, below, len, size_of, top_of, site_in, store_in}
 use Rattle.search.specs.Stands.{body_of, LeftAfter}
 use Rattle.search.specs.Records.{at}
 use Rattle.search.specs.Path.{World, Path}
 use Rattle.search.specs.Sim.{yes, no, Down, Up, Yes}
-use Rattle.search.specs.Registers.{dropGo, resumeGo}
+use Rattle.search.specs.Registers.{drop_go, resume_go}
 use Rattle.search.specs.Climb.{Set, Rises, Rose, Wins, Fell}
 use Rattle.search.proofs.Pending.{pend-bound, inside-scoped}
 use Rattle.search.proofs.RecordsKept.{SameFrom, record-keep, top-low}
@@ -68,7 +68,7 @@ module _ {current last n : ℕ} (x : ℤ) (i : ℕ) (a : LeftAfter current last 
 
 -- ---- a slot whose value is another
 
-other-value : (w : Words) {w' : Words} {i : ℕ} (p : Place) (y z : ℤ) → InTable p → SlotAt w (slot_of p) (full y) → i ≡ slot_of p → pathAt ≤ length w →
+other-value : (w : Words) {w' : Words} {i : ℕ} (p : Place) (y z : ℤ) → InTable p → SlotAt w (slot_of p) (full y) → i ≡ slot_of p → path_at ≤ length w →
     w' ≡ set w (i + 1) (biased z) → Altered w w' p (full z)
 other-value w {w'} {i} p y z h s e size words =
     let k = in_table p h in
@@ -84,7 +84,7 @@ other-value w {w'} {i} p y z h s e size words =
 
 module _ {c : World} {w : Words} {top : ℕ} {α : Valuation} {l : ℕ} {x : ℤ} {i n : ℕ} {E : Environment} {F : Formula} {is : List Item} {β : Valuation} {fr : List Frame}
     (P : Path c w top α (range l x i n E F is β ∷ fr)) where
-  pub some-token : at w (top - 1) ≡ tokenSlot P.stack.0.h
+  pub some-token : at w (top - 1) ≡ token_slot P.stack.0.h
   some-token = let z : top - 1 ≡ top_of fr + 4 = omega (arith, P.ends) in ap (at w) z ∙ P.stack.0.token
 
   pub some-depth : at w (top - 2) ≡ suc (len fr)
@@ -96,14 +96,14 @@ module _ {c : World} {w : Words} {top : ℕ} {α : Valuation} {l : ℕ} {x : ℤ
   pub some-local : at w (at w (top - 1) + 5) ≡ l
   some-local =
       let q = P.stack.0 in
-      let e : at w (top - 1) + 5 ≡ tokenSlot (suc q.h) + 1 = omega (arith, some-token) in
+      let e : at w (top - 1) + 5 ≡ token_slot (suc q.h) + 1 = omega (arith, some-token) in
       ap (at w) e ∙ operand-kept c.tables w P.tables.tokens q.binds.local.0 q.binds.local.1
 
-  pub some-body : at w (at w (top - 1) + 7) ≡ tokenSlot (body_of c.tables P.stack.0.h)
+  pub some-body : at w (at w (top - 1) + 7) ≡ token_slot (body_of c.tables P.stack.0.h)
   some-body =
       let q = P.stack.0 in
-      let e : at w (top - 1) + 7 ≡ tokenSlot (suc q.h) + 3 = omega (arith, some-token) in
-      ap (at w) e ∙ P.tables.tokens (tokenSlot (suc q.h) + 3) (omega (arith, q.binds.near)) ∙ q.binds.leads
+      let e : at w (top - 1) + 7 ≡ token_slot (suc q.h) + 3 = omega (arith, some-token) in
+      ap (at w) e ∙ P.tables.tokens (token_slot (suc q.h) + 3) (omega (arith, q.binds.near)) ∙ q.binds.leads
 
   pub some-held : SlotAt w (slot_of (local l)) (full (x +ℤ pos i))
   some-held =
@@ -117,35 +117,35 @@ module _ {c : World} {w : Words} {top : ℕ} {α : Valuation} {l : ℕ} {x : ℤ
       ap (at w) one ∙ some-held.1 ∙ ap biased (sym q.value) ∙ biased-signed q.current
 
   -- the slot is as it was
-  some-closed : {w' : Words} {slot : ℕ} → slot ≡ localSlot (at w (at w (top - 1) + 5)) → w' ≡ set (set w slot (at w (top - 5))) (slot + 1) (at w (top - 4)) →
+  some-closed : {w' : Words} {slot : ℕ} → slot ≡ local_slot (at w (at w (top - 1) + 5)) → w' ≡ set (set w slot (at w (top - 5))) (slot + 1) (at w (top - 4)) →
       Path c w' (top - 5) β fr
   some-closed {w'} {slot} es words =
       let q = P.stack.0 in
       let p = local l in
-      let el : slot ≡ slot_of p = es ∙ ap localSlot some-local in
+      let el : slot ≡ slot_of p = es ∙ ap local_slot some-local in
       let a0 : top - 5 ≡ top_of fr = omega (arith, P.ends) in
       let a1 : top - 4 ≡ top_of fr + 1 = omega (arith, P.ends) in
       let ws : w' ≡ set (set w slot (at w (top_of fr))) (slot + 1) (at w (top_of fr + 1)) = words ∙ rw (a0, a1) refl in
       rw a0
-      (back-path P p (full (x +ℤ pos i)) (at w (top_of fr)) (at w (top_of fr + 1)) refl q.kept (bound-other l (siteIn fr)) el (kept_refl (top_of fr) w) (λ j k m. refl) ws
+      (back-path P p (full (x +ℤ pos i)) (at w (top_of fr)) (at w (top_of fr + 1)) refl q.kept (bound-other l (site_in fr)) el (kept_refl (top_of fr) w) (λ j k m. refl) ws
       (stored-keep (altered-store q.kept.inside (alter w p (at w (top_of fr)) (at w (top_of fr + 1)) el q.kept.inside (words-there P) ws (β p) q.kept.saved)) P.stored))
 
 -- ---- the steps
 
-module _ {w : Words} {g : Go} (some : ¬ (g.top ≡ pathAt)) (low : at w (g.top - 1) < cellsAt) (code : at w (at w (g.top - 1)) ≡ someCode) {slot : ℕ}
-    (es : slot ≡ localSlot (at w (at w (g.top - 1) + 5))) where
+module _ {w : Words} {g : Go} (some : ¬ (g.top ≡ path_at)) (low : at w (g.top - 1) < cells_at) (code : at w (at w (g.top - 1)) ≡ some_code) {slot : ℕ}
+    (es : slot ≡ local_slot (at w (at w (g.top - 1) + 5))) where
   next_down : {w' : Words} {path budget : ℕ} → at w (slot + 1) < at w (g.top - 3) → w' ≡ set w (slot + 1) (at w (slot + 1) + 1) →
       (c : World) (b : Bytes) → Set c path budget → Up c b w g →
-      Down c b w' (resumeGo g (at w (at w (g.top - 1) + 7)) (at w (g.top - 2)) g.top g.inner g.bad path budget)
-  unfolding sonsFrom
+      Down c b w' (resume_go g (at w (at w (g.top - 1) + 7)) (at w (g.top - 2)) g.top g.inner g.bad path budget)
+  unfolding sons_from
   next_down {w'} {path} {budget} more words c b st u =
       let s = up-strip c u in
-      top-some (λ fr. Left c b g u.e fr → Down c b w' (resumeGo g (at w (at w (g.top - 1) + 7)) (at w (g.top - 2)) g.top g.inner g.bad path budget)) some low code
+      top-some (λ fr. Left c b g u.e fr → Down c b w' (resume_go g (at w (at w (g.top - 1) + 7)) (at w (g.top - 2)) g.top g.inner g.bad path budget)) some low code
       (λ l x i n E F is β fr P left.
       let q = P.stack.0 in
       let p = local l in
       let small = q.binds.small in
-      let el : slot ≡ slot_of p = es ∙ ap localSlot (some-local P) in
+      let el : slot ≡ slot_of p = es ∙ ap local_slot (some-local P) in
       let cur : at w (slot + 1) ≡ q.current = ap (λ k. at w (k + 1)) el ∙ some-current P in
       let more' : q.current < at w (top_of fr + 2) = omega (arith, some-last P) in
       let en : n ≡ suc (n - 1) = omega (arith, q.after.count) in
@@ -154,12 +154,12 @@ module _ {w : Words} {g : Go} (some : ¬ (g.top ≡ pathAt)) (low : at w (g.top 
       let al : Altered w w' p (full v) = other-value w p (x +ℤ pos i) v small (some-held P) el (words-there P) (words ∙ ap (set w (slot + 1)) word) in
       let z = in_table p small in
       let same : SameFrom w w' (top_of fr) 5 = record { same = λ j h. al.others (top_of fr + j) (λ e. omega (arith, z.high, top-low fr)) (λ e. omega (arith, z.high, top-low fr)) } in
-      let marks = marksIn c.declared (siteIn (range l x i n E F is β ∷ fr)).marks in
+      let marks = marks_in c.declared (site_in (range l x i n E F is β ∷ fr)).marks in
       let γ = put β p (full v) in
       let off : (r : Place) → ¬ (r ≡ p) → γ r ≡ u.α r = λ r m. put_other β p (full v) r m ∙ sym (ap (λ f. f r) P.chain.0 ∙ put_other β p (full (x +ℤ pos i)) r m) in
       resumed st u.tallies (range l x (suc i) (n - 1) E F is β) fr
       (path-top P (altered-kept small al (top_of fr)) (range l x (suc i) (n - 1) E F is β) P.ends refl
-      (record-keep c.declared c.tables w w' (top_of fr) (siteIn fr) (storeIn fr) (range l x (suc i) (n - 1) E F is β) same
+      (record-keep c.declared c.tables w w' (top_of fr) (site_in fr) (store_in fr) (range l x (suc i) (n - 1) E F is β) same
       (record {
         h = q.h;
         next = q.next;
@@ -193,39 +193,39 @@ module _ {w : Words} {g : Go} (some : ¬ (g.top ≡ pathAt)) (low : at w (g.top 
           env = q.env;
           later = omega arith;
           scoped = inside-scoped q.scoped;
-          rest = pend-bound c.declared c.tables q.scoped.outer l q.scoped.fresh (storeIn fr) β (full v) (number_of E) q.next is q.scoped.scoped q.rest;
+          rest = pend-bound c.declared c.tables q.scoped.outer l q.scoped.fresh (store_in fr) β (full v) (number_of E) q.next is q.scoped.scoped q.rest;
         };
       })
       (subst (λ k. no c (range l x i k E F is β ∷ fr) u.e g.tallies b ≡ c.result) en left.1))
       s.fr s.bare s.path s.said
 
   pub rose-next : {w' : Words} {path budget : ℕ} {q : Go} → at w (slot + 1) < at w (g.top - 3) → w' ≡ set w (slot + 1) (at w (slot + 1) + 1) →
-      q ≡ resumeGo g (at w (at w (g.top - 1) + 7)) (at w (g.top - 2)) g.top g.inner g.bad path budget → Rose w w' g q path budget
+      q ≡ resume_go g (at w (at w (g.top - 1) + 7)) (at w (g.top - 2)) g.top g.inner g.bad path budget → Rose w w' g q path budget
   rose-next more words e = rose-down e (next_down more words)
 
   -- the slot is as it was
   module _ {w' : Words} (words : w' ≡ set (set w slot (at w (g.top - 5))) (slot + 1) (at w (g.top - 4))) where
-    close_up : ¬ (at w (slot + 1) < at w (g.top - 3)) → (c : World) (b : Bytes) → Up c b w g → Up c b w' (dropGo g (g.top - 5) g.inner)
-    unfolding sonsFrom
+    close_up : ¬ (at w (slot + 1) < at w (g.top - 3)) → (c : World) (b : Bytes) → Up c b w g → Up c b w' (drop_go g (g.top - 5) g.inner)
+    unfolding sons_from
     close_up over c b u =
         let s = up-strip c u in
-        top-some (λ fr. Left c b g u.e fr → Up c b w' (dropGo g (g.top - 5) g.inner)) some low code
+        top-some (λ fr. Left c b g u.e fr → Up c b w' (drop_go g (g.top - 5) g.inner)) some low code
         (λ l x i n E F is β fr P left.
         let q = P.stack.0 in
-        let el : slot ≡ slot_of (local l) = es ∙ ap localSlot (some-local P) in
+        let el : slot ≡ slot_of (local l) = es ∙ ap local_slot (some-local P) in
         let cur : at w (slot + 1) ≡ q.current = ap (λ k. at w (k + 1)) el ∙ some-current P in
         let none : n ≡ 0 = omega (arith, q.after.count, q.after.order, some-last P) in
         up-again u {β = β} {fr = fr} (some-closed P es words) left.0 (subst (λ k. no c (range l x i k E F is β ∷ fr) u.e g.tallies b ≡ c.result) none left.1))
         s.fr s.bare s.path s.said
 
-    close-yes : (c : World) (b : Bytes) → Yes c b w g → Yes c b w' (dropGo g (g.top - 5) g.inner)
+    close-yes : (c : World) (b : Bytes) → Yes c b w g → Yes c b w' (drop_go g (g.top - 5) g.inner)
     close-yes c b u =
         let s = yes-strip c u in
-        top-some (λ fr. yes c fr g.tallies b ≡ c.result → Yes c b w' (dropGo g (g.top - 5) g.inner)) some low code
+        top-some (λ fr. yes c fr g.tallies b ≡ c.result → Yes c b w' (drop_go g (g.top - 5) g.inner)) some low code
         (λ l x i n E F is β fr P r. yes-again u {β = β} {fr = fr} (some-closed P es words) r) s.fr s.bare s.path s.said
 
-    pub rose-closed : {path budget : ℕ} {q : Go} → ¬ (at w (slot + 1) < at w (g.top - 3)) → Rises w g path budget → q ≡ dropGo g (g.top - 5) g.inner → Rose w w' g q path budget
+    pub rose-closed : {path budget : ℕ} {q : Go} → ¬ (at w (slot + 1) < at w (g.top - 3)) → Rises w g path budget → q ≡ drop_go g (g.top - 5) g.inner → Rose w w' g q path budget
     rose-closed over r e = rose r e (let z = r.up.path.ends in omega (arith, top-low r.up.fr)) (close_up over)
 
-    pub fell-closed : {q : Go} → Wins w g → q ≡ dropGo g (g.top - 5) g.inner → Fell w w' g q
+    pub fell-closed : {q : Go} → Wins w g → q ≡ drop_go g (g.top - 5) g.inner → Fell w w' g q
     fell-closed u e = fell e (let z = u.yes.path.ends in omega (arith, top-low u.yes.fr)) close-yes

@@ -8,18 +8,18 @@ use lib.ListN.{length, get_or}
 use Rattle.specification.specs.Lines.{Declared}
 use Rattle.specification.specs.Value.{Valuation}
 use Rattle.specification.specs.WellFormed.{Valid}
-use Rattle.tables.specs.Layout.{first_slot, procSlot, nodeSlot, pathAt, maxProcs, maxParameters}
-use Rattle.tables.specs.Ranges.{rangeSlot}
+use Rattle.tables.specs.Layout.{first_slot, proc_slot, node_slot, path_at, max_procs, max_parameters}
+use Rattle.tables.specs.Ranges.{range_slot}
 use Rattle.tables.proofs.Laws.Ranges.{SameRanges}
 use Rattle.sheet.specs.Tables.{Words}
 use Rattle.sheet.specs.Held.{Holds}
 use Rattle.sheet.proofs.Ranged.{ranges-keep}
-use Rattle.search.specs.Marks.{marksIn, Marks}
-use Rattle.tables.specs.Frames.{frameSlot, argumentSlot}
-use Rattle.tables.specs.Layout.{lastsAt}
+use Rattle.search.specs.Marks.{marks_in, Marks}
+use Rattle.tables.specs.Frames.{frame_slot, argument_slot}
+use Rattle.tables.specs.Layout.{lasts_at}
 use Rattle.search.specs.Kept.{Kept, SameStore}
 use Rattle.search.specs.Store.{Call, Store}
-use Rattle.search.specs.Frame.{Frame, pass, other, bound, began, given, range, asks, called, here, below, len, size_of, top_of, siteIn, storeIn}
+use Rattle.search.specs.Frame.{Frame, pass, other, bound, began, given, range, asks, called, here, below, len, size_of, top_of, site_in, store_in}
 use Rattle.search.specs.Records.{RecordAt, Stack}
 use Rattle.search.specs.Path.{World, Procedures, Framed, Stored, Chain, Tables, Path}
 use Rattle.tables.specs.Leaves.{Leaves}
@@ -29,8 +29,8 @@ use Rattle.search.proofs.RecordsKept.{stack-keep}
 
 ranges-kept : {w w' : Words} {top : ℕ} → Kept top w w' → SameRanges w w'
 ranges-kept k = record {
-  lowest = λ j h. k.firsts (rangeSlot j) (omega arith) (omega arith);
-  highest = λ j h. k.firsts (rangeSlot j + 1) (omega arith) (omega arith);
+  lowest = λ j h. k.firsts (range_slot j) (omega arith) (omega arith);
+  highest = λ j h. k.firsts (range_slot j + 1) (omega arith) (omega arith);
 }
 
 pub tables-keep : {c : World} {w w' : Words} {top : ℕ} → Kept top w w' → Tables c w → Tables c w'
@@ -55,7 +55,7 @@ tables-keep k t = record {
     few = t.procedures.few;
     ok = t.procedures.ok;
     bodies = t.procedures.bodies;
-    same = λ K h. k.firsts (procSlot K) (omega arith) (omega arith) ∙ t.procedures.same K h;
+    same = λ K h. k.firsts (proc_slot K) (omega arith) (omega arith) ∙ t.procedures.same K h;
   };
 }
 
@@ -63,7 +63,7 @@ tables-keep k t = record {
 
 -- the words of procedure K's frame, but the first, are the same
 pub record SameFrame (K : ℕ) (w w' : Words) : Type 0 where
-  pub same : (j : ℕ) → 0 < j → j < 20 → get_or w' (frameSlot K + j) 0 ≡ get_or w (frameSlot K + j) 0
+  pub same : (j : ℕ) → 0 < j → j < 20 → get_or w' (frame_slot K + j) 0 ≡ get_or w (frame_slot K + j) 0
 
 pub framed-keep : {c : World} {w w' : Words} (C : Call) → SameFrame C.level.number w w' → Framed c w C → Framed c w' C
 framed-keep {c} {w} {w'} C s f =
@@ -81,16 +81,16 @@ framed-keep {c} {w} {w'} C s f =
     }
   where
     -- the words of an argument's slot
-    first : (n : ℕ) → n < maxParameters → get_or w' (argumentSlot C.level.number n) 0 ≡ get_or w (argumentSlot C.level.number n) 0
-    first n h = let e : frameSlot C.level.number + (4 + 2 * n) ≡ argumentSlot C.level.number n = omega arith in rw e at (s.same (4 + 2 * n) (omega arith) (omega arith))
+    first : (n : ℕ) → n < max_parameters → get_or w' (argument_slot C.level.number n) 0 ≡ get_or w (argument_slot C.level.number n) 0
+    first n h = let e : frame_slot C.level.number + (4 + 2 * n) ≡ argument_slot C.level.number n = omega arith in rw e at (s.same (4 + 2 * n) (omega arith) (omega arith))
 
-    second : (n : ℕ) → n < maxParameters → get_or w' (argumentSlot C.level.number n + 1) 0 ≡ get_or w (argumentSlot C.level.number n + 1) 0
+    second : (n : ℕ) → n < max_parameters → get_or w' (argument_slot C.level.number n + 1) 0 ≡ get_or w (argument_slot C.level.number n + 1) 0
     second n h =
-        let e : frameSlot C.level.number + (5 + 2 * n) ≡ argumentSlot C.level.number n + 1 = omega arith in rw e at (s.same (5 + 2 * n) (omega arith) (omega arith))
+        let e : frame_slot C.level.number + (5 + 2 * n) ≡ argument_slot C.level.number n + 1 = omega arith in rw e at (s.same (5 + 2 * n) (omega arith) (omega arith))
 
 pub stored-keep : {c : World} {w w' : Words} {σ : Store} → SameStore w w' → Stored c w σ → Stored c w' σ
 stored-keep s q = record {
-  lasts = λ l h. s.same (lastsAt + l) (omega arith) (omega arith) ∙ q.lasts l h;
+  lasts = λ l h. s.same (lasts_at + l) (omega arith) (omega arith) ∙ q.lasts l h;
   calls = λ K C e.
       let f = q.calls K C e in
       (f.0, f.1, framed-keep C (record { same = λ j a b. s.same _ (omega arith) (omega (arith, f.0, f.1)) }) f.2);
@@ -99,7 +99,7 @@ stored-keep s q = record {
 -- ---- the path
 
 -- a record is no longer than the words of a node
-size_few : (D : Declared) (t w : Words) (a : ℕ) (f : Frame) (fr : List Frame) → RecordAt D t w a (siteIn fr) (storeIn fr) f → size_of f ≤ 12
+size_few : (D : Declared) (t w : Words) (a : ℕ) (f : Frame) (fr : List Frame) → RecordAt D t w a (site_in fr) (store_in fr) f → size_of f ≤ 12
 size_few D t w a (pass α) fr q = omega arith
 size_few D t w a (other E G is α) fr q = omega arith
 size_few D t w a (bound l s α) fr q = omega arith
@@ -109,15 +109,15 @@ size_few D t w a (range l x i n E F is α) fr q = omega arith
 size_few D t w a (asks tok q is α e) fr r = omega arith
 size_few D t w a (called C α) fr q = omega (arith, q.few)
 
-pub top-few : (D : Declared) (t w : Words) (fr : List Frame) → Stack D t w fr → top_of fr ≤ nodeSlot (len fr)
+pub top-few : (D : Declared) (t w : Words) (fr : List Frame) → Stack D t w fr → top_of fr ≤ node_slot (len fr)
 top-few D t w [] q = omega arith
 top-few D t w (f ∷ fr) q = omega (arith, size_few D t w (top_of fr) f fr q.0, top-few D t w fr q.1)
 
 module _ {c : World} {w w' : Words} {top : ℕ} {α : Valuation} {fr : List Frame} (P : Path c w top α fr) where
   -- a frame more
   pub path-onto : (f : Frame) {top' : ℕ} → top' ≡ top + size_of f → len fr < c.setting.path → Kept top w w' → here f ≡ α →
-      RecordAt c.declared c.tables w' top (siteIn fr) (storeIn fr) f → Holds w' (below f) →
-      Marks w' (below f) (marksIn c.declared (siteIn (f ∷ fr)).marks) → Stored c w' (storeIn (f ∷ fr)) → Valid c.declared (below f) →
+      RecordAt c.declared c.tables w' top (site_in fr) (store_in fr) f → Holds w' (below f) →
+      Marks w' (below f) (marks_in c.declared (site_in (f ∷ fr)).marks) → Stored c w' (store_in (f ∷ fr)) → Valid c.declared (below f) →
       Path c w' top' (below f) (f ∷ fr)
   path-onto f z room k e q h m s v =
       let ends = P.ends in
@@ -126,7 +126,7 @@ module _ {c : World} {w w' : Words} {top : ℕ} {α : Valuation} {fr : List Fram
         ends = omega arith;
         inside = omega arith;
         stack = (
-          subst (λ a. RecordAt c.declared c.tables w' a (siteIn fr) (storeIn fr) f) ends q,
+          subst (λ a. RecordAt c.declared c.tables w' a (site_in fr) (store_in fr) f) ends q,
           stack-keep c.declared c.tables w w' fr (λ j a b. k.records j a (omega arith)) P.stack,
         );
         chain = (refl, rw e P.valid, rw e P.chain);
@@ -137,7 +137,7 @@ module _ {c : World} {w w' : Words} {top : ℕ} {α : Valuation} {fr : List Fram
       }
 
   -- the same frames
-  pub path-kept : Kept top w w' → Holds w' α → Marks w' α (marksIn c.declared (siteIn fr).marks) → Stored c w' (storeIn fr) → Path c w' top α fr
+  pub path-kept : Kept top w w' → Holds w' α → Marks w' α (marks_in c.declared (site_in fr).marks) → Stored c w' (store_in fr) → Path c w' top α fr
   path-kept k h m s =
       let ends = P.ends in
       record {
@@ -157,8 +157,8 @@ module _ {c : World} {w w' : Words} {top : ℕ} {α : Valuation} {f : Frame} {fr
   under-stack = stack-keep c.declared c.tables w w' fr k.records P.stack.1
 
   -- another frame on top
-  pub path-top : (g : Frame) {end : ℕ} → end ≡ top_of (g ∷ fr) → here g ≡ here f → RecordAt c.declared c.tables w' (top_of fr) (siteIn fr) (storeIn fr) g →
-      Holds w' (below g) → Marks w' (below g) (marksIn c.declared (siteIn (g ∷ fr)).marks) → Stored c w' (storeIn (g ∷ fr)) → Valid c.declared (below g) →
+  pub path-top : (g : Frame) {end : ℕ} → end ≡ top_of (g ∷ fr) → here g ≡ here f → RecordAt c.declared c.tables w' (top_of fr) (site_in fr) (store_in fr) g →
+      Holds w' (below g) → Marks w' (below g) (marks_in c.declared (site_in (g ∷ fr)).marks) → Stored c w' (store_in (g ∷ fr)) → Valid c.declared (below g) →
       Path c w' end (below g) (g ∷ fr)
   path-top g z e q h m s v = record {
     tables = tables-keep k P.tables;
@@ -173,7 +173,7 @@ module _ {c : World} {w w' : Words} {top : ℕ} {α : Valuation} {f : Frame} {fr
   }
 
   -- the topmost frame is left
-  pub path-pop : Holds w' (here f) → Marks w' (here f) (marksIn c.declared (siteIn fr).marks) → Stored c w' (storeIn fr) →
+  pub path-pop : Holds w' (here f) → Marks w' (here f) (marks_in c.declared (site_in fr).marks) → Stored c w' (store_in fr) →
       Path c w' (top_of fr) (here f) fr
   path-pop h m s = record {
     tables = tables-keep k P.tables;

@@ -20,7 +20,7 @@ use Rattle.values.specs.Word.{signed}
 use Rattle.sheet.specs.Tables.{Words}
 use Rattle.terms.specs.Environment.{Level, Environment, number_of}
 use Rattle.plan.specs.Next.{Next, end, token, back, From}
-use Rattle.search.specs.Store.{Call, Store, with, lastStore, callStore, resolve, backOf, Active, EnvIn}
+use Rattle.search.specs.Store.{Call, Store, with, last_store, call_store, resolve, back_of, Active, EnvIn}
 use Rattle.search.specs.Frame.{Item, form, again}
 use Rattle.search.specs.Pend.{Scoped, Inside, Left, FormNext, AgainNext, Pend}
 
@@ -38,7 +38,7 @@ module _ {A : Type 0} (f : ℕ → A) (k : ℕ) (a : A) where
 -- ---- environments
 
 -- an earlier procedure is called
-pub env-call : (σ : Store) (C : Call) (E : Environment) → C.level.number < number_of E → EnvIn σ E → EnvIn (callStore C σ) E
+pub env-call : (σ : Store) (C : Call) (E : Environment) → C.level.number < number_of E → EnvIn σ E → EnvIn (call_store C σ) E
 env-call σ C [] h e = tt
 env-call σ C (L ∷ E) h (a, e) = (
   record {
@@ -51,7 +51,7 @@ env-call σ C (L ∷ E) h (a, e) = (
   env-call σ C E (omega (arith, a.earlier)) e,
 )
 
-pub env-last : (σ : Store) (l h : ℕ) (E : Environment) → EnvIn σ E → EnvIn (lastStore l h σ) E
+pub env-last : (σ : Store) (l h : ℕ) (E : Environment) → EnvIn σ E → EnvIn (last_store l h σ) E
 env-last σ l h [] e = tt
 env-last σ l h (L ∷ E) (a, e) = (
   record { call = a.call; there = a.there; level = a.level; around = a.around; earlier = a.earlier },
@@ -61,12 +61,12 @@ env-last σ l h (L ∷ E) (a, e) = (
 -- ---- what comes next
 
 -- past the end of a procedure that is not the one called
-pub resolve-call : (σ : Store) (C : Call) (m : ℕ) (x : Next) → C.level.number < m → From m x → resolve (callStore C σ) x ≡ resolve σ x
+pub resolve-call : (σ : Store) (C : Call) (m : ℕ) (x : Next) → C.level.number < m → From m x → resolve (call_store C σ) x ≡ resolve σ x
 resolve-call σ C m end h f = refl
 resolve-call σ C m (token i) h f = refl
-resolve-call σ C m (back K) h f = ap (backOf K) (with-other σ.calls C.level.number (just C) K (λ z. omega (arith, f.0)))
+resolve-call σ C m (back K) h f = ap (back_of K) (with-other σ.calls C.level.number (just C) K (λ z. omega (arith, f.0)))
 
-resolve-last : (σ : Store) (l h : ℕ) (x : Next) → resolve (lastStore l h σ) x ≡ resolve σ x
+resolve-last : (σ : Store) (l h : ℕ) (x : Next) → resolve (last_store l h σ) x ≡ resolve σ x
 resolve-last σ l h end = refl
 resolve-last σ l h (token i) = refl
 resolve-last σ l h (back K) = refl
@@ -86,10 +86,10 @@ module _ {α : Valuation} {σ : Store} {l n : ℕ} {v : ℤ} (q : Left α σ l n
   left-put : (p : Place) (s : Slot) → ¬ (local l ≡ p) → Left (put α p s) σ l n v
   left-put p s z = record { current = q.current; value = put_other α p s (local l) z ∙ q.value; after = q.after }
 
-  left-last : (j h : ℕ) → ¬ (l ≡ j) → Left α (lastStore j h σ) l n v
+  left-last : (j h : ℕ) → ¬ (l ≡ j) → Left α (last_store j h σ) l n v
   left-last j h z = record { current = q.current; value = q.value; after = rw (with-other σ.last j h l z) q.after }
 
-  left-call : (C : Call) → Left α (callStore C σ) l n v
+  left-call : (C : Call) → Left α (call_store C σ) l n v
   left-call C = record { current = q.current; value = q.value; after = q.after }
 
   -- it has a value, so a place without one is another
@@ -166,7 +166,7 @@ module _ (D : Declared) (t : Words) where
     }
 
     pub pend-last : (σ : Store) (α : Valuation) (h m : ℕ) (x : Next) (is : List Item) → Scoped S is → Pend D t σ α m x is →
-        Pend D t (lastStore l h σ) α m x is
+        Pend D t (last_store l h σ) α m x is
     pend-last σ α h m x [] sc q = (resolve-last σ l h x ∙ q.0, q.1)
     pend-last σ α h m x (form E G ∷ is) sc q = record {
       i = q.i;
@@ -197,7 +197,7 @@ module _ (D : Declared) (t : Words) where
 
   -- an earlier procedure is called
   pub pend-call : (σ : Store) (α : Valuation) (C : Call) (m : ℕ) (x : Next) (is : List Item) → C.level.number < m → Pend D t σ α m x is →
-      Pend D t (callStore C σ) α m x is
+      Pend D t (call_store C σ) α m x is
   pend-call σ α C m x [] less q = (resolve-call σ C m x less q.1 ∙ q.0, q.1)
   pend-call σ α C m x (form E G ∷ is) less q = record {
     i = q.i;

@@ -21,28 +21,28 @@ use Rattle.specification.proofs.Laws.Contradiction.{contradiction}
 use Rattle.specification.proofs.Laws.Place.{SlotIn, put_same}
 use Rattle.values.specs.Word.{biased, signed}
 use Rattle.values.proofs.Laws.Word.{biased-signed, signed-in32, signed-count, signed_add}
-use Rattle.tables.specs.Layout.{tokenSlot, localSlot, firstsAt, pathAt, maxLocals, maxTokens}
+use Rattle.tables.specs.Layout.{token_slot, local_slot, firsts_at, path_at, max_locals, max_tokens}
 use Rattle.tables.specs.Kept.{SameSlots}
-use Rattle.tables.specs.Codes.{someCode, allCode}
+use Rattle.tables.specs.Codes.{some_code, all_code}
 use Rattle.sheet.specs.Tables.{Words}
 use Rattle.sheet.specs.Held.{slot_of}
 use Rattle.terms.specs.Environment.{number_of}
 use Rattle.terms.proofs.Laws.Here.{operand-kept}
 use Rattle.search.specs.declared.Go.{Go}
-use Rattle.tables.specs.Layout.{plan_at, lastsAt, last_at}
-use Rattle.tables.specs.Leaves.{failurePlace}
+use Rattle.tables.specs.Layout.{plan_at, lasts_at, last_at}
+use Rattle.tables.specs.Leaves.{failure_place}
 use Rattle.plan.specs.Next.{Next, token, place_of}
 use Rattle.search.specs.Kept.{Kept, SameStore, Pushes, Lasts}
-use Rattle.search.specs.Store.{Store, with, lastStore}
-use Rattle.search.specs.Frame.{form, again, the, failure, began, range, treeItems, siteIn, storeIn}
-use Rattle.search.specs.Site.{roundsAt, growAt, boundSite}
+use Rattle.search.specs.Store.{Store, with, last_store}
+use Rattle.search.specs.Frame.{form, again, the, failure, began, range, tree_items, site_in, store_in}
+use Rattle.search.specs.Site.{rounds_at, grow_at, bound_site}
 use Rattle.search.specs.Stands.{filled, body_of, LeftAfter}
 use Rattle.search.specs.Pend.{Inside}
 use Rattle.search.specs.Records as records
 use Rattle.search.specs.Records.{at, Saved}
 use Rattle.search.specs.Path.{World, Stored}
 use Rattle.search.specs.Sim.{tree, In}
-use Rattle.search.specs.Registers.{downGo}
+use Rattle.search.specs.Registers.{down_go}
 use Rattle.search.specs.Steps.{Entered, Stepped, GoesOn, OneLeaf, Valued}
 use Rattle.search.proofs.Pending.{with-same, with-other, pend-bound, pend-last, env-last, scoped-enter, inside-scoped}
 use Rattle.search.proofs.RecordsKept.{SameFrom, record-keep}
@@ -66,16 +66,16 @@ module _ (low high : ℕ) where
 
 -- ---- `some`
 
-module _ {w : Words} {g : Go} {low high : ℕ} (x : Valued w g someCode low high) where
+module _ {w : Words} {g : Go} {low high : ℕ} (x : Valued w g some_code low high) where
   module _ {c : World} {b : Bytes} (i : In c b w g) where
-    abbrev tried : AtForm i someCode
+    abbrev tried : AtForm i some_code
     tried = at-form i x.at.code (omega arith) (omega arith)
 
     some-tree : tree c i.fr i.x i.α ≡
         sons (signed low) (count (signed low) (signed high))
-        (λ j. growAt c.declared (filled tried.E tried.under.body) (λ s β. treeItems c.declared tried.is s β) (boundSite tried.under.l (siteIn i.fr))
+        (λ j. grow_at c.declared (filled tried.E tried.under.body) (λ s β. tree_items c.declared tried.is s β) (bound_site tried.under.l (site_in i.fr))
         (put i.α (local tried.under.l) (full (signed low +ℤ pos j))))
-    unfolding growAt fill bounded pair_of
+    unfolding grow_at fill bounded pair_of
     some-tree =
         let a = tried in
         let u = a.under in
@@ -87,30 +87,30 @@ module _ {w : Words} {g : Go} {low high : ℕ} (x : Valued w g someCode low high
         let a = tried in
         let u = a.under in
         let p = a.form.place in
-        let e : g.due + 5 ≡ tokenSlot (suc a.form.h) + 1 = omega arith in
+        let e : g.due + 5 ≡ token_slot (suc a.form.h) + 1 = omega arith in
         ap (λ k. get_or w k 0) e ∙ operand-kept c.tables w i.path.tables.tokens u.binds.local.0 u.binds.local.1
 
-    some-body : get_or w (g.due + 7) 0 ≡ tokenSlot (body_of c.tables tried.form.h)
+    some-body : get_or w (g.due + 7) 0 ≡ token_slot (body_of c.tables tried.form.h)
     some-body =
         let a = tried in
         let p = a.form.place in
-        let e : g.due + 7 ≡ tokenSlot (suc a.form.h) + 3 = omega arith in
-        ap (λ k. get_or w k 0) e ∙ i.path.tables.tokens (tokenSlot (suc a.form.h) + 3) (omega (arith, a.under.binds.near)) ∙ a.under.binds.leads
+        let e : g.due + 7 ≡ token_slot (suc a.form.h) + 3 = omega arith in
+        ap (λ k. get_or w k 0) e ∙ i.path.tables.tokens (token_slot (suc a.form.h) + 3) (omega (arith, a.under.binds.near)) ∙ a.under.binds.leads
 
-  pub some_near : (get_or w (g.due + 5) 0 < maxLocals) × (g.due + 7 < pathAt)
+  pub some_near : (get_or w (g.due + 5) 0 < max_locals) × (g.due + 7 < path_at)
   some_near = let i = x.at.at.ins in (rw (some-local i) (tried i).under.binds.small, omega (arith, (tried i).form.place, (tried i).form.inside))
 
-  pub some-none : high < low → OneLeaf w g failurePlace
+  pub some-none : high < low → OneLeaf w g failure_place
   unfolding sons
   some-none h = record {
     at = x.at.at;
     son = λ c b i. (failure, some-tree i ∙ rw (count_none low high h), refl);
   }
 
-  pub some-open : low ≤ high → {mid w' : Words} {slot : ℕ} → slot ≡ localSlot (get_or w (g.due + 5) 0) →
+  pub some-open : low ≤ high → {mid w' : Words} {slot : ℕ} → slot ≡ local_slot (get_or w (g.due + 5) 0) →
       Pushes w mid g.top (at w slot ∷ at w (slot + 1) ∷ high ∷ (g.depth + 1) ∷ g.due ∷ []) → w' ≡ set (set mid slot 1) (slot + 1) low →
-      {q : Go} → q ≡ downGo g (get_or w (g.due + 7) 0) (g.top + 5) g.inner g.bad → Stepped w w' g q
-  unfolding sons treeItems
+      {q : Go} → q ≡ down_go g (get_or w (g.due + 7) 0) (g.top + 5) g.inner g.bad → Stepped w w' g q
+  unfolding sons tree_items
   some-open order {mid} {w'} {slot} es p words e = stepped x.at.at e (λ c b i.
       let a = tried i in
       let u = a.under in
@@ -119,21 +119,21 @@ module _ {w : Words} {g : Go} {low high : ℕ} (x : Valued w g someCode low high
       let low-top = top-low i in
       let room = top-room i in
       let small = u.binds.small in
-      let el : slot ≡ slot_of (local l) = es ∙ ap localSlot (some-local i) in
+      let el : slot ≡ slot_of (local l) = es ∙ ap local_slot (some-local i) in
       let none_more : low + 0 ≡ low = omega arith in
       let zero_is : signed low +ℤ pos 0 ≡ signed low = signed_add low 0 ∙ ap signed none_more in
       let new : Saved 1 low (full (signed low +ℤ pos 0)) = (refl, sym (ap biased zero_is ∙ biased-signed low)) in
       let al : Altered mid w' (local l) (full (signed low +ℤ pos 0)) =
       alter mid (local l) 1 low el small (omega (arith, p.size)) words (full (signed low +ℤ pos 0)) new in
-      let good : T (in32 (signed low +ℤ pos 0)) = rw zero_is (signed-in32 low x.left-fits) in
+      let good : T (in32 (signed low +ℤ pos 0)) = rw zero_is (signed-in32 low x.left_fits) in
       let z = in_table (local l) small in
-      let keep : (j : ℕ) → pathAt ≤ j → get_or w' j 0 ≡ get_or mid j 0 = λ j h. al.others j (λ e. omega (arith, z.high)) (λ e. omega (arith, z.high)) in
+      let keep : (j : ℕ) → path_at ≤ j → get_or w' j 0 ≡ get_or mid j 0 = λ j h. al.others j (λ e. omega (arith, z.high)) (λ e. omega (arith, z.high)) in
       let word : (k : ℕ) → k < 5 → get_or w' (g.top + k) 0 ≡ get_or (at w slot ∷ at w (slot + 1) ∷ high ∷ (g.depth + 1) ∷ g.due ∷ []) k 0 =
       λ k h. keep (g.top + k) (omega arith) ∙ p.words k h in
       let z0 : g.top + 0 ≡ g.top = omega arith in
       let first = rw z0 at (word 0 (omega arith)) in
       let kept = slot_kept i (local l) small in
-      let fresh-rest = pend-bound c.declared c.tables S l u.fresh (storeIn i.fr) i.α (full (signed low +ℤ pos 0)) (number_of a.E) a.form.n
+      let fresh-rest = pend-bound c.declared c.tables S l u.fresh (store_in i.fr) i.α (full (signed low +ℤ pos 0)) (number_of a.E) a.form.n
       a.is a.form.scoped a.form.rest in
       let inside : Inside u.binds.body.good.scope l a.is = record { outer = S; scope = u.scope; fresh = u.fresh; scoped = a.form.scoped } in
       down-range i l (signed low) (high - low) a.E u.body a.is small good
@@ -146,7 +146,7 @@ module _ {w : Words} {g : Go} {low high : ℕ} (x : Valued w g someCode low high
         current = low;
         value = sym zero_is;
         after = record {
-          fits = rw (word 2 (omega arith)) x.right-fits;
+          fits = rw (word 2 (omega arith)) x.right_fits;
           order = rw (word 2 (omega arith)) order;
           count = rw (word 2 (omega arith)) refl;
           lowest = refl;
@@ -181,22 +181,22 @@ module _ {w : Words} {g : Go} {low high : ℕ} (x : Valued w g someCode low high
 -- ---- `all`
 
 -- the last value of one local is another
-last-is : (σ : Store) (l h j n : ℕ) → (j ≡ l → n ≡ h) → (¬ (j ≡ l) → n ≡ σ.last j) → n ≡ (lastStore l h σ).last j
+last-is : (σ : Store) (l h j n : ℕ) → (j ≡ l → n ≡ h) → (¬ (j ≡ l) → n ≡ σ.last j) → n ≡ (last_store l h σ).last j
 last-is σ l h j n same off = go (eqb j l) refl
   where
     go : (b : Bool) → eqb j l ≡ b → n ≡ with σ.last l h j
     go true e = let z = eqb-true j l e in same z ∙ sym (ap (with σ.last l h) z ∙ with-same σ.last l h)
     go false e = let z = eqb-false j l e in off z ∙ sym (with-other σ.last l h j z)
 
-module _ {w : Words} {g : Go} {low high : ℕ} (x : Valued w g allCode low high) where
+module _ {w : Words} {g : Go} {low high : ℕ} (x : Valued w g all_code low high) where
   module _ {c : World} {b : Bytes} (i : In c b w g) where
-    abbrev covered : AtForm i allCode
+    abbrev covered : AtForm i all_code
     covered = at-form i x.at.code (omega arith) (omega arith)
 
     all-tree : tree c i.fr i.x i.α ≡
-        roundsAt (λ k t β. growAt c.declared (filled covered.E covered.under.body) k t β) covered.under.l
-        (λ s β. treeItems c.declared covered.is s β) (count (signed low) (signed high)) (signed low) (siteIn i.fr) i.α
-    unfolding growAt fill bounded pair_of
+        rounds_at (λ k t β. grow_at c.declared (filled covered.E covered.under.body) k t β) covered.under.l
+        (λ s β. tree_items c.declared covered.is s β) (count (signed low) (signed high)) (signed low) (site_in i.fr) i.α
+    unfolding grow_at fill bounded pair_of
     all-tree =
         let a = covered in
         let u = a.under in
@@ -208,48 +208,48 @@ module _ {w : Words} {g : Go} {low high : ℕ} (x : Valued w g allCode low high)
         let a = covered in
         let u = a.under in
         let p = a.form.place in
-        let e : g.due + 5 ≡ tokenSlot (suc a.form.h) + 1 = omega arith in
+        let e : g.due + 5 ≡ token_slot (suc a.form.h) + 1 = omega arith in
         ap (λ k. get_or w k 0) e ∙ operand-kept c.tables w i.path.tables.tokens u.binds.local.0 u.binds.local.1
 
-    all-body : get_or w (g.due + 7) 0 ≡ tokenSlot (body_of c.tables covered.form.h)
+    all-body : get_or w (g.due + 7) 0 ≡ token_slot (body_of c.tables covered.form.h)
     all-body =
         let a = covered in
         let p = a.form.place in
-        let e : g.due + 7 ≡ tokenSlot (suc a.form.h) + 3 = omega arith in
-        ap (λ k. get_or w k 0) e ∙ i.path.tables.tokens (tokenSlot (suc a.form.h) + 3) (omega (arith, a.under.binds.near)) ∙ a.under.binds.leads
+        let e : g.due + 7 ≡ token_slot (suc a.form.h) + 3 = omega arith in
+        ap (λ k. get_or w k 0) e ∙ i.path.tables.tokens (token_slot (suc a.form.h) + 3) (omega (arith, a.under.binds.near)) ∙ a.under.binds.leads
 
-  pub all_near : (get_or w (g.due + 5) 0 < maxLocals) × (g.due + 7 < pathAt)
+  pub all_near : (get_or w (g.due + 5) 0 < max_locals) × (g.due + 7 < path_at)
   all_near = let i = x.at.at.ins in (rw (all_local i) (covered i).under.binds.small, omega (arith, (covered i).form.place, (covered i).form.inside))
 
   pub all_none : high < low → GoesOn w g
-  unfolding roundsAt
+  unfolding rounds_at
   all_none h = record {
     at = x.at.at;
     son = λ c b i. let a = covered i in (a.is, all-tree i ∙ rw (count_none low high h), next-job i a a.under.next);
   }
 
-  pub all-begin : low ≤ high → {v mid w' : Words} {l slot : ℕ} → l ≡ get_or w (g.due + 5) 0 → slot ≡ localSlot l →
+  pub all-begin : low ≤ high → {v mid w' : Words} {l slot : ℕ} → l ≡ get_or w (g.due + 5) 0 → slot ≡ local_slot l →
       Pushes w v g.top (at w slot ∷ at w (slot + 1) ∷ last_at w l ∷ g.due ∷ []) → Lasts v mid l high → w' ≡ set (set mid slot 1) (slot + 1) low →
-      {q : Go} → q ≡ downGo g (get_or w (g.due + 7) 0) (g.top + 4) g.inner g.bad → Stepped w w' g q
-  unfolding roundsAt treeItems
+      {q : Go} → q ≡ down_go g (get_or w (g.due + 7) 0) (g.top + 4) g.inner g.bad → Stepped w w' g q
+  unfolding rounds_at tree_items
   all-begin order {v} {mid} {w'} {l = l₀} {slot = slot} e₀ es p ls words e = stepped x.at.at e (λ c b i.
       let a = covered i in
       let u = a.under in
       let l = u.l in
       let S = a.form.stands.good.scope in
-      let σ = storeIn i.fr in
+      let σ = store_in i.fr in
       let low-top = top-low i in
       let room = top-room i in
       let small = u.binds.small in
       let l-is : l₀ ≡ l = e₀ ∙ all_local i in
-      let small₀ : l₀ < maxLocals = rw l-is small in
-      let el : slot ≡ slot_of (local l) = es ∙ ap localSlot l-is in
+      let small₀ : l₀ < max_locals = rw l-is small in
+      let el : slot ≡ slot_of (local l) = es ∙ ap local_slot l-is in
       let new : Saved 1 low (full (signed low)) = (refl, sym (biased-signed low)) in
       let al : Altered mid w' (local l) (full (signed low)) =
       alter mid (local l) 1 low el small (omega (arith, p.size, ls.size)) words (full (signed low)) new in
-      let good : T (in32 (signed low)) = signed-in32 low x.left-fits in
+      let good : T (in32 (signed low)) = signed-in32 low x.left_fits in
       let z = in_table (local l) small in
-      let off : (j : ℕ) → firstsAt ≤ j → get_or w' j 0 ≡ get_or mid j 0 = λ j h. al.others j (λ e. omega (arith, z.high)) (λ e. omega (arith, z.high)) in
+      let off : (j : ℕ) → firsts_at ≤ j → get_or w' j 0 ≡ get_or mid j 0 = λ j h. al.others j (λ e. omega (arith, z.high)) (λ e. omega (arith, z.high)) in
       let word : (k : ℕ) → k < 4 → get_or w' (g.top + k) 0 ≡ get_or (at w slot ∷ at w (slot + 1) ∷ last_at w l₀ ∷ g.due ∷ []) k 0 =
       λ k h. off (g.top + k) (omega arith) ∙ ls.others (g.top + k) (λ e. omega arith) ∙ p.words k h in
       let z0 : g.top + 0 ≡ g.top = omega arith in
@@ -261,7 +261,7 @@ module _ {w : Words} {g : Go} {low high : ℕ} (x : Valued w g allCode low high)
       let rest₂ = pend-last c.declared c.tables S l u.fresh σ (put i.α (local l) (full (signed low))) high (number_of a.E) a.form.n a.is
       a.form.scoped rest₁ in
       let envs = env-last σ l high a.E a.form.env in
-      let stored : Stored c w' (lastStore l high σ) = record {
+      let stored : Stored c w' (last_store l high σ) = record {
         lasts = λ j h. last-is σ l high j (last_at w' j)
             (λ y. rw y (off _ (omega arith) ∙ ap (last_at mid) (sym l-is) ∙ ls.now))
             (λ n. off _ (omega arith) ∙ ls.others _ (λ e. n (omega arith)) ∙ p.low _ (omega arith) ∙ st.lasts j h);
@@ -308,7 +308,7 @@ module _ {w : Words} {g : Go} {low high : ℕ} (x : Valued w g allCode low high)
             left = record {
               current = low;
               value = put_same i.α (local l) (full (signed low));
-              after = rw (with-same σ.last l high) (record { fits = x.right-fits; order = order; count = refl; lowest = refl });
+              after = rw (with-same σ.last l high) (record { fits = x.right_fits; order = order; count = refl; lowest = refl });
             };
             env = envs;
             later = omega arith;

@@ -9,19 +9,19 @@ use lib.IntN.{ℤ}
 use Rattle.specification.specs.Lines.{Declared}
 use Rattle.specification.specs.Place.{Place, local}
 use Rattle.specification.specs.Value.{Valuation}
-use Rattle.tables.specs.Layout.{first_slot, procSlot, pathAt, maxProcs, maxLocals, maxParameters}
-use Rattle.tables.specs.Ranges.{rangeSlot}
+use Rattle.tables.specs.Layout.{first_slot, proc_slot, path_at, max_procs, max_locals, max_parameters}
+use Rattle.tables.specs.Ranges.{range_slot}
 use Rattle.tables.proofs.Laws.Ranges.{SameRanges}
 use Rattle.sheet.specs.Tables.{Words}
 use Rattle.sheet.proofs.Ranged.{ranges-keep}
 use Rattle.terms.specs.Environment.{Level, Environment}
-use Rattle.tables.specs.Frames.{framesAt, frameSlot, argumentSlot}
-use Rattle.tables.specs.Layout.{lastsAt}
-use Rattle.tables.specs.Leaves.{endPlace, errorPlace}
+use Rattle.tables.specs.Frames.{frames_at, frame_slot, argument_slot}
+use Rattle.tables.specs.Layout.{lasts_at}
+use Rattle.tables.specs.Leaves.{end_place, error_place}
 use Rattle.search.specs.Kept.{Kept, SameStore}
 use Rattle.search.specs.Store.{Call, Store}
 use Rattle.search.specs.Site.{Site}
-use Rattle.search.specs.Frame.{Frame, pass, other, bound, began, given, range, asks, called, size_of, top_of, siteIn, storeIn}
+use Rattle.search.specs.Frame.{Frame, pass, other, bound, began, given, range, asks, called, size_of, top_of, site_in, store_in}
 use Rattle.search.specs.Records.{at, SlotRecord, FrameKept, CallRecord, RecordAt, Stack}
 use Rattle.search.specs.Path.{World, Procedures, Tables}
 use Rattle.tables.specs.Leaves.{Leaves}
@@ -29,7 +29,7 @@ use Rattle.tables.specs.Leaves.{Leaves}
 -- ---- records
 
 -- records begin where the path does
-pub top-low : (fr : List Frame) → pathAt ≤ top_of fr
+pub top-low : (fr : List Frame) → path_at ≤ top_of fr
 top-low [] = omega arith
 top-low (f ∷ fr) = omega (arith, top-low fr)
 
@@ -129,9 +129,9 @@ module _ (D : Declared) (t w w' : Words) (a : ℕ) (u : Site) (σ : Store) where
       s-at : (j : ℕ) {k : ℕ} → j < length C.level.arguments + 4 → k ≡ a + j → at w' k ≡ at w k
       s-at j {k} h e = rw e (s.same j h)
 
-pub stack-keep : (D : Declared) (t w w' : Words) (fr : List Frame) → ((j : ℕ) → pathAt ≤ j → j < top_of fr → at w' j ≡ at w j) → Stack D t w fr → Stack D t w' fr
+pub stack-keep : (D : Declared) (t w w' : Words) (fr : List Frame) → ((j : ℕ) → path_at ≤ j → j < top_of fr → at w' j ≡ at w j) → Stack D t w fr → Stack D t w' fr
 stack-keep D t w w' [] s q = q
 stack-keep D t w w' (f ∷ fr) s q = (
-  record-keep D t w w' (top_of fr) (siteIn fr) (storeIn fr) f (record { same = λ j h. s (top_of fr + j) (omega (arith, top-low fr)) (omega arith) }) q.0,
+  record-keep D t w w' (top_of fr) (site_in fr) (store_in fr) f (record { same = λ j h. s (top_of fr + j) (omega (arith, top-low fr)) (omega arith) }) q.0,
   stack-keep D t w w' fr (λ j l h. s j l (omega arith)) q.1,
 )

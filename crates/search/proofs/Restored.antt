@@ -12,29 +12,29 @@ use Rattle.specification.specs.Lines.{Declared}
 use Rattle.specification.specs.Place.{Place, local, put}
 use Rattle.specification.specs.Value.{Slot, empty, full, Valuation}
 use Rattle.specification.proofs.Laws.Place.{put_same, put_other}
-use Rattle.tables.specs.Layout.{cellsAt, firstsAt, tokenSlot, localSlot, pathAt, nodeSlot}
+use Rattle.tables.specs.Layout.{cells_at, firsts_at, token_slot, local_slot, path_at, node_slot}
 use Rattle.tables.specs.Kept.{SameSlots}
-use Rattle.tables.specs.Codes.{someCode, allCode}
+use Rattle.tables.specs.Codes.{some_code, all_code}
 use Rattle.sheet.specs.Tables.{Words}
 use Rattle.sheet.specs.Held.{slot_of, Holds, operand_at}
 use Rattle.terms.specs.Environment.{Environment}
 use Rattle.terms.proofs.Laws.Here.{operand-here, operand-kept}
-use Rattle.search.specs.Marks.{InTable, marksIn, Marks}
+use Rattle.search.specs.Marks.{InTable, marks_in, Marks}
 use Rattle.search.specs.declared.Go.{Go}
-use Rattle.search.specs.Records.{hadUnit}
+use Rattle.search.specs.Records.{had_unit}
 use Rattle.tables.specs.Layout.{last_at}
 use Rattle.search.specs.Kept.{Kept, SameStore, Lasts}
 use Rattle.search.specs.Store.{Store}
-use Rattle.search.specs.Walk.{sonsFrom}
-use Rattle.search.specs.Frame.{Item, Frame, pass, bound, began, given, range, here, below, len, size_of, top_of, siteIn, storeIn}
+use Rattle.search.specs.Walk.{sons_from}
+use Rattle.search.specs.Frame.{Item, Frame, pass, bound, began, given, range, here, below, len, size_of, top_of, site_in, store_in}
 use Rattle.search.specs.Site.{Site}
 use Rattle.search.specs.Records as records
 use Rattle.search.specs.Records.{at, SlotRecord}
 use Rattle.search.specs.Path.{World, Stored, Path}
 use Rattle.search.specs.Sim.{yes, no, Up, Yes, Sim, up}
-use Rattle.search.specs.Registers.{dropGo}
+use Rattle.search.specs.Registers.{drop_go}
 use Rattle.search.specs.Climb.{strip, Set, Rises, Rose, Wins, Fell}
-use Rattle.search.specs.States.{upMode}
+use Rattle.search.specs.States.{up_mode}
 use Rattle.search.proofs.RecordsKept.{top-low}
 use Rattle.search.proofs.Sites.{bound-other}
 use Rattle.search.proofs.Slots.{in_table, holds-keep, holds-back, marks-keep, marks-off, altered-marks, Altered, second_word, alter}
@@ -46,51 +46,51 @@ use Rattle.search.proofs.Tops.{top-undo, top-some, top-all}
 -- ---- the path without its topmost frame, whose slot is put back
 
 module _ {c : World} {w : Words} {top : ℕ} {α : Valuation} {f : Frame} {fr : List Frame} (P : Path c w top α (f ∷ fr)) where
-  pub words-there : pathAt ≤ length w
+  pub words-there : path_at ≤ length w
   words-there = omega (arith, P.tables.size)
 
   -- the words mid are w, but for the store
-  module _ {mid w' : Words} {slot : ℕ} (p : Place) (s : Slot) (had old : ℕ) (b : below f ≡ put (here f) p s) (k : records.Kept c.declared had old p (siteIn fr) (here f))
-      (off : (q : Place) → ¬ (q ≡ p) → (siteIn (f ∷ fr)).marks q ≡ (siteIn fr).marks q) (e : slot ≡ slot_of p) (m : Kept (top_of fr) w mid)
-      (same : (j : ℕ) → cellsAt ≤ j → j < firstsAt → get_or mid j 0 ≡ get_or w j 0) (words : w' ≡ set (set mid slot had) (slot + 1) old) where
+  module _ {mid w' : Words} {slot : ℕ} (p : Place) (s : Slot) (had old : ℕ) (b : below f ≡ put (here f) p s) (k : records.Kept c.declared had old p (site_in fr) (here f))
+      (off : (q : Place) → ¬ (q ≡ p) → (site_in (f ∷ fr)).marks q ≡ (site_in fr).marks q) (e : slot ≡ slot_of p) (m : Kept (top_of fr) w mid)
+      (same : (j : ℕ) → cells_at ≤ j → j < firsts_at → get_or mid j 0 ≡ get_or w j 0) (words : w' ≡ set (set mid slot had) (slot + 1) old) where
     put_back : Altered mid w' p (here f p)
     put_back = alter mid p had old e k.inside (omega (arith, m.size, words-there)) words (here f p) k.saved
 
     pub back-kept : Kept (top_of fr) w w'
     back-kept = kept-both m (altered-kept k.inside put_back (top_of fr))
 
-    pub back-path : Stored c w' (storeIn fr) → Path c w' (top_of fr) (here f) fr
+    pub back-path : Stored c w' (store_in fr) → Path c w' (top_of fr) (here f) fr
     back-path st =
         let slots : SameSlots w mid = record { same = same } in
         let β = here f in
         let under : α ≡ put β p s = P.chain.0 ∙ b in
         path-pop P back-kept
         (holds-back put_back k.inside β s refl (holds-keep slots (subst (Holds w) under P.holds)))
-        (altered-marks put_back k.inside (put β p s) β (marksIn c.declared (siteIn (f ∷ fr)).marks) (marksIn c.declared (siteIn fr).marks)
-        (marks-keep slots (subst (λ γ. Marks w γ (marksIn c.declared (siteIn (f ∷ fr)).marks)) under P.marks)) (λ q n. sym (put_other β p s q n))
+        (altered-marks put_back k.inside (put β p s) β (marks_in c.declared (site_in (f ∷ fr)).marks) (marks_in c.declared (site_in fr).marks)
+        (marks-keep slots (subst (λ γ. Marks w γ (marks_in c.declared (site_in (f ∷ fr)).marks)) under P.marks)) (λ q n. sym (put_other β p s q n))
         (marks-off c.declared p (λ q n. sym (off q n)))
         (λ none. second_word mid p had old e k.inside (omega (arith, m.size, words-there)) words ∙ k.mark none)) st
 
 -- ---- a slot that was changed
 
 -- the two parts of a record's last word
-parts : (x s had : ℕ) → x ≡ s + hadUnit * had → had ≤ 1 → s < hadUnit → (x % hadUnit ≡ s) × (x / hadUnit ≡ had)
+parts : (x s had : ℕ) → x ≡ s + had_unit * had → had ≤ 1 → s < had_unit → (x % had_unit ≡ s) × (x / had_unit ≡ had)
 parts x s had e h l = (omega arith, omega arith)
 
 module _ {c : World} {w w' : Words} {top : ℕ} {α : Valuation} {f : Frame} {fr : List Frame} (P : Path c w top α (f ∷ fr)) (p : Place) (s : Slot)
-    (b : below f ≡ put (here f) p s) (size : size_of f ≡ 3) (q : SlotRecord c.declared w (top_of fr) p (siteIn fr) (here f))
-    (off : (r : Place) → ¬ (r ≡ p) → (siteIn (f ∷ fr)).marks r ≡ (siteIn fr).marks r) (st : storeIn (f ∷ fr) ≡ storeIn fr)
-    (words : w' ≡ set (set w (at w (top - 1) % hadUnit) (at w (top - 1) / hadUnit)) (at w (top - 1) % hadUnit + 1) (at w (top - 3))) where
-  last-is : at w (top - 1) ≡ slot_of p + hadUnit * q.had
+    (b : below f ≡ put (here f) p s) (size : size_of f ≡ 3) (q : SlotRecord c.declared w (top_of fr) p (site_in fr) (here f))
+    (off : (r : Place) → ¬ (r ≡ p) → (site_in (f ∷ fr)).marks r ≡ (site_in fr).marks r) (st : store_in (f ∷ fr) ≡ store_in fr)
+    (words : w' ≡ set (set w (at w (top - 1) % had_unit) (at w (top - 1) / had_unit)) (at w (top - 1) % had_unit + 1) (at w (top - 3))) where
+  last-is : at w (top - 1) ≡ slot_of p + had_unit * q.had
   last-is = let z : top - 1 ≡ top_of fr + 2 = omega (arith, P.ends) in ap (at w) z ∙ q.slot
 
-  slot-parts : (at w (top - 1) % hadUnit ≡ slot_of p) × (at w (top - 1) / hadUnit ≡ q.had)
+  slot-parts : (at w (top - 1) % had_unit ≡ slot_of p) × (at w (top - 1) / had_unit ≡ q.had)
   slot-parts = let z = in_table p q.kept.inside in parts (at w (top - 1)) (slot_of p) q.had last-is q.kept.flag (omega (arith, z.high))
 
   old-is : at w (top - 3) ≡ at w (top_of fr)
   old-is = let z : top - 3 ≡ top_of fr = omega (arith, P.ends) in ap (at w) z
 
-  pub undone-inner : at w (top - 2) ≡ (siteIn fr).inner
+  pub undone-inner : at w (top - 2) ≡ (site_in fr).inner
   undone-inner = let z : top - 2 ≡ top_of fr + 1 = omega (arith, P.ends) in ap (at w) z ∙ q.inner
 
   pub undone-path : Path c w' (top_of fr) (here f) fr
@@ -104,8 +104,8 @@ module _ {c : World} {w w' : Words} {top : ℕ} {α : Valuation} {f : Frame} {fr
 
 -- a finished son, once more, below
 module _ {c : World} {b : Bytes} {w w' : Words} {g : Go} (u : Up c b w g) {top inner : ℕ} where
-  pub up-again : {β : Valuation} {fr : List Frame} → Path c w' top β fr → inner ≡ (siteIn fr).inner → no c fr u.e g.tallies b ≡ c.result →
-      Up c b w' (dropGo g top inner)
+  pub up-again : {β : Valuation} {fr : List Frame} → Path c w' top β fr → inner ≡ (site_in fr).inner → no c fr u.e g.tallies b ≡ c.result →
+      Up c b w' (drop_go g top inner)
   up-again {β} {fr} P n r = record {
     fr = fr;
     α = β;
@@ -119,7 +119,7 @@ module _ {c : World} {b : Bytes} {w w' : Words} {g : Go} (u : Up c b w g) {top i
   }
 
 module _ {c : World} {b : Bytes} {w w' : Words} {g : Go} (u : Yes c b w g) {top inner : ℕ} where
-  pub yes-again : {β : Valuation} {fr : List Frame} → Path c w' top β fr → yes c fr g.tallies b ≡ c.result → Yes c b w' (dropGo g top inner)
+  pub yes-again : {β : Valuation} {fr : List Frame} → Path c w' top β fr → yes c fr g.tallies b ≡ c.result → Yes c b w' (drop_go g top inner)
   yes-again {β} {fr} P r = record {
     fr = fr;
     α = β;
@@ -133,8 +133,8 @@ top-three : {c : World} {w : Words} {top : ℕ} {α : Valuation} {f : Frame} {fr
 top-three P e = omega (arith, P.ends)
 
 -- from the invariant of a path that has a record
-pub rose : {w w' : Words} {g q : Go} {path budget top inner : ℕ} → Rises w g path budget → q ≡ dropGo g top inner → top < g.top →
-    ((c : World) (b : Bytes) → Up c b w g → Up c b w' (dropGo g top inner)) → Rose w w' g q path budget
+pub rose : {w w' : Words} {g q : Go} {path budget top inner : ℕ} → Rises w g path budget → q ≡ drop_go g top inner → top < g.top →
+    ((c : World) (b : Bytes) → Up c b w g → Up c b w' (drop_go g top inner)) → Rose w w' g q path budget
 rose r e h f = rw e (record {
   sim = λ c b s u. up r.mode (f c b u);
   nodes = refl;
@@ -142,34 +142,34 @@ rose r e h f = rw e (record {
   falls = λ m. h;
 })
 
-pub fell : {w w' : Words} {g q : Go} {top inner : ℕ} → q ≡ dropGo g top inner → top < g.top →
-    ((c : World) (b : Bytes) → Yes c b w g → Yes c b w' (dropGo g top inner)) → Fell w w' g q
+pub fell : {w w' : Words} {g q : Go} {top inner : ℕ} → q ≡ drop_go g top inner → top < g.top →
+    ((c : World) (b : Bytes) → Yes c b w g → Yes c b w' (drop_go g top inner)) → Fell w w' g q
 fell e h f = rw e (record { yes = f; nodes = refl; falls = h })
 
-module _ {w w' : Words} {g : Go} (some : ¬ (g.top ≡ pathAt)) (slot : cellsAt ≤ at w (g.top - 1))
-    (words : w' ≡ set (set w (at w (g.top - 1) % hadUnit) (at w (g.top - 1) / hadUnit)) (at w (g.top - 1) % hadUnit + 1) (at w (g.top - 3))) where
-  undo-up : (c : World) (b : Bytes) → Up c b w g → Up c b w' (dropGo g (g.top - 3) (at w (g.top - 2)))
+module _ {w w' : Words} {g : Go} (some : ¬ (g.top ≡ path_at)) (slot : cells_at ≤ at w (g.top - 1))
+    (words : w' ≡ set (set w (at w (g.top - 1) % had_unit) (at w (g.top - 1) / had_unit)) (at w (g.top - 1) % had_unit + 1) (at w (g.top - 3))) where
+  undo-up : (c : World) (b : Bytes) → Up c b w g → Up c b w' (drop_go g (g.top - 3) (at w (g.top - 2)))
   undo-up c b u =
       let s = up-strip c u in
-      top-undo (λ fr. Left c b g u.e fr → Up c b w' (dropGo g (g.top - 3) (at w (g.top - 2)))) some slot
+      top-undo (λ fr. Left c b g u.e fr → Up c b w' (drop_go g (g.top - 3) (at w (g.top - 2)))) some slot
       (λ l x β fr P q.
-      up-again u {β = β} {fr = fr} (rw (top-three P refl) (undone-path P (local l) x refl refl P.stack.0 (bound-other l (siteIn fr)) refl words))
-      (undone-inner P (local l) x refl refl P.stack.0 (bound-other l (siteIn fr)) refl words) q.1)
+      up-again u {β = β} {fr = fr} (rw (top-three P refl) (undone-path P (local l) x refl refl P.stack.0 (bound-other l (site_in fr)) refl words))
+      (undone-inner P (local l) x refl refl P.stack.0 (bound-other l (site_in fr)) refl words) q.1)
       (λ p v β fr P q.
       up-again u {β = β} {fr = fr} (rw (top-three P refl) (undone-path P p (full v) refl refl P.stack.0 (λ r n. refl) refl words))
       (undone-inner P p (full v) refl refl P.stack.0 (λ r n. refl) refl words) q.1)
       s.fr s.bare s.path s.said
 
-  undo-yes : (c : World) (b : Bytes) → Yes c b w g → Yes c b w' (dropGo g (g.top - 3) (at w (g.top - 2)))
+  undo-yes : (c : World) (b : Bytes) → Yes c b w g → Yes c b w' (drop_go g (g.top - 3) (at w (g.top - 2)))
   undo-yes c b u =
       let s = yes-strip c u in
-      top-undo (λ fr. yes c fr g.tallies b ≡ c.result → Yes c b w' (dropGo g (g.top - 3) (at w (g.top - 2)))) some slot
-      (λ l x β fr P q. yes-again u {β = β} {fr = fr} (rw (top-three P refl) (undone-path P (local l) x refl refl P.stack.0 (bound-other l (siteIn fr)) refl words)) q)
+      top-undo (λ fr. yes c fr g.tallies b ≡ c.result → Yes c b w' (drop_go g (g.top - 3) (at w (g.top - 2)))) some slot
+      (λ l x β fr P q. yes-again u {β = β} {fr = fr} (rw (top-three P refl) (undone-path P (local l) x refl refl P.stack.0 (bound-other l (site_in fr)) refl words)) q)
       (λ p v β fr P q. yes-again u {β = β} {fr = fr} (rw (top-three P refl) (undone-path P p (full v) refl refl P.stack.0 (λ r n. refl) refl words)) q)
       s.fr s.bare s.path s.said
 
-  pub rose-undone : {path budget : ℕ} {q : Go} → Rises w g path budget → q ≡ dropGo g (g.top - 3) (at w (g.top - 2)) → Rose w w' g q path budget
+  pub rose-undone : {path budget : ℕ} {q : Go} → Rises w g path budget → q ≡ drop_go g (g.top - 3) (at w (g.top - 2)) → Rose w w' g q path budget
   rose-undone r e = rose r e (let z = r.up.path.ends in omega (arith, top-low r.up.fr)) undo-up
 
-  pub fell-undone : {q : Go} (u : Wins w g) → q ≡ dropGo g (g.top - 3) (at w (g.top - 2)) → Fell w w' g q
+  pub fell-undone : {q : Go} (u : Wins w g) → q ≡ drop_go g (g.top - 3) (at w (g.top - 2)) → Fell w w' g q
   fell-undone u e = fell e (let z = u.yes.path.ends in omega (arith, top-low u.yes.fr)) undo-yes

@@ -14,23 +14,23 @@ use Rattle.specification.specs.Number.{in32}
 use Rattle.specification.specs.Place.{Place, local, put}
 use Rattle.specification.specs.Value.{Slot, empty, full, Valuation}
 use Rattle.specification.specs.Run.{tallies}
-use Rattle.tables.specs.Layout.{cellsAt, tokenSlot, localSlot, pathAt, nodeSlot, maxTokens}
-use Rattle.tables.specs.Codes.{orCode, someCode}
+use Rattle.tables.specs.Layout.{cells_at, token_slot, local_slot, path_at, node_slot, max_tokens}
+use Rattle.tables.specs.Codes.{or_code, some_code}
 use Rattle.sheet.specs.Tables.{Words}
 use Rattle.sheet.specs.Held.{slot_of, Holds, operand_at, end_at}
 use Rattle.terms.specs.Environment.{Environment, number_of}
 use Rattle.terms.proofs.Laws.Here.{operand-here}
-use Rattle.search.specs.Marks.{InTable, marksIn, Marks}
+use Rattle.search.specs.Marks.{InTable, marks_in, Marks}
 use Rattle.search.specs.declared.Go.{Go}
 use Rattle.plan.specs.Next.{Next, token, place_of}
-use Rattle.search.specs.Walk.{walk, sonsFrom}
-use Rattle.search.specs.Frame.{Item, form, What, the, Frame, pass, other, bound, began, given, range, asks, called, here, below, len, size_of, top_of, innerIn, siteIn, storeIn}
+use Rattle.search.specs.Walk.{walk, sons_from}
+use Rattle.search.specs.Frame.{Item, form, What, the, Frame, pass, other, bound, began, given, range, asks, called, here, below, len, size_of, top_of, inner_in, site_in, store_in}
 use Rattle.search.specs.Records.{at, bit}
-use Rattle.search.specs.Path.{World, conditionsOf, Job, Stored, Path}
+use Rattle.search.specs.Path.{World, conditions_of, Job, Stored, Path}
 use Rattle.search.specs.Sim.{yes, no, tree, Down, Up, Yes, Over, Sim, down, done}
-use Rattle.search.specs.Registers.{tallied, Tallied, Gauge, outGo, dropGo, resumeGo}
+use Rattle.search.specs.Registers.{tallied, Tallied, Gauge, out_go, drop_go, resume_go}
 use Rattle.search.specs.Climb.{strip, Set, Rises, Rose, Wins, Fell}
-use Rattle.search.specs.States.{upMode, downMode, doneMode}
+use Rattle.search.specs.States.{up_mode, down_mode, done_mode}
 use Rattle.search.proofs.RecordsKept.{top-low}
 use Rattle.search.proofs.Restored.{yes-again, fell}
 use Rattle.search.proofs.Sites.{site-depth}
@@ -42,25 +42,25 @@ use Rattle.search.proofs.Tops.{not-stripped, top-other}
 -- ---- a son is due, all visits counted
 
 module _ (g : Go) (due depth top inner bad path budget : ℕ) where
-  resume-gauge : {c : World} → Set c path budget → Tallied c g → depth ≤ path → Gauge c (resumeGo g due depth top inner bad path budget)
+  resume-gauge : {c : World} → Set c path budget → Tallied c g → depth ≤ path → Gauge c (resume_go g due depth top inner bad path budget)
   resume-gauge st q h = record {
     tallies = record { fits = q.fits; budget = q.budget; leaves = q.leaves };
     begun = omega arith;
     below = omega arith;
-    stop = rw (st.path-is, st.budget-is) refl;
+    stop = rw (st.path_is, st.budget_is) refl;
   }
 
-  resume-tallied : tallied (resumeGo g due depth top inner bad path budget) ≡ g.tallies
+  resume-tallied : tallied (resume_go g due depth top inner bad path budget) ≡ g.tallies
   resume-tallied =
       let same : g.tallies.nodes + (depth - depth) ≡ g.tallies.nodes = omega arith in
       ap (λ n. tallies n g.tallies.answers g.tallies.errors g.tallies.fails) same
 
 -- the frame f on top
 pub resumed : {c : World} {b : Bytes} {w : Words} {g : Go} {path budget : ℕ} → Set c path budget → Tallied c g → (f : Frame) (fr : List Frame)
-    {due depth top inner bad : ℕ} → Path c w top (below f) (f ∷ fr) → depth ≡ suc (len fr) → (x : What) (e : Bool) → inner ≡ (siteIn (f ∷ fr)).inner → bad ≡ bit e →
-    Job c w (storeIn (f ∷ fr)) (below f) due x →
-    walk (conditionsOf c) (innerIn (f ∷ fr)) (suc (suc (len fr))) (tree c (f ∷ fr) x (below f)) (yes c (f ∷ fr)) (no c (f ∷ fr)) e g.tallies b ≡ c.result →
-    Down c b w (resumeGo g due depth top inner bad path budget)
+    {due depth top inner bad : ℕ} → Path c w top (below f) (f ∷ fr) → depth ≡ suc (len fr) → (x : What) (e : Bool) → inner ≡ (site_in (f ∷ fr)).inner → bad ≡ bit e →
+    Job c w (store_in (f ∷ fr)) (below f) due x →
+    walk (conditions_of c) (inner_in (f ∷ fr)) (suc (suc (len fr))) (tree c (f ∷ fr) x (below f)) (yes c (f ∷ fr)) (no c (f ∷ fr)) e g.tallies b ≡ c.result →
+    Down c b w (resume_go g due depth top inner bad path budget)
 resumed {g = g} {path = path} {budget = budget} st q f fr {due} {depth} {top} {inner} {bad} P deep x e n m j r = record {
   x = x;
   fr = f ∷ fr;
@@ -71,13 +71,13 @@ resumed {g = g} {path = path} {budget = budget} st q f fr {due} {depth} {top} {i
   inner = n;
   bad = m;
   job = j;
-  gauge = resume-gauge g due depth top inner bad path budget st q (omega (arith, P.inside, st.path-is));
+  gauge = resume-gauge g due depth top inner bad path budget st q (omega (arith, P.inside, st.path_is));
   result = rw (resume-tallied g due depth top inner bad path budget, deep) r;
 }
 
 -- a step up to a visit
-pub rose-down : {w w' : Words} {g q : Go} {due depth top inner bad path budget : ℕ} → q ≡ resumeGo g due depth top inner bad path budget →
-    ((c : World) (b : Bytes) → Set c path budget → Up c b w g → Down c b w' (resumeGo g due depth top inner bad path budget)) → Rose w w' g q path budget
+pub rose-down : {w w' : Words} {g q : Go} {due depth top inner bad path budget : ℕ} → q ≡ resume_go g due depth top inner bad path budget →
+    ((c : World) (b : Bytes) → Set c path budget → Up c b w g → Down c b w' (resume_go g due depth top inner bad path budget)) → Rose w w' g q path budget
 rose-down e f = rw e (record {
   sim = λ c b s u. down refl (f c b s u);
   nodes = refl;
@@ -87,24 +87,24 @@ rose-down e f = rw e (record {
 
 -- ---- the second son of an `or`
 
-module _ {w : Words} {g : Go} (some : ¬ (g.top ≡ pathAt)) (low : at w (g.top - 1) < cellsAt) (code : at w (at w (g.top - 1)) ≡ orCode) where
-  pub rose-other : {path budget : ℕ} {q : Go} → q ≡ resumeGo g (at w (at w (g.top - 1) + 1)) (at w (g.top - 2)) (g.top - 2) g.inner g.bad path budget →
+module _ {w : Words} {g : Go} (some : ¬ (g.top ≡ path_at)) (low : at w (g.top - 1) < cells_at) (code : at w (at w (g.top - 1)) ≡ or_code) where
+  pub rose-other : {path budget : ℕ} {q : Go} → q ≡ resume_go g (at w (at w (g.top - 1) + 1)) (at w (g.top - 2)) (g.top - 2) g.inner g.bad path budget →
       Rose w w g q path budget
   rose-other {path} {budget} e = rose-down e (λ c b st u.
       let s = up-strip c u in
-      top-other (λ fr. Left c b g u.e fr → Down c b w (resumeGo g (at w (at w (g.top - 1) + 1)) (at w (g.top - 2)) (g.top - 2) g.inner g.bad path budget))
+      top-other (λ fr. Left c b g u.e fr → Down c b w (resume_go g (at w (at w (g.top - 1) + 1)) (at w (g.top - 2)) (g.top - 2) g.inner g.bad path budget))
       some low code
       (λ E G is β fr P left.
       let r = P.stack.0 in
       let z1 : g.top - 1 ≡ top_of fr + 1 = omega (arith, P.ends) in
       let z2 : g.top - 2 ≡ top_of fr = omega (arith, P.ends) in
-      let tok : at w (g.top - 1) ≡ tokenSlot r.h = ap (at w) z1 ∙ r.token in
+      let tok : at w (g.top - 1) ≡ token_slot r.h = ap (at w) z1 ∙ r.token in
       let deep : at w (g.top - 2) ≡ suc (len fr) = ap (at w) z2 ∙ r.depth ∙ ap suc (site-depth fr) in
-      let due : at w (at w (g.top - 1) + 1) ≡ tokenSlot (end_at c.tables (suc r.h)) =
+      let due : at w (at w (g.top - 1) + 1) ≡ token_slot (end_at c.tables (suc r.h)) =
       ap (λ k. at w (k + 1)) tok ∙ operand-here c.tables w P.tables.tokens r.small ∙ r.leads in
       resumed st u.tallies (pass β) fr
       (path-top P (kept_refl (top_of fr) w) (pass β) (omega (arith, P.ends)) refl tt (subst (Holds w) P.chain.0 P.holds)
-      (subst (λ γ. Marks w γ (marksIn c.declared (siteIn fr).marks)) P.chain.0 P.marks) P.stored P.chain.1)
+      (subst (λ γ. Marks w γ (marks_in c.declared (site_in fr).marks)) P.chain.0 P.marks) P.stored P.chain.1)
       deep (the (form E G ∷ is)) u.e left.0 u.bad
       (record {
         m = number_of E;
@@ -127,28 +127,28 @@ module _ {w : Words} {g : Go} (some : ¬ (g.top ≡ pathAt)) (low : at w (g.top 
       s.fr s.bare s.path s.said)
 
   -- it is not visited after a success
-  other-yes : (c : World) (b : Bytes) → Yes c b w g → Yes c b w (dropGo g (g.top - 2) g.inner)
+  other-yes : (c : World) (b : Bytes) → Yes c b w g → Yes c b w (drop_go g (g.top - 2) g.inner)
   other-yes c b u =
       let s = yes-strip c u in
-      top-other (λ fr. yes c fr g.tallies b ≡ c.result → Yes c b w (dropGo g (g.top - 2) g.inner)) some low code
+      top-other (λ fr. yes c fr g.tallies b ≡ c.result → Yes c b w (drop_go g (g.top - 2) g.inner)) some low code
       (λ E G is β fr P r.
       let z : g.top - 2 ≡ top_of fr = omega (arith, P.ends) in
       yes-again u {β = β} {fr = fr}
       (rw z
       (path-pop P (kept_refl (top_of fr) w) (subst (Holds w) P.chain.0 P.holds)
-      (subst (λ γ. Marks w γ (marksIn c.declared (siteIn fr).marks)) P.chain.0 P.marks) P.stored)) r)
+      (subst (λ γ. Marks w γ (marks_in c.declared (site_in fr).marks)) P.chain.0 P.marks) P.stored)) r)
       s.fr s.bare s.path s.said
 
-  pub fell-other : {q : Go} → Wins w g → q ≡ dropGo g (g.top - 2) g.inner → Fell w w g q
+  pub fell-other : {q : Go} → Wins w g → q ≡ drop_go g (g.top - 2) g.inner → Fell w w g q
   fell-other u e = fell e (let z = u.yes.path.ends in omega (arith, top-low u.yes.fr)) other-yes
 
 -- ---- no record is left
 
-module _ {w : Words} {g : Go} (none : g.top ≡ pathAt) where
-  all-over : (c : World) (b : Bytes) → Up c b w g → Over c b (outGo g doneMode)
+module _ {w : Words} {g : Go} (none : g.top ≡ path_at) where
+  all-over : (c : World) (b : Bytes) → Up c b w g → Over c b (out_go g done_mode)
   all-over c b u = let s = up-strip c u in go s.fr s.bare s.path.ends s.said
     where
-      go : (fr : List Frame) → strip fr ≡ fr → g.top ≡ top_of fr → Left c b g u.e fr → Over c b (outGo g doneMode)
+      go : (fr : List Frame) → strip fr ≡ fr → g.top ≡ top_of fr → Left c b g u.e fr → Over c b (out_go g done_mode)
       go [] h z q = record {
         counted = u.counted;
         tallies = record { fits = u.tallies.fits; budget = u.tallies.budget; leaves = u.tallies.leaves };
@@ -163,7 +163,7 @@ module _ {w : Words} {g : Go} (none : g.top ≡ pathAt) where
       go (asks tok x is β e ∷ fr) h z q = absurd (omega (arith, top-low fr))
       go (called C β ∷ fr) h z q = absurd (omega (arith, top-low fr))
 
-  pub rose-over : {path budget : ℕ} {q : Go} → Rises w g path budget → q ≡ outGo g doneMode → Rose w w g q path budget
+  pub rose-over : {path budget : ℕ} {q : Go} → Rises w g path budget → q ≡ out_go g done_mode → Rose w w g q path budget
   rose-over r e = rw e (record {
     sim = λ c b s u. done refl (all-over c b u);
     nodes = refl;

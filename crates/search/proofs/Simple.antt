@@ -12,30 +12,30 @@ use lib.Dec.{eqb}
 use borrow.Author.Tests.{eq-eqb, ne_eqb}
 use Rattle.specification.specs.Bytes.{Bytes}
 use Rattle.specification.specs.Fill.{fill}
-use Rattle.specification.specs.Arithmetic.{undecidedInside}
+use Rattle.specification.specs.Arithmetic.{undecided_inside}
 use Rattle.specification.specs.Value.{Valuation}
 use Rattle.specification.specs.Tree.{step}
 use Rattle.tables.specs.Kept.{SameSlots}
-use Rattle.tables.specs.Codes.{trueCode, andCode, orCode}
-use Rattle.tables.specs.Layout.{tokenSlot, nodeSlot, pathAt, maxTokens, maxPath}
+use Rattle.tables.specs.Codes.{true_code, and_code, or_code}
+use Rattle.tables.specs.Layout.{token_slot, node_slot, path_at, max_tokens, max_path}
 use Rattle.sheet.specs.Tables.{Words}
 use Rattle.sheet.specs.Held.{code_at}
 use Rattle.terms.specs.Environment.{number_of}
 use Rattle.search.specs.declared.Go.{Go}
 use Rattle.tables.specs.Layout.{plan_at}
-use Rattle.tables.specs.Leaves.{successPlace, errorPlace, emptyCode, kind_at, tokenAt}
+use Rattle.tables.specs.Leaves.{success_place, error_place, empty_code, kind_at, token_at}
 use Rattle.plan.specs.Next.{Next, token, place_of}
 use Rattle.search.specs.Kept.{Kept, SameStore, Pushes}
 use Rattle.search.specs.Store.{Store}
-use Rattle.search.specs.Frame.{form, again, What, the, success, failure, error, treeItems, len, top_of, siteIn, storeIn}
-use Rattle.search.specs.Site.{growAt, doneAt}
+use Rattle.search.specs.Frame.{form, again, What, the, success, failure, error, tree_items, len, top_of, site_in, store_in}
+use Rattle.search.specs.Site.{grow_at, done_at}
 use Rattle.search.specs.Pend.{Scoped, Pend}
 use Rattle.search.specs.Records.{OrRecord}
 use Rattle.search.specs.Path.{World, Job, Path}
 use Rattle.search.specs.Sim.{Down, In, down}
-use Rattle.search.specs.Registers.{tallied, downGo}
+use Rattle.search.specs.Registers.{tallied, down_go}
 use Rattle.search.specs.Steps.{Visited, Entered, Stepped, GoesOn, OneLeaf, Errs}
-use Rattle.search.specs.States.{givenTree}
+use Rattle.search.specs.States.{given_tree}
 use Rattle.search.proofs.Sites.{site-depth}
 use Rattle.search.proofs.Changes.{kept_refl, pushed-kept, pushed-slots, pushed-store, error-kept, error-slots, error-store, error-told}
 use Rattle.search.proofs.Paths.{top-few}
@@ -45,8 +45,8 @@ use Rattle.search.proofs.Heads.{Head, here, AtForm, at-form, form-tree, at-empty
 
 -- ---- a step down
 
-pub stepped : {w w' : Words} {g q : Go} {t top inner bad : ℕ} → Visited w g → q ≡ downGo g t top inner bad →
-    ((c : World) (b : Bytes) → In c b w g → Down c b w' (downGo g t top inner bad)) → Stepped w w' g q
+pub stepped : {w w' : Words} {g q : Go} {t top inner bad : ℕ} → Visited w g → q ≡ down_go g t top inner bad →
+    ((c : World) (b : Bytes) → In c b w g → Down c b w' (down_go g t top inner bad)) → Stepped w w' g q
 stepped {t = t} {top = top} {inner = inner} {bad = bad} v e f =
     let visit = ap (λ z. z.nodes) (down-tallied v.ins.gauge v.ins.room t top inner bad) in
     rw e (record { sim = λ c b i. down refl (f c b i); counts = λ m. visit; least = omega arith })
@@ -54,7 +54,7 @@ stepped {t = t} {top = top} {inner = inner} {bad = bad} v e f =
 -- ---- where the words lie
 
 -- what is due stands before the path
-due-low : {c : World} {w : Words} {σ : Store} {α : Valuation} {due : ℕ} (x : What) → Head c σ α due w x → due + 3 < pathAt
+due-low : {c : World} {w : Words} {σ : Store} {α : Valuation} {due : ℕ} (x : What) → Head c σ α due w x → due + 3 < path_at
 due-low (the []) (inl q) = omega arith
 due-low (the (form E F ∷ is)) (inl q) = omega (arith, q.place, q.inside)
 due-low (the (again E l F k v ∷ is)) (inl q) = omega (arith, q.place, q.binds.near)
@@ -64,10 +64,10 @@ due-low (error κ tok) (inl q) = omega (arith, q.0)
 due-low x (inr q) = omega (arith, q.place, q.small)
 
 module _ {c : World} {b : Bytes} {w : Words} {g : Go} (i : In c b w g) where
-  pub top-low : pathAt ≤ g.top
+  pub top-low : path_at ≤ g.top
   top-low = let e = i.path.ends in omega (arith, tops i.fr)
     where
-      tops : (fr : _) → pathAt ≤ top_of fr
+      tops : (fr : _) → path_at ≤ top_of fr
       tops [] = omega arith
       tops (f ∷ fr) = omega (arith, tops fr)
 
@@ -98,19 +98,19 @@ pub goes_near : {w : Words} {g : Go} → GoesOn w g → g.due + 3 < length w
 goes_near x = due-near x.at.ins
 
 module _ {w : Words} {g q : Go} where
-  pub goes_on : GoesOn w g → q ≡ downGo g (get_or w (g.due + 3) 0) g.top g.inner g.bad → Stepped w w g q
+  pub goes_on : GoesOn w g → q ≡ down_go g (get_or w (g.due + 3) 0) g.top g.inner g.bad → Stepped w w g q
   goes_on x e = stepped x.at e (λ c b i.
       let s = x.son c b i in
       down-pass i (kept_refl g.top w) (same-slots w) (same_store w) (the s.0) s.1 s.2)
 
-  pub leaf-down : {t : ℕ} → OneLeaf w g t → q ≡ downGo g t g.top g.inner g.bad → Stepped w w g q
+  pub leaf-down : {t : ℕ} → OneLeaf w g t → q ≡ down_go g t g.top g.inner g.bad → Stepped w w g q
   leaf-down x e = stepped x.at e (λ c b i.
       let s = x.son c b i in
       down-pass i (kept_refl g.top w) (same-slots w) (same_store w) s.0 s.1 s.2)
 
 -- an error leaf: its kind and token stand in the words
-pub err-down : (w : Words) {w' : Words} (kind tok : ℕ) → w' ≡ set (set w (errorPlace + 1) kind) (errorPlace + 2) tok → {g q : Go} → Errs w g kind tok →
-    q ≡ downGo g errorPlace g.top g.inner g.bad → Stepped w w' g q
+pub err-down : (w : Words) {w' : Words} (kind tok : ℕ) → w' ≡ set (set w (error_place + 1) kind) (error_place + 2) tok → {g q : Go} → Errs w g kind tok →
+    q ≡ down_go g error_place g.top g.inner g.bad → Stepped w w' g q
 err-down w kind tok words {g} x e = stepped x.at e (λ c b i.
     let size = top-room i in
     let low = top-low i in
@@ -119,19 +119,19 @@ err-down w kind tok words {g} x e = stepped x.at e (λ c b i.
 
 -- ---- the empty list
 
-module _ {w : Words} {g : Go} (x : Entered w g emptyCode) where
-  pub empty-errs : g.inner ≡ givenTree → Errs w g undecidedInside 0
-  unfolding treeItems
+module _ {w : Words} {g : Go} (x : Entered w g empty_code) where
+  pub empty-errs : g.inner ≡ given_tree → Errs w g undecided_inside 0
+  unfolding tree_items
   empty-errs e = record {
     at = x.at;
-    son = λ c b i. rw (at-empty i x.code, eq-eqb (siteIn i.fr).inner givenTree (sym i.inner ∙ e)) refl;
+    son = λ c b i. rw (at-empty i x.code, eq-eqb (site_in i.fr).inner given_tree (sym i.inner ∙ e)) refl;
   }
 
-  pub empty_leaf : ¬ (g.inner ≡ givenTree) → OneLeaf w g successPlace
-  unfolding treeItems
+  pub empty_leaf : ¬ (g.inner ≡ given_tree) → OneLeaf w g success_place
+  unfolding tree_items
   empty_leaf n = record {
     at = x.at;
-    son = λ c b i. (success, rw (at-empty i x.code, ne_eqb (siteIn i.fr).inner givenTree (λ e. n (i.inner ∙ e))) refl, refl);
+    son = λ c b i. (success, rw (at-empty i x.code, ne_eqb (site_in i.fr).inner given_tree (λ e. n (i.inner ∙ e))) refl, refl);
   }
 
 -- ---- `true`
@@ -139,16 +139,16 @@ module _ {w : Words} {g : Go} (x : Entered w g emptyCode) where
 -- what comes after a formula, by its plan
 module _ {c : World} {b : Bytes} {w : Words} {g : Go} (i : In c b w g) {n : ℕ} (a : AtForm i n) where
   pub next-job : plan_at c.tables a.form.h ≡ place_of a.form.n →
-      Job c w (storeIn i.fr) i.α (get_or w (g.due + 3) 0) (the a.is)
+      Job c w (store_in i.fr) i.α (get_or w (g.due + 3) 0) (the a.is)
   next-job e = record {
     m = number_of a.E;
     next = a.form.n;
-    place = rw a.form.place (i.path.tables.tokens (tokenSlot a.form.h + 3) (omega (arith, a.form.inside)) ∙ e);
+    place = rw a.form.place (i.path.tables.tokens (token_slot a.form.h + 3) (omega (arith, a.form.inside)) ∙ e);
     rest = a.form.rest;
   }
 
-pub true-goes : {w : Words} {g : Go} → Entered w g trueCode → GoesOn w g
-unfolding growAt fill
+pub true-goes : {w : Words} {g : Go} → Entered w g true_code → GoesOn w g
+unfolding grow_at fill
 true-goes x = record {
   at = x.at;
   son = λ c b i.
@@ -158,12 +158,12 @@ true-goes x = record {
 
 -- ---- `and`
 
-module _ {w : Words} {g : Go} (x : Entered w g andCode) where
+module _ {w : Words} {g : Go} (x : Entered w g and_code) where
   pub and-near : g.due + 4 < 4294967296
   and-near = let a = at-form x.at.ins x.code (omega arith) (omega arith) in omega (arith, a.form.place, a.form.inside)
 
-  pub and-down : {q : Go} → q ≡ downGo g (g.due + 4) g.top g.inner g.bad → Stepped w w g q
-  unfolding growAt treeItems fill
+  pub and-down : {q : Go} → q ≡ down_go g (g.due + 4) g.top g.inner g.bad → Stepped w w g q
+  unfolding grow_at tree_items fill
   and-down e = stepped x.at e (λ c b i.
       let a = at-form i x.code (omega arith) (omega arith) in
       let u = a.under in
@@ -201,13 +201,13 @@ module _ {w : Words} {g : Go} (x : Entered w g andCode) where
 
 -- ---- `or`
 
-module _ {w : Words} {g : Go} (x : Entered w g orCode) where
+module _ {w : Words} {g : Go} (x : Entered w g or_code) where
   pub or-near : g.due + 4 < 4294967296
   or-near = let a = at-form x.at.ins x.code (omega arith) (omega arith) in omega (arith, a.form.place, a.form.inside)
 
-  pub or-down : {w' : Words} {q : Go} → Pushes w w' g.top ((g.depth + 1) ∷ g.due ∷ []) → q ≡ downGo g (g.due + 4) (g.top + 2) g.inner g.bad →
+  pub or-down : {w' : Words} {q : Go} → Pushes w w' g.top ((g.depth + 1) ∷ g.due ∷ []) → q ≡ down_go g (g.due + 4) (g.top + 2) g.inner g.bad →
       Stepped w w' g q
-  unfolding growAt treeItems fill
+  unfolding grow_at tree_items fill
   or-down {w'} p e = stepped x.at e (λ c b i.
       let a = at-form i x.code (omega arith) (omega arith) in
       let u = a.under in

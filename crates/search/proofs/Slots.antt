@@ -9,11 +9,11 @@ use Rattle.specification.specs.Lines.{Declared}
 use Rattle.specification.specs.Place.{Place, cell, local, put}
 use Rattle.specification.specs.Value.{Slot, empty, full, Valuation}
 use Rattle.specification.proofs.Laws.Place.{place-dec, put_same, put_other}
-use Rattle.tables.specs.Layout.{cellsAt, firstsAt, pathAt}
+use Rattle.tables.specs.Layout.{cells_at, firsts_at, path_at}
 use Rattle.tables.specs.Kept.{SameSlots}
 use Rattle.sheet.specs.Tables.{Words}
 use Rattle.sheet.specs.Held.{SlotAt, slot_of, Holds}
-use Rattle.search.specs.Marks.{InTable, marksIn, Marks}
+use Rattle.search.specs.Marks.{InTable, marks_in, Marks}
 use Rattle.search.specs.Records.{Saved}
 
 -- ---- a slot for each place
@@ -27,8 +27,8 @@ slots_apart (local a) (local b) n x y k j hk hj e = n (ap local (omega arith))
 
 -- a place's two words lie between the tokens and the arrays' first cells
 pub record Within (p : Place) : Type 0 where
-  pub low : cellsAt ≤ slot_of p
-  pub high : slot_of p + 1 < firstsAt
+  pub low : cells_at ≤ slot_of p
+  pub high : slot_of p + 1 < firsts_at
 
 pub in_table : (p : Place) → InTable p → Within p
 in_table (cell a) h = record { low = omega arith; high = omega arith }
@@ -69,7 +69,7 @@ marks-keep u h p q e =
 
 -- marks of sites that are the same elsewhere are the same in the words
 pub marks-off : (D : Declared) (p : Place) {m n : Place → ℕ} → ((q : Place) → ¬ (q ≡ p) → n q ≡ m q) →
-    (q : Place) → ¬ (q ≡ p) → marksIn D n q ≡ marksIn D m q
+    (q : Place) → ¬ (q ≡ p) → marks_in D n q ≡ marks_in D m q
 marks-off D p off (cell c) x = refl
 marks-off D p off (local l) x = off (local l) x
 
@@ -126,7 +126,7 @@ slot-of-saved w i had old empty q e f = e ∙ q
 slot-of-saved w i had old (full z) q e f = (e ∙ q.0, rw add-one at (f ∙ q.1))
 
 module _
-    (w : Words) {w' : Words} {i : ℕ} (p : Place) (had old : ℕ) (e : i ≡ slot_of p) (h : InTable p) (z : pathAt ≤ length w)
+    (w : Words) {w' : Words} {i : ℕ} (p : Place) (had old : ℕ) (e : i ≡ slot_of p) (h : InTable p) (z : path_at ≤ length w)
     (words : w' ≡ set (set w i had) (i + 1) old)
   where
     pub second_word : get_or w' (slot_of p + 1) 0 ≡ old

@@ -9,9 +9,9 @@ use Rattle.specification.specs.Bytes.{Bytes}
 use Rattle.specification.specs.Lines.{Declared}
 use Rattle.specification.specs.Value.{Valuation}
 use Rattle.sheet.specs.Tables.{Words}
-use Rattle.search.specs.Marks.{marksIn, Marks}
+use Rattle.search.specs.Marks.{marks_in, Marks}
 use Rattle.search.specs.declared.Go.{Go}
-use Rattle.search.specs.Frame.{Frame, pass, other, bound, began, given, range, asks, called, len, top_of, siteIn, storeIn}
+use Rattle.search.specs.Frame.{Frame, pass, other, bound, began, given, range, asks, called, len, top_of, site_in, store_in}
 use Rattle.search.specs.Records.{Stack}
 use Rattle.search.specs.Path.{World, Stored, Chain, Path}
 use Rattle.search.specs.Sim.{yes, no, Up, Yes}
@@ -52,7 +52,7 @@ module _ (c : World) where
 
   -- what is left to visit, and the register
   abbrev pub Left : Bytes → Go → Bool → List Frame → Type 0
-  Left b g e fr = (g.inner ≡ (siteIn fr).inner) × (no c fr e g.tallies b ≡ c.result)
+  Left b g e fr = (g.inner ≡ (site_in fr).inner) × (no c fr e g.tallies b ≡ c.result)
 
   pub up-strip : {b : Bytes} {w : Words} {g : Go} (u : Up c b w g) → Strip w g.top u.α (Left b g u.e)
   up-strip {b} {w} {g} u = stripped w g.top u.α (Left b g u.e) (λ β fr q. q) u.fr u.path (u.inner, u.result)

@@ -6,19 +6,19 @@ use mathlib.Core.List.{List}
 use lib.Dec.{T, eqb}
 use Rattle.specification.specs.Lines.{Declared}
 use Rattle.specification.specs.Ast.{Rel, Term, Formula, truth, and, or, imp, neg, eq, compare, ex, some, all, call}
-use Rattle.specification.specs.Fill.{fillTerm, fillTerms}
+use Rattle.specification.specs.Fill.{fill_term, fill_terms}
 use Rattle.specification.specs.WellFormed.{Scope, enter, OkTerm, Called, Ok}
-use Rattle.tables.specs.Layout.{maxTokens, maxLocals, maxNesting, tokenSlot}
-use Rattle.tables.specs.Codes.{trueCode, andCode, orCode, impCode, notCode, eqCode, exCode, someCode, allCode, callCode}
+use Rattle.tables.specs.Layout.{max_tokens, max_locals, max_nesting, token_slot}
+use Rattle.tables.specs.Codes.{true_code, and_code, or_code, imp_code, not_code, eq_code, ex_code, some_code, all_code, call_code}
 use Rattle.sheet.specs.Tables.{Words}
-use Rattle.sheet.specs.Codes.{relCode}
+use Rattle.sheet.specs.Codes.{rel_code}
 use Rattle.sheet.specs.Held.{operand_at, end_at, TermsAt, LocalAt, height}
-use Rattle.terms.specs.Environment.{Environment, termsOf, number_of, CallAt, Arguments}
+use Rattle.terms.specs.Environment.{Environment, terms_of, number_of, CallAt, Arguments}
 use Rattle.search.specs.Stands.{filled, line_of, Stands, body_of, Binds}
 use Rattle.tables.specs.Layout.{plan_at}
 use Rattle.plan.specs.Next.{Next, end, token, place_of}
 use Rattle.plan.specs.Planned.{TermsPlanned, ArgumentsPlanned}
-use Rattle.terms.specs.Environment.{pointerOf}
+use Rattle.terms.specs.Environment.{pointer_of}
 
 abbrev Either : Bool → Type 0 → Type 0 → Type 0
 Either true A B = A
@@ -31,18 +31,18 @@ module _ (D : Declared) (t : Words) (E : Environment) (n : Next) (S : Scope) whe
   pub record TermsIn (h i e : ℕ) (x y : Term) : Type 0 where
     pub terms : TermsAt t i e x y
     pub scope : Scope
-    pub locals : (l : ℕ) → T (scope l) → l < maxLocals
-    pub left : OkTerm D scope (fillTerm (termsOf E) x)
-    pub right : OkTerm D scope (fillTerm (termsOf E) y)
-    pub left-low : height x ≤ maxNesting
-    pub right-low : height y ≤ maxNesting
+    pub locals : (l : ℕ) → T (scope l) → l < max_locals
+    pub left : OkTerm D scope (fill_term (terms_of E) x)
+    pub right : OkTerm D scope (fill_term (terms_of E) y)
+    pub left_low : height x ≤ max_nesting
+    pub right_low : height y ≤ max_nesting
     pub planned : TermsPlanned t (number_of E) h i x y
 
   module _ (h : ℕ) where
     -- two formulas one after the other begin within the table
     pub record Parts : Type 0 where
-      pub near : suc h < maxTokens
-      pub far : end_at t (suc h) < maxTokens
+      pub near : suc h < max_tokens
+      pub far : end_at t (suc h) < max_tokens
 
     -- `and`: the second comes after the first
     pub record Joined (F : Formula) : Type 0 where
@@ -65,7 +65,7 @@ module _ (D : Declared) (t : Words) (E : Environment) (n : Next) (S : Scope) whe
       pub right : Stands D t E (end_at t (suc h)) second n
       pub left-scope : left.good.scope ≡ S
       pub right-scope : right.good.scope ≡ S
-      pub leads : operand_at t h ≡ tokenSlot (end_at t (suc h))
+      pub leads : operand_at t h ≡ token_slot (end_at t (suc h))
 
     -- `imp`
     pub record Implied (F : Formula) : Type 0 where
@@ -77,7 +77,7 @@ module _ (D : Declared) (t : Words) (E : Environment) (n : Next) (S : Scope) whe
       pub right : Stands D t E (end_at t (suc h)) second n
       pub left-scope : left.good.scope ≡ S
       pub right-scope : right.good.scope ≡ S
-      pub leads : operand_at t h ≡ tokenSlot (end_at t (suc h))
+      pub leads : operand_at t h ≡ token_slot (end_at t (suc h))
       pub next : plan_at t h ≡ place_of n
 
     -- `not`: one
@@ -86,7 +86,7 @@ module _ (D : Declared) (t : Words) (E : Environment) (n : Next) (S : Scope) whe
       pub is : F ≡ neg h first
       pub under : Stands D t E (suc h) first end
       pub scope : under.good.scope ≡ S
-      pub near : suc h < maxTokens
+      pub near : suc h < max_tokens
       pub next : plan_at t h ≡ place_of n
 
     -- an atom: two terms
@@ -95,7 +95,7 @@ module _ (D : Declared) (t : Words) (E : Environment) (n : Next) (S : Scope) whe
       pub right : Term
       pub is : F ≡ make left right
       pub terms : TermsIn h (suc h) (end_at t h) left right
-      pub near : suc h < maxTokens
+      pub near : suc h < max_tokens
       pub next : plan_at t h ≡ place_of n
 
     -- `ex`: a local and a formula
@@ -104,11 +104,11 @@ module _ (D : Declared) (t : Words) (E : Environment) (n : Next) (S : Scope) whe
       pub body : Formula
       pub is : F ≡ ex l body
       pub local : LocalAt t (suc h) l
-      pub small : l < maxLocals
+      pub small : l < max_locals
       pub under : Stands D t E (suc (suc h)) body n
       pub scope : under.good.scope ≡ enter S l
       pub fresh : T (not (S l))
-      pub near : suc (suc h) < maxTokens
+      pub near : suc (suc h) < max_tokens
 
     -- `some`: a local, two bounds and a formula
     pub record Tries (F : Formula) : Type 0 where
@@ -145,27 +145,27 @@ module _ (D : Declared) (t : Words) (E : Environment) (n : Next) (S : Scope) whe
       pub arguments : Arguments D E terms
       pub scope : arguments.scope ≡ S
       pub earlier : number < number_of E
-      pub called : Called D number (fillTerms (termsOf E) terms) (filled E body)
+      pub called : Called D number (fill_terms (terms_of E) terms) (filled E body)
       pub ok : Ok D arguments.scope (filled E body)
       pub next : plan_at t h ≡ place_of n
-      pub around : plan_at t (suc h) ≡ pointerOf E
+      pub around : plan_at t (suc h) ≡ pointer_of E
       pub planned : ArgumentsPlanned t (number_of E) (suc (suc h)) terms
 
     -- the atoms that compare
     abbrev pub Compared : ℕ → Formula → Type 0
-    Compared k F = (r : Rel) × (k ≡ relCode r) × Atom (compare h r) F
+    Compared k F = (r : Rel) × (k ≡ rel_code r) × Atom (compare h r) F
 
     -- what the code k says of the formula at token h; the other codes of formulas are those of the atoms that compare
     abbrev pub Says : ℕ → Formula → Type 0
     Says k F =
-        Either (eqb k trueCode) ((F ≡ truth) × (plan_at t h ≡ place_of n))
-        (Either (eqb k andCode) (Joined F)
-        (Either (eqb k orCode) (Choice F)
-        (Either (eqb k impCode) (Implied F)
-        (Either (eqb k notCode) (Denied F)
-        (Either (eqb k eqCode) (Atom (eq h) F)
-        (Either (eqb k exCode) (Hides F)
-        (Either (eqb k someCode) (Tries F)
-        (Either (eqb k allCode) (Covers F)
-        (Either (eqb k callCode) (Calls F)
+        Either (eqb k true_code) ((F ≡ truth) × (plan_at t h ≡ place_of n))
+        (Either (eqb k and_code) (Joined F)
+        (Either (eqb k or_code) (Choice F)
+        (Either (eqb k imp_code) (Implied F)
+        (Either (eqb k not_code) (Denied F)
+        (Either (eqb k eq_code) (Atom (eq h) F)
+        (Either (eqb k ex_code) (Hides F)
+        (Either (eqb k some_code) (Tries F)
+        (Either (eqb k all_code) (Covers F)
+        (Either (eqb k call_code) (Calls F)
         (Compared k F))))))))))

@@ -1,5 +1,5 @@
 -- What the register `inner` tells in the inner tree of a formula: the number of the tree's root while the places outside the formula are as
--- they were, and `givenTree` once one of them has got a value. It stays so where a local that the formula binds changes and where a bare
+-- they were, and `given_tree` once one of them has got a value. It stays so where a local that the formula binds changes and where a bare
 -- place gets a value, and at the empty list it is what the specification asks. Assumes nothing.
 use Prim.Native.Nat.{ℕ, ◌≤◌, ◌<◌}
 use native.Mathlib.Omega.{arith}
@@ -18,7 +18,7 @@ use Rattle.specification.specs.Outside.{outside, gained, gave}
 use Rattle.specification.proofs.Laws.Contradiction.{contradiction}
 use Rattle.specification.proofs.Laws.Place.{put_same, put_other}
 use Rattle.specification.proofs.Laws.Outside.{Declares, gave-true, gave-false}
-use Rattle.search.specs.States.{givenTree, innerRoot}
+use Rattle.search.specs.States.{given_tree, inner_root}
 
 -- a place outside F that has a value under β and had none under α
 pub record Gain (D : Declared) (F : Formula) (α β : Valuation) : Type 0 where
@@ -35,7 +35,7 @@ Same F α β = (p : Place) → T (outside F p) → β p ≡ α p
 
 -- of the root's number n and the register's value r
 abbrev pub Told : Declared → Formula → Valuation → ℕ → ℕ → Valuation → Type 0
-Told D F α n r β = ((r ≡ n) × Same F α β) ⊎ ((r ≡ givenTree) × Gain D F α β)
+Told D F α n r β = ((r ≡ n) × Same F α β) ⊎ ((r ≡ given_tree) × Gain D F α β)
 
 -- a place outside F is none that is not
 pub apart : (F : Formula) (q p : Place) → T (outside F q) → ¬ (T (outside F p)) → ¬ (q ≡ p)
@@ -80,21 +80,21 @@ module _ (D : Declared) (F : Formula) (α : Valuation) (n : ℕ) (β : Valuation
       gain-other : (g : Gain D F α β) → ¬ (g.place ≡ p)
       gain-other g x = let e = g.got in let f : β p ≡ full g.value = rw x at e in contradiction cc
 
-      pub told-given : (r : ℕ) → Told D F α n r β → Told D F α n (pick (ltb m r) givenTree r) (put β p (full v))
+      pub told-given : (r : ℕ) → Told D F α n r β → Told D F α n (pick (ltb m r) given_tree r) (put β p (full v))
       told-given r (inl (e, k)) = go (outside F p) refl
         where
-          go : (c : Bool) → outside F p ≡ c → Told D F α n (pick (ltb m r) givenTree r) (put β p (full v))
+          go : (c : Bool) → outside F p ≡ c → Told D F α n (pick (ltb m r) given_tree r) (put β p (full v))
           go true y = let u : T (outside F p) = rw y tt in inr (rw (e, lt-ltb m n (around u)), gain-new k u)
           go false y = let z : ¬ (T (outside F p)) = λ u. rw y at u in inl (rw (e, le-ltb m n (within z)), same-put k p (full v) z)
       told-given r (inr (e, g)) = inr (go (ltb m r), gain-put g p (full v) (gain-other g))
         where
-          go : (c : Bool) → pick c givenTree r ≡ givenTree
+          go : (c : Bool) → pick c given_tree r ≡ given_tree
           go true = refl
           go false = e
 
   -- ---- at the empty list
 
-  pub told-gave : (r : ℕ) → innerRoot ≤ n → Told D F α n r β → eqb r givenTree ≡ gave D F α β
+  pub told-gave : (r : ℕ) → inner_root ≤ n → Told D F α n r β → eqb r given_tree ≡ gave D F α β
   told-gave r h (inl (e, k)) =
-      rw e (ne_eqb n givenTree (λ x. omega arith)) ∙ sym (gave-false D F α β (λ p d u. rw (k p u) (gained-same (α p))))
+      rw e (ne_eqb n given_tree (λ x. omega arith)) ∙ sym (gave-false D F α β (λ p d u. rw (k p u) (gained-same (α p))))
   told-gave r h (inr (e, g)) = rw e (sym (gave-true D F α β g.place g.value g.declared g.outer g.bare g.got))

@@ -13,17 +13,17 @@ use mir.Facts.{eqb_yes}
 use Rattle.specification.specs.Bytes.{pick}
 use Rattle.specification.specs.Lines.{Declared}
 use Rattle.specification.specs.Ast.{Formula}
-use Rattle.specification.specs.Arithmetic.{undecidedInside}
+use Rattle.specification.specs.Arithmetic.{undecided_inside}
 use Rattle.specification.specs.Place.{Place, cell, local, put}
 use Rattle.specification.specs.Value.{Slot, empty, full, Valuation}
 use Rattle.specification.specs.WellFormed.{Scope, nowhere, enter, Ok}
 use Rattle.specification.specs.Outside.{binds, outside}
-use Rattle.specification.specs.Tree.{successLeaf, errorLeaf, step, done, doneInside}
+use Rattle.specification.specs.Tree.{success_leaf, error_leaf, step, done, done_inside}
 use Rattle.specification.proofs.Laws.Scope.{In}
 use Rattle.specification.proofs.Laws.Place.{in-enter}
 use Rattle.specification.proofs.Laws.Outside.{Covers, in-declares, in-outside}
-use Rattle.search.specs.States.{mainTree, innerRoot}
-use Rattle.search.specs.Site.{Site, site, rootSite, sonSite, boundMark, boundSite, innerSite, givenSite, doneAt}
+use Rattle.search.specs.States.{main_tree, inner_root}
+use Rattle.search.specs.Site.{Site, site, root_site, son_site, bound_mark, bound_site, inner_site, given_site, done_at}
 use Rattle.search.proofs.Told.{Told, apart, told-put, told-given, told-gave}
 
 -- ---- homes
@@ -43,8 +43,8 @@ Bound (inner F α n) l = T (binds F l)
 
 -- in an inner tree: its root has the number n
 record Inside (D : Declared) (S : Scope) (F : Formula) (α : Valuation) (n : ℕ) (s : Site) (β : Valuation) : Type 0 where
-  least : innerRoot ≤ n
-  root : n ≤ boundMark s.depth
+  least : inner_root ≤ n
+  root : n ≤ bound_mark s.depth
   -- a place in scope has a mark below the number if and only if it is outside F
   around : (p : Place) → In D S p → T (outside F p) → s.marks p < n
   within : (p : Place) → In D S p → ¬ (T (outside F p)) → n ≤ s.marks p
@@ -52,22 +52,22 @@ record Inside (D : Declared) (S : Scope) (F : Formula) (α : Valuation) (n : ℕ
 
 -- by the tree
 abbrev Stands : Declared → Scope → Home → Site → Valuation → Type 0
-Stands D S main s β = s.inner ≡ mainTree
+Stands D S main s β = s.inner ≡ main_tree
 Stands D S (inner F α n) s β = Inside D S F α n s β
 
 -- what is in scope was bound above
 pub record Tracks (D : Declared) (S : Scope) (h : Home) (s : Site) (β : Valuation) : Type 0 where
-  low : (p : Place) → In D S p → s.marks p < boundMark s.depth
+  low : (p : Place) → In D S p → s.marks p < bound_mark s.depth
   stands : Stands D S h s β
 
 -- ---- at the roots
 
-pub tracks-root : (D : Declared) (α : Valuation) → Tracks D nowhere main rootSite α
+pub tracks-root : (D : Declared) (α : Valuation) → Tracks D nowhere main root_site α
 tracks-root D α = record { low = λ p i. omega arith; stands = refl }
 
 pub tracks-inner :
     {D : Declared} {S : Scope} {h : Home} {s : Site} {β : Valuation} (F : Formula) → Ok D S F → Tracks D S h s β →
-    Tracks D S (inner F β (s.depth + innerRoot)) (innerSite s) β
+    Tracks D S (inner F β (s.depth + inner_root)) (inner_site s) β
 tracks-inner {D} {S} {h} {s} {β} F o t =
     record {
       low = λ p i. let a = t.low p i in omega arith;
@@ -89,10 +89,10 @@ inside-son :
 inside-son w r γ e =
     record { least = w.least; root = let m = w.root in omega arith; around = w.around; within = w.within; told = e }
 
-pub tracks-son : {D : Declared} {S : Scope} {h : Home} {s : Site} {β : Valuation} → Tracks D S h s β → Tracks D S h (sonSite s) β
+pub tracks-son : {D : Declared} {S : Scope} {h : Home} {s : Site} {β : Valuation} → Tracks D S h s β → Tracks D S h (son_site s) β
 tracks-son {D} {S} {h} {s} {β} t = record { low = λ p i. let a = t.low p i in omega arith; stands = go h t.stands }
   where
-    go : (h : Home) → Stands D S h s β → Stands D S h (sonSite s) β
+    go : (h : Home) → Stands D S h s β → Stands D S h (son_site s) β
     go main e = e
     go (inner F α n) w = inside-son w s.inner β w.told
 
@@ -113,22 +113,22 @@ module _ (D : Declared) (S : Scope) (l : ℕ) where
 
   pub tracks-bound :
       {h : Home} {s : Site} {β : Valuation} (x : Slot) → Bound h l → Tracks D S h s β →
-      Tracks D (enter S l) h (boundSite l s) (put β (local l) x)
+      Tracks D (enter S l) h (bound_site l s) (put β (local l) x)
   tracks-bound {h} {s} {β} x b t =
       record {
-        low = λ q i. bound-cases s.marks (boundMark s.depth) (◌< boundMark (suc s.depth)) q i (λ e. omega arith) (λ j. let a = t.low q j in omega arith);
+        low = λ q i. bound-cases s.marks (bound_mark s.depth) (◌< bound_mark (suc s.depth)) q i (λ e. omega arith) (λ j. let a = t.low q j in omega arith);
         stands = go h b t.stands;
       }
     where
-      go : (h : Home) → Bound h l → Stands D S h s β → Stands D (enter S l) h (boundSite l s) (put β (local l) x)
+      go : (h : Home) → Bound h l → Stands D S h s β → Stands D (enter S l) h (bound_site l s) (put β (local l) x)
       go main b e = e
       go (inner F α n) b w =
           let z : ¬ (T (outside F (local l))) = λ u. T_not (binds F l) u b in
           record {
             least = w.least;
             root = let r = w.root in omega arith;
-            around = λ q i u. bound-cases s.marks (boundMark s.depth) (◌< n) q i (λ e. absurd (apart F q (local l) u z e)) (λ j. w.around q j u);
-            within = λ q i u. bound-cases s.marks (boundMark s.depth) (n ≤◌) q i (λ e. w.root) (λ j. w.within q j u);
+            around = λ q i u. bound-cases s.marks (bound_mark s.depth) (◌< n) q i (λ e. absurd (apart F q (local l) u z e)) (λ j. w.around q j u);
+            within = λ q i u. bound-cases s.marks (bound_mark s.depth) (n ≤◌) q i (λ e. w.root) (λ j. w.within q j u);
             told = told-put D F α n β s.inner (local l) x z w.told;
           }
 
@@ -149,23 +149,23 @@ module _ (D : Declared) (S : Scope) (l : ℕ) where
 -- ---- where a place gets a value
 
 module _ (D : Declared) (S : Scope) (c : Covers D S) (p : Place) (v : ℤ) (i : In D S p) (s : Site) (β : Valuation) (bare : β p ≡ empty) where
-  pub tracks-given : {h : Home} → Tracks D S h s β → Tracks D S h (givenSite p s) (put β p (full v))
+  pub tracks-given : {h : Home} → Tracks D S h s β → Tracks D S h (given_site p s) (put β p (full v))
   tracks-given {h} t = record { low = λ q j. let a = t.low q j in omega arith; stands = go h t.stands }
     where
-      go : (h : Home) → Stands D S h s β → Stands D S h (givenSite p s) (put β p (full v))
+      go : (h : Home) → Stands D S h s β → Stands D S h (given_site p s) (put β p (full v))
       go main e = rw (e, le-ltb (s.marks p) 0 (omega arith))
       go (inner F α n) w =
-          inside-son w (givenSite p s).inner (put β p (full v))
+          inside-son w (given_site p s).inner (put β p (full v))
           (told-given D F α n β p v (in-declares D S c p i) bare (s.marks p) (w.around p i) (w.within p i) s.inner w.told)
 
 -- ---- at the empty list
 
 module _ {D : Declared} {S : Scope} {s : Site} {β : Valuation} where
-  pub done-main : Tracks D S main s β → doneAt s β ≡ done β
+  pub done-main : Tracks D S main s β → done_at s β ≡ done β
   done-main t = rw t.stands
 
-  pub done-inner : {F : Formula} {α : Valuation} {n : ℕ} → Tracks D S (inner F α n) s β → doneAt s β ≡ doneInside D F α β
-  unfolding doneInside
+  pub done-inner : {F : Formula} {α : Valuation} {n : ℕ} → Tracks D S (inner F α n) s β → done_at s β ≡ done_inside D F α β
+  unfolding done_inside
   done-inner {F} {α} {n} t =
       let w = t.stands in
-      ap (λ b. step (pick b (errorLeaf undecidedInside 0 β) (successLeaf β))) (told-gave D F α n β s.inner w.least w.told)
+      ap (λ b. step (pick b (error_leaf undecided_inside 0 β) (success_leaf β))) (told-gave D F α n β s.inner w.least w.told)

@@ -8,11 +8,11 @@ use Rattle.specification.specs.declared.Setting.{Setting}
 use Rattle.specification.specs.declared.Tallies.{Tallies}
 use Rattle.specification.specs.Bytes.{Bytes}
 use Rattle.specification.specs.Sheet.{Sheet}
-use Rattle.specification.specs.Tree.{Tree, successLeaf, failureLeaf, errorLeaf, step, fork, fan, ask, Verdict, succeeds, join, joined, verdict, tree_of}
+use Rattle.specification.specs.Tree.{Tree, success_leaf, failure_leaf, error_leaf, step, fork, fan, ask, Verdict, succeeds, join, joined, verdict, tree_of}
 use Rattle.specification.specs.Visits.{node, Visit, at, ◌then◌, each, inside, visits}
 use Rattle.specification.specs.Run.{Conditions, conditions, tallies, Run, going, stopped}
-use Rattle.specification.specs.Outcome.{start, rootOf, visitsOf, run_of}
-use Rattle.search.specs.Walk.{Next, onto, flagged, gated, sonsFrom, within, walk}
+use Rattle.specification.specs.Outcome.{start, root_of, visits_of, run_of}
+use Rattle.search.specs.Walk.{Next, onto, flagged, gated, sons_from, within, walk}
 use Rattle.search.proofs.Answers.{answered-visits}
 use Rattle.search.proofs.Continuation.{after, seen, seen-nil, seen-node, seen-inside, after-fails, by_flags, through, through-nil, through-then, through-leaf, through-node, through-both}
 
@@ -32,12 +32,12 @@ module _ (C : Conditions) where
 
   -- n sons from the i-th on
   scans-sons : (m : Bool) (d : ℕ) (f : ℕ → Tree) → ((j : ℕ) → Scans m d (f j)) → (n i : ℕ) (y : Next) (k : Bool → Next) (e : Bool) →
-      sonsFrom C n i (λ j. walk C m d (f j) y) k e ≡
+      sons_from C n i (λ j. walk C m d (f j) y) k e ≡
       through C (after m (joined n i (λ j. verdict (f j))) y k e) (seen m (each n i (λ j. visits d (f j))))
-  unfolding sonsFrom joined each
+  unfolding sons_from joined each
   scans-sons m d f h zero i y k e = rw (after-fails, seen-nil, through-nil)
   scans-sons m d f h (suc n) i y k e =
-      let others = sonsFrom C n (suc i) (λ j. walk C m d (f j) y) k in
+      let others = sons_from C n (suc i) (λ j. walk C m d (f j) y) k in
       h i y others e ∙
       through-both C m (verdict (f i)) (joined n (suc i) (λ j. verdict (f j))) (visits d (f i)) (each n (suc i) (λ j. visits d (f j)))
       y k others e (answered-visits (f i) d) (scans-sons m d f h n (suc i) y k)
@@ -49,12 +49,12 @@ module _ (C : Conditions) where
 
   scans : (m : Bool) (T : Tree) (d : ℕ) → Scans m d T
   unfolding within visits verdict inside
-  scans true (successLeaf β) d y k e = rw (through-node, through-nil)
-  scans true failureLeaf d y k e = rw (through-node, through-nil)
-  scans true (errorLeaf κ t β) d y k e = rw (through-node, through-nil)
-  scans false (successLeaf β) d y k e = rw (through-leaf, through-nil)
-  scans false failureLeaf d y k e = rw (through-leaf, through-nil)
-  scans false (errorLeaf κ t β) d y k e = rw (through-leaf, through-nil)
+  scans true (success_leaf β) d y k e = rw (through-node, through-nil)
+  scans true failure_leaf d y k e = rw (through-node, through-nil)
+  scans true (error_leaf κ t β) d y k e = rw (through-node, through-nil)
+  scans false (success_leaf β) d y k e = rw (through-leaf, through-nil)
+  scans false failure_leaf d y k e = rw (through-leaf, through-nil)
+  scans false (error_leaf κ t β) d y k e = rw (through-leaf, through-nil)
   scans m (step T) d y k e =
       scans-node m d (within C m d (step T) y k e) (after m (verdict T) y k e) (visits (suc d) T) (scans m T (suc d) y k e)
   scans m (fork T U) d y k e =
@@ -95,7 +95,7 @@ onto-going (stopped e t w) = refl
 pub walk-run : (s : Sheet) (S : Setting) (size : ℕ) → run_of s S size ≡
     walk (conditions s.declared S size) false 1 (tree_of s.declared (s.formula ∷ []) (start s.given)) (λ t w. going t w) (λ e t w. going t w) false
     (tallies 0 0 0 0) []
-unfolding run_of rootOf visitsOf through
+unfolding run_of root_of visits_of through
 walk-run s S size =
     let D = s.declared in
     let T = tree_of D (s.formula ∷ []) (start s.given) in

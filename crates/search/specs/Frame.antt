@@ -5,14 +5,14 @@ use Rattle.specification.specs.Lines.{Declared}
 use Rattle.specification.specs.Ast.{Formula}
 use Rattle.specification.specs.Place.{Place, local, put}
 use Rattle.specification.specs.Value.{Slot, full, Valuation}
-use Rattle.specification.specs.Tree.{Tree, successLeaf, failureLeaf, errorLeaf, Verdict, succeeds, denied, implied}
+use Rattle.specification.specs.Tree.{Tree, success_leaf, failure_leaf, error_leaf, Verdict, succeeds, denied, implied}
 use Rattle.specification.specs.Run.{Conditions, going}
-use Rattle.tables.specs.Layout.{pathAt}
+use Rattle.tables.specs.Layout.{path_at}
 use Rattle.terms.specs.Environment.{Environment}
-use Rattle.search.specs.Walk.{Next, flagged, sonsFrom, walk}
-use Rattle.search.specs.Site.{Site, rootSite, sonSite, boundSite, givenSite, innerSite, roundsAt, doneAt, growAt}
+use Rattle.search.specs.Walk.{Next, flagged, sons_from, walk}
+use Rattle.search.specs.Site.{Site, root_site, son_site, bound_site, given_site, inner_site, rounds_at, done_at, grow_at}
 use Rattle.search.specs.Stands.{filled}
-use Rattle.search.specs.Store.{Call, Store, rootStore, lastStore, callStore}
+use Rattle.search.specs.Store.{Call, Store, root_store, last_store, call_store}
 
 -- ---- items: a formula, or an `all` over the n values from v on
 
@@ -22,10 +22,10 @@ pub data Item : Type 0 where
 
 module _ (D : Declared) where
   -- the tree of a list of items, from a site
-  unfoldable pub treeItems : List Item → Site → Valuation → Tree
-  treeItems [] s α = doneAt s α
-  treeItems (form E F ∷ is) s α = growAt D (filled E F) (λ t β. treeItems is t β) s α
-  treeItems (again E l F n v ∷ is) s α = roundsAt (λ k t β. growAt D (filled E F) k t β) l (λ t β. treeItems is t β) n v s α
+  unfoldable pub tree_items : List Item → Site → Valuation → Tree
+  tree_items [] s α = done_at s α
+  tree_items (form E F ∷ is) s α = grow_at D (filled E F) (λ t β. tree_items is t β) s α
+  tree_items (again E l F n v ∷ is) s α = rounds_at (λ k t β. grow_at D (filled E F) k t β) l (λ t β. tree_items is t β) n v s α
 
 -- what is to be visited: a node with its list, or a leaf
 pub data What : Type 0 where
@@ -33,11 +33,11 @@ pub data What : Type 0 where
   success failure : What
   error : ℕ → ℕ → What
 
-abbrev pub treeWhat : Declared → What → Site → Valuation → Tree
-treeWhat D (the is) s α = treeItems D is s α
-treeWhat D success s α = successLeaf α
-treeWhat D failure s α = failureLeaf
-treeWhat D (error κ tok) s α = errorLeaf κ tok α
+abbrev pub tree_what : Declared → What → Site → Valuation → Tree
+tree_what D (the is) s α = tree_items D is s α
+tree_what D success s α = success_leaf α
+tree_what D failure s α = failure_leaf
+tree_what D (error κ tok) s α = error_leaf κ tok α
 
 -- ---- frames: a path node, with the valuation there
 
@@ -102,49 +102,49 @@ size_of (called C α) = length C.level.arguments + 4
 
 -- where the records end
 abbrev pub top_of : List Frame → ℕ
-top_of [] = pathAt
+top_of [] = path_at
 top_of (f ∷ fr) = top_of fr + size_of f
 
 -- whether the sons of the topmost node stand in an inner tree
-abbrev pub innerIn : List Frame → Bool
-innerIn [] = false
-innerIn (pass α ∷ fr) = innerIn fr
-innerIn (other E G is α ∷ fr) = innerIn fr
-innerIn (bound l s α ∷ fr) = innerIn fr
-innerIn (began l v h α ∷ fr) = innerIn fr
-innerIn (given p v α ∷ fr) = innerIn fr
-innerIn (range l x i n E F is α ∷ fr) = innerIn fr
-innerIn (asks tok q is α e ∷ fr) = true
-innerIn (called C α ∷ fr) = innerIn fr
+abbrev pub inner_in : List Frame → Bool
+inner_in [] = false
+inner_in (pass α ∷ fr) = inner_in fr
+inner_in (other E G is α ∷ fr) = inner_in fr
+inner_in (bound l s α ∷ fr) = inner_in fr
+inner_in (began l v h α ∷ fr) = inner_in fr
+inner_in (given p v α ∷ fr) = inner_in fr
+inner_in (range l x i n E F is α ∷ fr) = inner_in fr
+inner_in (asks tok q is α e ∷ fr) = true
+inner_in (called C α ∷ fr) = inner_in fr
 
 -- the site of those sons
-abbrev pub siteIn : List Frame → Site
-siteIn [] = rootSite
-siteIn (pass α ∷ fr) = sonSite (siteIn fr)
-siteIn (other E G is α ∷ fr) = sonSite (siteIn fr)
-siteIn (bound l s α ∷ fr) = boundSite l (siteIn fr)
-siteIn (began l v h α ∷ fr) = boundSite l (siteIn fr)
-siteIn (given p v α ∷ fr) = givenSite p (siteIn fr)
-siteIn (range l x i n E F is α ∷ fr) = boundSite l (siteIn fr)
-siteIn (asks tok q is α e ∷ fr) = innerSite (siteIn fr)
-siteIn (called C α ∷ fr) = sonSite (siteIn fr)
+abbrev pub site_in : List Frame → Site
+site_in [] = root_site
+site_in (pass α ∷ fr) = son_site (site_in fr)
+site_in (other E G is α ∷ fr) = son_site (site_in fr)
+site_in (bound l s α ∷ fr) = bound_site l (site_in fr)
+site_in (began l v h α ∷ fr) = bound_site l (site_in fr)
+site_in (given p v α ∷ fr) = given_site p (site_in fr)
+site_in (range l x i n E F is α ∷ fr) = bound_site l (site_in fr)
+site_in (asks tok q is α e ∷ fr) = inner_site (site_in fr)
+site_in (called C α ∷ fr) = son_site (site_in fr)
 
 -- and their store
-abbrev pub storeIn : List Frame → Store
-storeIn [] = rootStore
-storeIn (pass α ∷ fr) = storeIn fr
-storeIn (other E G is α ∷ fr) = storeIn fr
-storeIn (bound l s α ∷ fr) = storeIn fr
-storeIn (began l v h α ∷ fr) = lastStore l h (storeIn fr)
-storeIn (given p v α ∷ fr) = storeIn fr
-storeIn (range l x i n E F is α ∷ fr) = storeIn fr
-storeIn (asks tok q is α e ∷ fr) = storeIn fr
-storeIn (called C α ∷ fr) = callStore C (storeIn fr)
+abbrev pub store_in : List Frame → Store
+store_in [] = root_store
+store_in (pass α ∷ fr) = store_in fr
+store_in (other E G is α ∷ fr) = store_in fr
+store_in (bound l s α ∷ fr) = store_in fr
+store_in (began l v h α ∷ fr) = last_store l h (store_in fr)
+store_in (given p v α ∷ fr) = store_in fr
+store_in (range l x i n E F is α ∷ fr) = store_in fr
+store_in (asks tok q is α e ∷ fr) = store_in fr
+store_in (called C α ∷ fr) = call_store C (store_in fr)
 
 -- the son that a verdict leads to, from a site
-abbrev pub sonOf : Declared → ℕ → Question → List Item → Verdict → Site → Valuation → Tree
-sonOf D tok denying is v s α = denied tok v (λ β. treeItems D is s β) α
-sonOf D tok (implying E G) is v s α = implied tok v (λ β. treeItems D (form E G ∷ is) s β) (λ β. treeItems D is s β) α
+abbrev pub son_of : Declared → ℕ → Question → List Item → Verdict → Site → Valuation → Tree
+son_of D tok denying is v s α = denied tok v (λ β. tree_items D is s β) α
+son_of D tok (implying E G) is v s α = implied tok v (λ β. tree_items D (form E G ∷ is) s β) (λ β. tree_items D is s β) α
 
 -- ---- what is left once the present son of the topmost node is finished: after a success leaf of an inner tree, and otherwise
 
@@ -157,26 +157,26 @@ module _ (C : Conditions) where
   yes_of (began l v h α) u d m y k = y
   yes_of (given p v α) u d m y k = y
   yes_of (range l x i n E F is α) u d m y k = y
-  yes_of (asks tok q is α e) u d m y k = walk C m d (sonOf C.declared tok q is succeeds (sonSite u) α) y k e
+  yes_of (asks tok q is α e) u d m y k = walk C m d (son_of C.declared tok q is succeeds (son_site u) α) y k e
   yes_of (called K α) u d m y k = y
 
   abbrev pub rest_of : Frame → Site → ℕ → Bool → Next → (Bool → Next) → Bool → Next
   rest_of (pass α) u d m y k = k
-  rest_of (other E G is α) u d m y k = λ e. walk C m d (treeItems C.declared (form E G ∷ is) (sonSite u) α) y k e
+  rest_of (other E G is α) u d m y k = λ e. walk C m d (tree_items C.declared (form E G ∷ is) (son_site u) α) y k e
   rest_of (bound l s α) u d m y k = k
   rest_of (began l v h α) u d m y k = k
   rest_of (given p v α) u d m y k = k
   rest_of (range l x i n E F is α) u d m y k =
-      λ e. sonsFrom C n (suc i)
-      (λ j k' e'. walk C m d (treeItems C.declared (form E F ∷ is) (boundSite l u) (put α (local l) (full (x +ℤ pos j)))) y k' e') k e
-  rest_of (asks tok q is α e) u d m y k = λ e'. walk C m d (sonOf C.declared tok q is (flagged e') (sonSite u) α) y k e
+      λ e. sons_from C n (suc i)
+      (λ j k' e'. walk C m d (tree_items C.declared (form E F ∷ is) (bound_site l u) (put α (local l) (full (x +ℤ pos j)))) y k' e') k e
+  rest_of (asks tok q is α e) u d m y k = λ e'. walk C m d (son_of C.declared tok q is (flagged e') (son_site u) α) y k e
   rest_of (called K α) u d m y k = k
 
   abbrev mutual
-    pub resumeYes : List Frame → Next
-    resumeYes [] = λ t w. going t w
-    resumeYes (f ∷ fr) = yes_of f (siteIn fr) (suc (suc (len fr))) (innerIn fr) (resumeYes fr) (resume fr)
+    pub resume_yes : List Frame → Next
+    resume_yes [] = λ t w. going t w
+    resume_yes (f ∷ fr) = yes_of f (site_in fr) (suc (suc (len fr))) (inner_in fr) (resume_yes fr) (resume fr)
 
     pub resume : List Frame → Bool → Next
     resume [] = λ e t w. going t w
-    resume (f ∷ fr) = rest_of f (siteIn fr) (suc (suc (len fr))) (innerIn fr) (resumeYes fr) (resume fr)
+    resume (f ∷ fr) = rest_of f (site_in fr) (suc (suc (len fr))) (inner_in fr) (resume_yes fr) (resume fr)

@@ -6,20 +6,20 @@ use Rattle.specification.specs.Lines.{Declared, cells}
 use Rattle.specification.specs.Value.{Valuation}
 use Rattle.specification.specs.WellFormed.{OkProcedures, Valid}
 use Rattle.specification.specs.Run.{Conditions, conditions, Run}
-use Rattle.tables.specs.Layout.{tokenSlot, nodeSlot, procAt, maxCells, maxArrays, maxProcs, maxLocals, maxPath}
+use Rattle.tables.specs.Layout.{token_slot, node_slot, proc_at, max_cells, max_arrays, max_procs, max_locals, max_path}
 use Rattle.tables.specs.Kept.{SameTokens}
 use Rattle.sheet.specs.Tables.{Words}
 use Rattle.sheet.specs.Held.{Holds, ArraysAt, RangesAt, BodyAt, Shallow}
-use Rattle.specification.specs.Lines.{procedureOf}
-use Rattle.search.specs.Marks.{InTable, Known, marksIn, Marks}
-use Rattle.tables.specs.Frames.{frameSlot, argumentSlot, backAt, call_at, tagsAt}
+use Rattle.specification.specs.Lines.{procedure_of}
+use Rattle.search.specs.Marks.{InTable, Known, marks_in, Marks}
+use Rattle.tables.specs.Frames.{frame_slot, argument_slot, back_at, call_at, tags_at}
 use Rattle.tables.specs.Layout.{last_at}
-use Rattle.tables.specs.Leaves.{Leaves, failurePlace, successPlace, errorPlace, kind_at, tokenAt}
+use Rattle.tables.specs.Leaves.{Leaves, failure_place, success_place, error_place, kind_at, token_at}
 use Rattle.plan.specs.Next.{Next, back, place_of, Plain}
 use Rattle.plan.specs.Planned.{Line, FormulaPlanned}
-use Rattle.terms.specs.Environment.{Calls, Results, flagOf}
+use Rattle.terms.specs.Environment.{Calls, Results, flag_of}
 use Rattle.search.specs.Store.{Call, Store}
-use Rattle.search.specs.Frame.{What, the, success, failure, error, Frame, here, below, len, top_of, siteIn, storeIn}
+use Rattle.search.specs.Frame.{What, the, success, failure, error, Frame, here, below, len, top_of, site_in, store_in}
 use Rattle.search.specs.Pend.{Pend}
 use Rattle.search.specs.Records.{Stack}
 
@@ -32,22 +32,22 @@ pub record World : Type 0 where
   pub size : ℕ
   pub result : Run
 
-abbrev pub conditionsOf : World → Conditions
-conditionsOf c = conditions c.declared c.setting c.size
+abbrev pub conditions_of : World → Conditions
+conditions_of c = conditions c.declared c.setting c.size
 
 -- ---- procedures
 
 -- the formula of procedure K stands in the table with its plan, and returns
 pub record Body (c : World) (K : ℕ) : Type 0 where
-  pub held : BodyAt c.tables K (procedureOf c.declared K).formula
-  pub planned : FormulaPlanned c.tables (record { number = K; around = suc K }) (procAt c.tables K) (procedureOf c.declared K).formula (back K)
+  pub held : BodyAt c.tables K (procedure_of c.declared K).formula
+  pub planned : FormulaPlanned c.tables (record { number = K; around = suc K }) (proc_at c.tables K) (procedure_of c.declared K).formula (back K)
 
 pub record Procedures (c : World) (w : Words) : Type 0 where
   pub none : c.declared.parameters ≡ 0
-  pub few : length c.declared.procedures ≤ maxProcs
+  pub few : length c.declared.procedures ≤ max_procs
   pub ok : OkProcedures c.declared
   pub bodies : (K : ℕ) → K < length c.declared.procedures → Body c K
-  pub same : (K : ℕ) → K < maxProcs → procAt w K ≡ procAt c.tables K
+  pub same : (K : ℕ) → K < max_procs → proc_at w K ≡ proc_at c.tables K
 
 -- ---- the store
 
@@ -55,14 +55,14 @@ pub record Procedures (c : World) (w : Words) : Type 0 where
 pub record Framed (c : World) (w : Words) (C : Call) : Type 0 where
   pub calls : Calls c.declared c.tables C.token C.level C.around
   pub plain : Plain C.back
-  pub back : backAt w C.level.number ≡ place_of C.back
-  pub token : call_at w C.level.number ≡ tokenSlot C.token
-  pub results : Results c.declared C.around C.level (tagsAt w C.level.number) (λ n. get_or w (argumentSlot C.level.number n + 1) 0)
-  pub flags : (n : ℕ) → n < length C.level.terms → get_or w (argumentSlot C.level.number n) 0 ≡ flagOf (tagsAt w C.level.number) n
+  pub back : back_at w C.level.number ≡ place_of C.back
+  pub token : call_at w C.level.number ≡ token_slot C.token
+  pub results : Results c.declared C.around C.level (tags_at w C.level.number) (λ n. get_or w (argument_slot C.level.number n + 1) 0)
+  pub flags : (n : ℕ) → n < length C.level.terms → get_or w (argument_slot C.level.number n) 0 ≡ flag_of (tags_at w C.level.number) n
 
 pub record Stored (c : World) (w : Words) (σ : Store) : Type 0 where
-  pub lasts : (l : ℕ) → l < maxLocals → last_at w l ≡ σ.last l
-  pub calls : (K : ℕ) (C : Call) → σ.calls K ≡ just C → (C.level.number ≡ K) × (K < maxProcs) × Framed c w C
+  pub lasts : (l : ℕ) → l < max_locals → last_at w l ≡ σ.last l
+  pub calls : (K : ℕ) (C : Call) → σ.calls K ≡ just C → (C.level.number ≡ K) × (K < max_procs) × Framed c w C
 
 -- ---- the path
 
@@ -73,13 +73,13 @@ Chain D α (f ∷ fr) = (α ≡ below f) × Valid D (here f) × Chain D (here f)
 
 -- what stays the same in a whole search
 pub record Tables (c : World) (w : Words) : Type 0 where
-  pub size : nodeSlot c.setting.path ≤ length w
-  pub limit : c.setting.path ≤ maxPath
+  pub size : node_slot c.setting.path ≤ length w
+  pub limit : c.setting.path ≤ max_path
   pub tokens : SameTokens c.tables w
   pub arrays : ArraysAt w c.declared
   pub ranges : RangesAt w c.declared
-  pub cells : cells c.declared ≤ maxCells
-  pub few : length c.declared.arrays ≤ maxArrays
+  pub cells : cells c.declared ≤ max_cells
+  pub few : length c.declared.arrays ≤ max_arrays
   pub leaves : Leaves w
   pub procedures : Procedures c w
 
@@ -91,8 +91,8 @@ pub record Path (c : World) (w : Words) (top : ℕ) (α : Valuation) (fr : List 
   pub stack : Stack c.declared c.tables w fr
   pub chain : Chain c.declared α fr
   pub holds : Holds w α
-  pub marks : Marks w α (marksIn c.declared (siteIn fr).marks)
-  pub stored : Stored c w (storeIn fr)
+  pub marks : Marks w α (marks_in c.declared (site_in fr).marks)
+  pub stored : Stored c w (store_in fr)
   pub valid : Valid c.declared α
 
 -- ---- what is due
@@ -106,6 +106,6 @@ pub record ListDue (c : World) (σ : Store) (α : Valuation) (due : ℕ) (Rest :
 
 abbrev pub Job : World → Words → Store → Valuation → ℕ → What → Type 0
 Job c w σ α due (the is) = ListDue c σ α due (λ m n. Pend c.declared c.tables σ α m n is)
-Job c w σ α due success = due ≡ successPlace
-Job c w σ α due failure = due ≡ failurePlace
-Job c w σ α due (error κ tok) = (due ≡ errorPlace) × (kind_at w ≡ κ) × (tokenAt w ≡ tok)
+Job c w σ α due success = due ≡ success_place
+Job c w σ α due failure = due ≡ failure_place
+Job c w σ α due (error κ tok) = (due ≡ error_place) × (kind_at w ≡ κ) × (token_at w ≡ tok)

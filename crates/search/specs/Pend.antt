@@ -7,8 +7,8 @@ use Rattle.specification.specs.Place.{local}
 use Rattle.specification.specs.Value.{full, Valuation}
 use Rattle.specification.specs.WellFormed.{Scope, enter}
 use Rattle.values.specs.Word.{signed}
-use Rattle.tables.specs.Layout.{maxTokens}
-use Rattle.tables.specs.Codes.{allCode}
+use Rattle.tables.specs.Layout.{max_tokens}
+use Rattle.tables.specs.Codes.{all_code}
 use Rattle.sheet.specs.Tables.{Words}
 use Rattle.sheet.specs.Held.{code_at}
 use Rattle.terms.specs.Environment.{Environment, number_of}
@@ -44,7 +44,7 @@ module _ (D : Declared) (t : Words) where
     pub n : Next
     pub leads : resolve σ x ≡ token i
     pub from : From m x
-    pub inside : i < maxTokens
+    pub inside : i < max_tokens
     pub stands : Stands D t E i G n
     pub env : EnvIn σ E
     pub later : m ≤ number_of E
@@ -57,7 +57,7 @@ module _ (D : Declared) (t : Words) where
     pub n : Next
     pub leads : resolve σ x ≡ token (suc h)
     pub from : From m x
-    pub code : code_at t h ≡ allCode
+    pub code : code_at t h ≡ all_code
     pub next : plan_at t h ≡ place_of n
     pub binds : Binds D t E h l F (token (suc h))
     pub left : Left α σ l k v

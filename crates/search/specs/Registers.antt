@@ -2,12 +2,12 @@
 use Rattle.std.specs.Prelude.{ℕ, ◌+◌, ◌-◌, ◌*◌, ◌≤◌, ◌<◌, min, ◌≡◌, eqb}
 use Rattle.specification.specs.declared.Tallies.{Tallies}
 use Rattle.specification.specs.Bytes.{pick}
-use Rattle.specification.specs.Run.{tallies, addNode, addAnswer, addError, addFail}
-use Rattle.tables.specs.Layout.{pathAt}
-use Rattle.tables.specs.Leaves.{risePlace}
+use Rattle.specification.specs.Run.{tallies, add_node, add_answer, add_error, add_fail}
+use Rattle.tables.specs.Layout.{path_at}
+use Rattle.tables.specs.Leaves.{rise_place}
 use Rattle.search.specs.declared.Go.{Go}
 use Rattle.search.specs.Path.{World}
-use Rattle.search.specs.States.{downMode, mainTree}
+use Rattle.search.specs.States.{down_mode, main_tree}
 
 -- the tallies with the visits since the last leaf
 abbrev pub tallied : Go → Tallies
@@ -28,9 +28,9 @@ pub record Gauge (c : World) (g : Go) : Type 0 where
 
 -- ---- registers
 
-abbrev pub downGo : Go → ℕ → ℕ → ℕ → ℕ → Go
-downGo g t top inner bad = record {
-  mode = downMode;
+abbrev pub down_go : Go → ℕ → ℕ → ℕ → ℕ → Go
+down_go g t top inner bad = record {
+  mode = down_mode;
   due = t;
   depth = g.depth + 1;
   stop = g.stop;
@@ -41,8 +41,8 @@ downGo g t top inner bad = record {
   tallies = g.tallies;
 }
 
-abbrev pub toGo : Go → ℕ → Go
-toGo g t = record {
+abbrev pub to_go : Go → ℕ → Go
+to_go g t = record {
   mode = g.mode;
   due = t;
   depth = g.depth;
@@ -55,8 +55,8 @@ toGo g t = record {
 }
 
 -- another mode
-abbrev pub outGo : Go → ℕ → Go
-outGo g mode = record {
+abbrev pub out_go : Go → ℕ → Go
+out_go g mode = record {
   mode = mode;
   due = g.due;
   depth = g.depth;
@@ -69,8 +69,8 @@ outGo g mode = record {
 }
 
 -- the topmost record is gone
-abbrev pub dropGo : Go → ℕ → ℕ → Go
-dropGo g top inner = record {
+abbrev pub drop_go : Go → ℕ → ℕ → Go
+drop_go g top inner = record {
   mode = g.mode;
   due = g.due;
   depth = g.depth;
@@ -83,9 +83,9 @@ dropGo g top inner = record {
 }
 
 -- a visit is due, all visits counted
-abbrev pub resumeGo : Go → ℕ → ℕ → ℕ → ℕ → ℕ → ℕ → ℕ → Go
-resumeGo g t depth top inner bad path budget = record {
-  mode = downMode;
+abbrev pub resume_go : Go → ℕ → ℕ → ℕ → ℕ → ℕ → ℕ → ℕ → Go
+resume_go g t depth top inner bad path budget = record {
+  mode = down_mode;
   due = t;
   depth = depth;
   stop = min path (depth + (budget - g.tallies.nodes));
@@ -97,8 +97,8 @@ resumeGo g t depth top inner bad path budget = record {
 }
 
 -- a leaf was visited
-abbrev pub leafGo : Go → ℕ → ℕ → Tallies → Go
-leafGo g mode bad t = record {
+abbrev pub leaf_go : Go → ℕ → ℕ → Tallies → Go
+leaf_go g mode bad t = record {
   mode = mode;
   due = g.due;
   depth = g.depth + 1;
@@ -111,10 +111,10 @@ leafGo g mode bad t = record {
 }
 
 -- going up is due, no limit is near
-abbrev pub riseGo : Go → Go
-riseGo g = record {
-  mode = downMode;
-  due = risePlace;
+abbrev pub rise_go : Go → Go
+rise_go g = record {
+  mode = down_mode;
+  due = rise_place;
   depth = g.depth;
   stop = 4294967295;
   top = g.top;
@@ -124,15 +124,15 @@ riseGo g = record {
   tallies = g.tallies;
 }
 
-abbrev pub startGo : ℕ → ℕ → ℕ → Go
-startGo t path budget = record {
-  mode = downMode;
+abbrev pub start_go : ℕ → ℕ → ℕ → Go
+start_go t path budget = record {
+  mode = down_mode;
   due = t;
   depth = 0;
   stop = min path budget;
-  top = pathAt;
+  top = path_at;
   from = 0;
-  inner = mainTree;
+  inner = main_tree;
   bad = 0;
   tallies = tallies 0 0 0 0;
 }
@@ -140,25 +140,25 @@ startGo t path budget = record {
 -- ---- tallies
 
 -- which tally grows; src/tallies.rt has the same numbers
-abbrev pub nodeTally : ℕ
-nodeTally = 0
+abbrev pub node_tally : ℕ
+node_tally = 0
 
-abbrev pub answerTally : ℕ
-answerTally = 1
+abbrev pub answer_tally : ℕ
+answer_tally = 1
 
-abbrev pub errorTally : ℕ
-errorTally = 2
+abbrev pub error_tally : ℕ
+error_tally = 2
 
-abbrev pub failTally : ℕ
-failTally = 3
+abbrev pub fail_tally : ℕ
+fail_tally = 3
 
-abbrev pub maxWord : ℕ
-maxWord = 4294967295
+abbrev pub max_word : ℕ
+max_word = 4294967295
 
 -- one more of a kind
 unfoldable pub counted : Tallies → ℕ → Tallies
-counted t leaf = pick (eqb leaf nodeTally) (addNode t) (pick (eqb leaf answerTally) (addAnswer t) (pick (eqb leaf errorTally) (addError t) (addFail t)))
+counted t leaf = pick (eqb leaf node_tally) (add_node t) (pick (eqb leaf answer_tally) (add_answer t) (pick (eqb leaf error_tally) (add_error t) (add_fail t)))
 
 -- so many visits more
-abbrev pub visitedTallies : Tallies → ℕ → Tallies
-visitedTallies t visits = tallies (t.nodes + visits) t.answers t.errors t.fails
+abbrev pub visited_tallies : Tallies → ℕ → Tallies
+visited_tallies t visits = tallies (t.nodes + visits) t.answers t.errors t.fails

@@ -3,30 +3,30 @@ use Rattle.std.specs.Prelude.{ℕ, suc, ◌+◌, ◌<◌, ◌≡◌, Bool, false
 use Rattle.specification.specs.Bytes.{Bytes}
 use Rattle.specification.specs.Value.{Valuation}
 use Rattle.specification.specs.Tree.{Tree}
-use Rattle.specification.specs.Run.{addNode, going}
+use Rattle.specification.specs.Run.{add_node, going}
 use Rattle.sheet.specs.Tables.{Words}
 use Rattle.search.specs.declared.Go.{Go}
 use Rattle.search.specs.Walk as walks
-use Rattle.search.specs.Frame.{What, the, success, failure, error, treeWhat, Frame, len, innerIn, siteIn, storeIn, resumeYes, resume}
-use Rattle.search.specs.Site.{sonSite}
-use Rattle.search.specs.Path.{World, conditionsOf, Job, Path}
+use Rattle.search.specs.Frame.{What, the, success, failure, error, tree_what, Frame, len, inner_in, site_in, store_in, resume_yes, resume}
+use Rattle.search.specs.Site.{son_site}
+use Rattle.search.specs.Path.{World, conditions_of, Job, Path}
 use Rattle.search.specs.Records.{bit}
 use Rattle.search.specs.Registers.{tallied, Tallied, Gauge}
-use Rattle.search.specs.States.{downMode, upMode, blockMode, doneMode, stoppedMode}
+use Rattle.search.specs.States.{down_mode, up_mode, block_mode, done_mode, stopped_mode}
 
 module _ (c : World) where
   abbrev pub yes : List Frame → walks.Next
-  yes fr = resumeYes (conditionsOf c) fr
+  yes fr = resume_yes (conditions_of c) fr
 
   abbrev pub no : List Frame → Bool → walks.Next
-  no fr = resume (conditionsOf c) fr
+  no fr = resume (conditions_of c) fr
 
   abbrev pub tree : List Frame → What → Valuation → Tree
-  tree fr x α = treeWhat c.declared x (siteIn fr) α
+  tree fr x α = tree_what c.declared x (site_in fr) α
 
   -- of a son of the node there
   abbrev pub son : List Frame → What → Valuation → Tree
-  son fr x α = treeWhat c.declared x (sonSite (siteIn fr)) α
+  son fr x α = tree_what c.declared x (son_site (site_in fr)) α
 
 -- about to visit a node or leaf, within the limits or not
 pub record Down (c : World) (b : Bytes) (w : Words) (g : Go) : Type 0 where
@@ -36,12 +36,12 @@ pub record Down (c : World) (b : Bytes) (w : Words) (g : Go) : Type 0 where
   pub e : Bool
   pub path : Path c w g.top α fr
   pub deep : g.depth ≡ len fr
-  pub inner : g.inner ≡ (siteIn fr).inner
+  pub inner : g.inner ≡ (site_in fr).inner
   pub bad : g.bad ≡ bit e
-  pub job : Job c w (storeIn fr) α g.due x
+  pub job : Job c w (store_in fr) α g.due x
   pub gauge : Gauge c g
   pub result :
-      walks.walk (conditionsOf c) (innerIn fr) (suc g.depth) (tree c fr x α) (yes c fr) (no c fr) e (tallied g) b
+      walks.walk (conditions_of c) (inner_in fr) (suc g.depth) (tree c fr x α) (yes c fr) (no c fr) e (tallied g) b
       ≡ c.result
 
 -- a visit that no limit stops
@@ -52,13 +52,13 @@ pub record In (c : World) (b : Bytes) (w : Words) (g : Go) : Type 0 where
   pub e : Bool
   pub path : Path c w g.top α fr
   pub deep : g.depth ≡ len fr
-  pub inner : g.inner ≡ (siteIn fr).inner
+  pub inner : g.inner ≡ (site_in fr).inner
   pub bad : g.bad ≡ bit e
-  pub job : Job c w (storeIn fr) α g.due x
+  pub job : Job c w (store_in fr) α g.due x
   pub gauge : Gauge c g
   pub room : g.depth < g.stop
   pub result :
-      walks.within (conditionsOf c) (innerIn fr) (suc g.depth) (tree c fr x α) (yes c fr) (no c fr) e (addNode (tallied g)) b
+      walks.within (conditions_of c) (inner_in fr) (suc g.depth) (tree c fr x α) (yes c fr) (no c fr) e (add_node (tallied g)) b
       ≡ c.result
 
 -- the present son of the topmost node is finished; all visits are counted
@@ -67,7 +67,7 @@ pub record Up (c : World) (b : Bytes) (w : Words) (g : Go) : Type 0 where
   pub α : Valuation
   pub e : Bool
   pub path : Path c w g.top α fr
-  pub inner : g.inner ≡ (siteIn fr).inner
+  pub inner : g.inner ≡ (site_in fr).inner
   pub bad : g.bad ≡ bit e
   pub counted : g.from ≡ g.depth
   pub tallies : Tallied c g
@@ -92,7 +92,7 @@ IsLeaf (error κ tok) = Unit {0}
 -- a leaf of the main tree that has a block is visited
 pub record Leaf (c : World) (b : Bytes) (w : Words) (g : Go) : Type 0 where
   pub ins : In c b w g
-  pub main : innerIn ins.fr ≡ false
+  pub main : inner_in ins.fr ≡ false
   pub leaf : IsLeaf ins.x
 
 -- all is visited
@@ -107,8 +107,8 @@ pub record Stopped (c : World) (b : Bytes) (w : Words) (g : Go) : Type 0 where
   pub limit : g.depth ≡ g.stop
 
 pub data Sim (c : World) (b : Bytes) (w : Words) (g : Go) : Type 0 where
-  down : g.mode ≡ downMode → Down c b w g → Sim c b w g
-  up : g.mode ≡ upMode → Up c b w g → Sim c b w g
-  block : g.mode ≡ blockMode → Leaf c b w g → Sim c b w g
-  done : g.mode ≡ doneMode → Over c b g → Sim c b w g
-  stopped : g.mode ≡ stoppedMode → Stopped c b w g → Sim c b w g
+  down : g.mode ≡ down_mode → Down c b w g → Sim c b w g
+  up : g.mode ≡ up_mode → Up c b w g → Sim c b w g
+  block : g.mode ≡ block_mode → Leaf c b w g → Sim c b w g
+  done : g.mode ≡ done_mode → Over c b g → Sim c b w g
+  stopped : g.mode ≡ stopped_mode → Stopped c b w g → Sim c b w g

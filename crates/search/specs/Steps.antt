@@ -3,22 +3,22 @@
 use Rattle.std.specs.Prelude.{ℕ, suc, ◌+◌, ◌≤◌, ◌<◌, ◌≡◌, Bool, ◌⊎◌, List, ◌∷◌, get_or, eqb}
 use Rattle.specification.specs.Bytes.{Bytes, pick}
 use Rattle.specification.specs.Ast.{Term, Formula, truth, and, or, imp, neg, eq, compare, ex, some, all, call}
-use Rattle.specification.specs.Fill.{fillTerm}
+use Rattle.specification.specs.Fill.{fill_term}
 use Rattle.specification.specs.Value.{Side, val, side}
 use Rattle.specification.specs.Tree.{step, check}
 use Rattle.values.specs.Word.{signed}
-use Rattle.tables.specs.Codes.{eqCode, geCode, someCode, allCode}
+use Rattle.tables.specs.Codes.{eq_code, ge_code, some_code, all_code}
 use Rattle.sheet.specs.Tables.{Words}
-use Rattle.terms.specs.Environment.{Environment, termsOf}
+use Rattle.terms.specs.Environment.{Environment, terms_of}
 use Rattle.search.specs.declared.Go.{Go}
-use Rattle.tables.specs.Leaves.{errorPlace, returnCode}
+use Rattle.tables.specs.Leaves.{error_place, return_code}
 use Rattle.plan.specs.Next.{Next, place_of}
-use Rattle.search.specs.Frame.{Item, form, What, the, error, siteIn, storeIn}
+use Rattle.search.specs.Frame.{Item, form, What, the, error, site_in, store_in}
 use Rattle.search.specs.Pend.{Pend}
 use Rattle.search.specs.Path.{World, Job}
 use Rattle.search.specs.Sim.{tree, son, In, Sim}
 use Rattle.search.specs.Registers.{tallied}
-use Rattle.search.specs.States.{downMode, upMode}
+use Rattle.search.specs.States.{down_mode, up_mode}
 
 -- in some world a node or leaf that no limit stops
 pub record Visited (w : Words) (g : Go) : Type 0 where
@@ -34,7 +34,7 @@ pub record Entered (w : Words) (g : Go) (n : ℕ) : Type 0 where
 -- what a function makes of it: where the search goes on, the visit is counted
 pub record Stepped (w w' : Words) (g q : Go) : Type 0 where
   pub sim : (c : World) (b : Bytes) → In c b w g → Sim c b w' q
-  pub counts : (q.mode ≡ downMode) ⊎ (q.mode ≡ upMode) → (tallied q).nodes ≡ suc (tallied g).nodes
+  pub counts : (q.mode ≡ down_mode) ⊎ (q.mode ≡ up_mode) → (tallied q).nodes ≡ suc (tallied g).nodes
   pub least : (tallied g).nodes ≤ (tallied q).nodes
 
 -- the node's one son is the rest of its list, which comes next
@@ -44,14 +44,14 @@ pub record GoesOn (w : Words) (g : Go) : Type 0 where
       (c : World) (b : Bytes) (i : In c b w g) →
       (is : List Item)
       × (tree c i.fr i.x i.α ≡ step (son c i.fr (the is) i.α))
-      × Job c w (storeIn i.fr) i.α (get_or w (g.due + 3) 0) (the is)
+      × Job c w (store_in i.fr) i.α (get_or w (g.due + 3) 0) (the is)
 
 -- it is a leaf, whose token is t
 pub record OneLeaf (w : Words) (g : Go) (t : ℕ) : Type 0 where
   pub at : Visited w g
   pub son :
       (c : World) (b : Bytes) (i : In c b w g) →
-      (x : What) × (tree c i.fr i.x i.α ≡ step (son c i.fr x i.α)) × Job c w (storeIn i.fr) i.α t x
+      (x : What) × (tree c i.fr i.x i.α ≡ step (son c i.fr x i.α)) × Job c w (store_in i.fr) i.α t x
 
 -- it is an error leaf
 pub record Errs (w : Words) (g : Go) (kind token : ℕ) : Type 0 where
@@ -61,14 +61,14 @@ pub record Errs (w : Words) (g : Go) (kind token : ℕ) : Type 0 where
 -- ---- calls
 
 -- where a call's procedure returns to: what comes after the token, or where that itself returns to
-abbrev pub backWord : Words → ℕ → ℕ
-backWord w t = let n = get_or w (t + 3) 0 in pick (eqb (get_or w n 0) returnCode) (get_or w (n + 1) 0) n
+abbrev pub back_word : Words → ℕ → ℕ
+back_word w t = let n = get_or w (t + 3) 0 in pick (eqb (get_or w n 0) return_code) (get_or w (n + 1) 0) n
 
 -- ---- atoms and quantifiers with values
 
 -- the code of a formula with two terms: an atom's, or that of `some` or `all`
 abbrev pub HasTerms : ℕ → Type 0
-HasTerms n = ((eqCode ≤ n) × (n ≤ geCode)) ⊎ ((n ≡ someCode) ⊎ (n ≡ allCode))
+HasTerms n = ((eq_code ≤ n) × (n ≤ ge_code)) ⊎ ((n ≡ some_code) ⊎ (n ≡ all_code))
 
 -- the two terms of an atom, or the bounds of a quantifier
 abbrev pub TermsOf : Formula → Term → Term → Type 0
@@ -88,11 +88,11 @@ TermsOf (call K ts F) s t = ⊥
 abbrev pub SidesAre : Words → Go → Side → Side → Type 0
 SidesAre w g x y =
     (c : World) (b : Bytes) (i : In c b w g) (E : Environment) (F : Formula) (is : List Item) → i.x ≡ the (form E F ∷ is) → (s t : Term) → TermsOf F s t →
-    (side c.declared i.α (fillTerm (termsOf E) s) ≡ x) × (side c.declared i.α (fillTerm (termsOf E) t) ≡ y)
+    (side c.declared i.α (fill_term (terms_of E) s) ≡ x) × (side c.declared i.α (fill_term (terms_of E) t) ≡ y)
 
 -- a formula with the code n, both of whose terms have values, with these words
 pub record Valued (w : Words) (g : Go) (n x y : ℕ) : Type 0 where
   pub at : Entered w g n
   pub sides : SidesAre w g (val (signed x)) (val (signed y))
-  pub left-fits : x < 4294967296
-  pub right-fits : y < 4294967296
+  pub left_fits : x < 4294967296
+  pub right_fits : y < 4294967296

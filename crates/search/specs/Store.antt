@@ -21,8 +21,8 @@ abbrev pub store : (ℕ → ℕ) → (ℕ → Option Call) → Store
 store f g = record { last = f; calls = g }
 
 -- at the root
-abbrev pub rootStore : Store
-rootStore = store (λ l. 0) (λ K. none)
+abbrev pub root_store : Store
+root_store = store (λ l. 0) (λ K. none)
 
 module _ {A : Type 0} where
   -- the same function but at one number
@@ -30,22 +30,22 @@ module _ {A : Type 0} where
   with f k a j = let b = f j in pick (eqb j k) a b
 
 -- below an `all` over the local l up to the word h
-abbrev pub lastStore : ℕ → ℕ → Store → Store
-lastStore l h σ = store (with σ.last l h) σ.calls
+abbrev pub last_store : ℕ → ℕ → Store → Store
+last_store l h σ = store (with σ.last l h) σ.calls
 
 -- below a call
-abbrev pub callStore : Call → Store → Store
-callStore C σ = store σ.last (with σ.calls C.level.number (just C))
+abbrev pub call_store : Call → Store → Store
+call_store C σ = store σ.last (with σ.calls C.level.number (just C))
 
 -- what comes next, past a procedure's end
-abbrev pub backOf : ℕ → Option Call → Next
-backOf K none = back K
-backOf K (just C) = C.back
+abbrev pub back_of : ℕ → Option Call → Next
+back_of K none = back K
+back_of K (just C) = C.back
 
 abbrev pub resolve : Store → Next → Next
 resolve σ end = end
 resolve σ (token i) = token i
-resolve σ (back K) = backOf K (σ.calls K)
+resolve σ (back K) = back_of K (σ.calls K)
 
 -- the calls of an environment are the store's
 pub record Active (σ : Store) (L : Level) (E : Environment) : Type 0 where

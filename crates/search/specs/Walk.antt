@@ -3,10 +3,10 @@
 use Rattle.std.specs.Prelude.{ℕ, zero, suc, Bool, true, false, ltb, eqb}
 use Rattle.specification.specs.declared.Tallies.{Tallies}
 use Rattle.specification.specs.Bytes.{Bytes, pick}
-use Rattle.specification.specs.Tree.{Tree, successLeaf, failureLeaf, errorLeaf, step, fork, fan, ask, Verdict, fails, undecided}
+use Rattle.specification.specs.Tree.{Tree, success_leaf, failure_leaf, error_leaf, step, fork, fan, ask, Verdict, fails, undecided}
 use Rattle.specification.specs.Leaves.{Leaf, answer, error, fail}
 use Rattle.specification.specs.Visits as visited
-use Rattle.specification.specs.Run.{Conditions, addNode, spent, path, Run, going, stopped, arrive}
+use Rattle.specification.specs.Run.{Conditions, add_node, spent, path, Run, going, stopped, arrive}
 
 -- what comes next, from the tallies and the bytes written
 abbrev pub Next : Type 0
@@ -25,7 +25,7 @@ module _ (C : Conditions) where
   -- a visit at the end of a path of d: the two limits, then the node is counted
   unfoldable pub gated : ℕ → Next → Next
   gated d k t w =
-      let r = k (addNode t) w in
+      let r = k (add_node t) w in
       pick (eqb t.nodes C.setting.budget) (stopped spent t w) (pick (ltb C.setting.path d) (stopped path t w) r)
 
   -- a leaf of the main tree, its visit counted, and then k
@@ -33,22 +33,22 @@ module _ (C : Conditions) where
   leaf l k t w = onto k (arrive C (visited.leaf l) t w)
 
   -- n sons from the i-th on
-  unfoldable pub sonsFrom : ℕ → ℕ → (ℕ → (Bool → Next) → Bool → Next) → (Bool → Next) → Bool → Next
-  sonsFrom zero i g k e t w = k e t w
-  sonsFrom (suc n) i g k e t w = g i (λ e'. sonsFrom n (suc i) g k e') e t w
+  unfoldable pub sons_from : ℕ → ℕ → (ℕ → (Bool → Next) → Bool → Next) → (Bool → Next) → Bool → Next
+  sons_from zero i g k e t w = k e t w
+  sons_from (suc n) i g k e t w = g i (λ e'. sons_from n (suc i) g k e') e t w
 
   -- a tree whose root's visit at depth d is counted: y after a success leaf of an inner tree, else k with whether an error leaf was seen
   -- in the present inner tree. The first Bool: whether this is an inner tree
   unfoldable pub within : Bool → ℕ → Tree → Next → (Bool → Next) → Bool → Next
-  within true d (successLeaf β) y k e t w = y t w
-  within true d failureLeaf y k e t w = k e t w
-  within true d (errorLeaf κ tok β) y k e t w = k true t w
-  within false d (successLeaf β) y k e t w = leaf (answer β) (k e) t w
-  within false d failureLeaf y k e t w = leaf fail (k e) t w
-  within false d (errorLeaf κ tok β) y k e t w = leaf (error κ tok β) (k e) t w
+  within true d (success_leaf β) y k e t w = y t w
+  within true d failure_leaf y k e t w = k e t w
+  within true d (error_leaf κ tok β) y k e t w = k true t w
+  within false d (success_leaf β) y k e t w = leaf (answer β) (k e) t w
+  within false d failure_leaf y k e t w = leaf fail (k e) t w
+  within false d (error_leaf κ tok β) y k e t w = leaf (error κ tok β) (k e) t w
   within m d (step T) y k e t w = gated (suc d) (within m (suc d) T y k e) t w
   within m d (fork T U) y k e t w = gated (suc d) (within m (suc d) T y (λ e'. gated (suc d) (within m (suc d) U y k e')) e) t w
-  within m d (fan x n f) y k e t w = sonsFrom n 0 (λ i k' e'. gated (suc d) (within m (suc d) (f i) y k' e')) k e t w
+  within m d (fan x n f) y k e t w = sons_from n 0 (λ i k' e'. gated (suc d) (within m (suc d) (f i) y k' e')) k e t w
   within m d (ask I T) y k e t w =
       gated (suc d)
       (within true (suc d) I (gated (suc d) (within m (suc d) T y k e)) (λ e'. gated (suc d) (within m (suc d) T y k e)) false)

@@ -6,13 +6,13 @@ use mathlib.Core.Path.{◌≡◌, refl, ◌∙◌, ap, subst}
 use mathlib.Core.List.{List, [], ◌∷◌, ◌++◌, append_assoc}
 use lib.ListN.{length, drop}
 use lib.Seq.{drop-nil}
-use Rattle.specification.specs.Ast.{Op, add, sub, mul, quo, rem, div, modulo, Rel, ne, lt, le, gt, ge, Term, constant, scalarAt, local_at, parameter, elementAt, apply, Formula, truth, and, or, imp, neg, eq, compare, ex, some, all, call}
+use Rattle.specification.specs.Ast.{Op, add, sub, mul, quo, rem, div, modulo, Rel, ne, lt, le, gt, ge, Term, constant, scalar_at, local_at, parameter, element_at, apply, Formula, truth, and, or, imp, neg, eq, compare, ex, some, all, call}
 use Rattle.specification.proofs.Laws.Contradiction.{contradiction}
 use Rattle.values.specs.Word.{biased}
-use Rattle.tables.specs.Codes.{trueCode, andCode, orCode, impCode, notCode, eqCode, exCode, someCode, allCode, callCode, constant_code, scalarCode, localCode, arrayCode, parameterCode, procedureCode}
+use Rattle.tables.specs.Codes.{true_code, and_code, or_code, imp_code, not_code, eq_code, ex_code, some_code, all_code, call_code, constant_code, scalar_code, local_code, array_code, parameter_code, procedure_code}
 use Rattle.sheet.specs.declared.Token.{Token}
-use Rattle.sheet.specs.Codes.{token, relCode, opCode, termTokens, termsTokens, formulaTokens}
-use Rattle.sheet.specs.Sorts.{arity, wordOperands, operandsOf}
+use Rattle.sheet.specs.Codes.{token, rel_code, op_code, term_tokens, terms_tokens, formula_tokens}
+use Rattle.sheet.specs.Sorts.{arity, word_operands, operands_of}
 use Rattle.sheet.specs.Tables.{after}
 use Rattle.sheet.proofs.CodeOperands.{number-operands}
 
@@ -53,8 +53,8 @@ leaf t e = node t 0 [] e nothing
 two : (t : Token) (xs ys : List Token) → arity t.code ≡ 2 → Subtrees 1 xs → Subtrees 1 ys → Subtrees 1 (t ∷ (xs ++ ys))
 two t xs ys e h k = node t 2 (xs ++ ys) e (joined 1 1 xs ys h k)
 
-op-arity : (o : Op) → arity (opCode o) ≡ 2
-unfolding arity operandsOf wordOperands
+op-arity : (o : Op) → arity (op_code o) ≡ 2
+unfolding arity operands_of word_operands
 op-arity add = refl
 op-arity sub = refl
 op-arity mul = refl
@@ -63,61 +63,61 @@ op-arity rem = refl
 op-arity div = refl
 op-arity modulo = refl
 
-rel-arity : (c : Rel) → arity (relCode c) ≡ 2
-unfolding arity operandsOf wordOperands
+rel-arity : (c : Rel) → arity (rel_code c) ≡ 2
+unfolding arity operands_of word_operands
 rel-arity ne = refl
 rel-arity lt = refl
 rel-arity le = refl
 rel-arity gt = refl
 rel-arity ge = refl
 
-number-arity : (n : ℕ) → arity (procedureCode + n) ≡ n
+number-arity : (n : ℕ) → arity (procedure_code + n) ≡ n
 unfolding arity
 number-arity n = rw (number-operands n)
 
-pub term-subtree : (t : Term) → Subtrees 1 (termTokens t)
-unfolding termTokens arity operandsOf wordOperands
+pub term-subtree : (t : Term) → Subtrees 1 (term_tokens t)
+unfolding term_tokens arity operands_of word_operands
 term-subtree (constant z) = leaf (token constant_code (biased z)) refl
-term-subtree (scalarAt c) = leaf (token scalarCode c) refl
-term-subtree (local_at l) = leaf (token localCode l) refl
-term-subtree (parameter n) = leaf (token parameterCode n) refl
-term-subtree (elementAt a t) = node (token arrayCode a) 1 (termTokens t) refl (term-subtree t)
-term-subtree (apply o s t) = two (token (opCode o) 0) (termTokens s) (termTokens t) (op-arity o) (term-subtree s) (term-subtree t)
+term-subtree (scalar_at c) = leaf (token scalar_code c) refl
+term-subtree (local_at l) = leaf (token local_code l) refl
+term-subtree (parameter n) = leaf (token parameter_code n) refl
+term-subtree (element_at a t) = node (token array_code a) 1 (term_tokens t) refl (term-subtree t)
+term-subtree (apply o s t) = two (token (op_code o) 0) (term_tokens s) (term_tokens t) (op-arity o) (term-subtree s) (term-subtree t)
 
-pub terms-subtree : (ts : List Term) → Subtrees (length ts) (termsTokens ts)
-unfolding termsTokens
+pub terms-subtree : (ts : List Term) → Subtrees (length ts) (terms_tokens ts)
+unfolding terms_tokens
 terms-subtree [] = nothing
 terms-subtree (t ∷ ts) =
     let e : 1 + length ts ≡ suc (length ts) = omega arith in
-    subst (λ k. Subtrees k (termTokens t ++ termsTokens ts)) e (joined 1 (length ts) (termTokens t) (termsTokens ts) (term-subtree t) (terms-subtree ts))
+    subst (λ k. Subtrees k (term_tokens t ++ terms_tokens ts)) e (joined 1 (length ts) (term_tokens t) (terms_tokens ts) (term-subtree t) (terms-subtree ts))
 
 -- a procedure's number, and its arguments
-pub number-subtree : (K : ℕ) (ts : List Term) → Subtrees 1 (token (procedureCode + length ts) K ∷ termsTokens ts)
-number-subtree K ts = node (token (procedureCode + length ts) K) (length ts) (termsTokens ts) (number-arity (length ts)) (terms-subtree ts)
+pub number-subtree : (K : ℕ) (ts : List Term) → Subtrees 1 (token (procedure_code + length ts) K ∷ terms_tokens ts)
+number-subtree K ts = node (token (procedure_code + length ts) K) (length ts) (terms_tokens ts) (number-arity (length ts)) (terms-subtree ts)
 
 -- a binder with bounds
 range : (c l : ℕ) (a b : Term) (xs : List Token) → arity c ≡ 4 → Subtrees 1 xs →
-    Subtrees 1 (token c 0 ∷ token localCode l ∷ (termTokens a ++ (termTokens b ++ xs)))
-unfolding arity operandsOf wordOperands
+    Subtrees 1 (token c 0 ∷ token local_code l ∷ (term_tokens a ++ (term_tokens b ++ xs)))
+unfolding arity operands_of word_operands
 range c l a b xs e h =
-    node (token c 0) 4 (token localCode l ∷ (termTokens a ++ (termTokens b ++ xs))) e
-    (joined 1 3 (token localCode l ∷ []) (termTokens a ++ (termTokens b ++ xs)) (leaf (token localCode l) refl)
-    (joined 1 2 (termTokens a) (termTokens b ++ xs) (term-subtree a) (joined 1 1 (termTokens b) xs (term-subtree b) h)))
+    node (token c 0) 4 (token local_code l ∷ (term_tokens a ++ (term_tokens b ++ xs))) e
+    (joined 1 3 (token local_code l ∷ []) (term_tokens a ++ (term_tokens b ++ xs)) (leaf (token local_code l) refl)
+    (joined 1 2 (term_tokens a) (term_tokens b ++ xs) (term-subtree a) (joined 1 1 (term_tokens b) xs (term-subtree b) h)))
 
-pub formula-subtree : (F : Formula) → Subtrees 1 (formulaTokens F)
-unfolding formulaTokens arity operandsOf wordOperands
-formula-subtree truth = leaf (token trueCode 0) refl
-formula-subtree (and F G) = two (token andCode 0) (formulaTokens F) (formulaTokens G) refl (formula-subtree F) (formula-subtree G)
-formula-subtree (or F G) = two (token orCode 0) (formulaTokens F) (formulaTokens G) refl (formula-subtree F) (formula-subtree G)
-formula-subtree (imp n F G) = two (token impCode 0) (formulaTokens F) (formulaTokens G) refl (formula-subtree F) (formula-subtree G)
-formula-subtree (neg n F) = node (token notCode 0) 1 (formulaTokens F) refl (formula-subtree F)
-formula-subtree (eq n s t) = two (token eqCode 0) (termTokens s) (termTokens t) refl (term-subtree s) (term-subtree t)
-formula-subtree (compare n c s t) = two (token (relCode c) 0) (termTokens s) (termTokens t) (rel-arity c) (term-subtree s) (term-subtree t)
-formula-subtree (ex l F) = two (token exCode 0) (token localCode l ∷ []) (formulaTokens F) refl (leaf (token localCode l) refl) (formula-subtree F)
-formula-subtree (some n l a b F) = range someCode l a b (formulaTokens F) refl (formula-subtree F)
-formula-subtree (all n l a b F) = range allCode l a b (formulaTokens F) refl (formula-subtree F)
+pub formula-subtree : (F : Formula) → Subtrees 1 (formula_tokens F)
+unfolding formula_tokens arity operands_of word_operands
+formula-subtree truth = leaf (token true_code 0) refl
+formula-subtree (and F G) = two (token and_code 0) (formula_tokens F) (formula_tokens G) refl (formula-subtree F) (formula-subtree G)
+formula-subtree (or F G) = two (token or_code 0) (formula_tokens F) (formula_tokens G) refl (formula-subtree F) (formula-subtree G)
+formula-subtree (imp n F G) = two (token imp_code 0) (formula_tokens F) (formula_tokens G) refl (formula-subtree F) (formula-subtree G)
+formula-subtree (neg n F) = node (token not_code 0) 1 (formula_tokens F) refl (formula-subtree F)
+formula-subtree (eq n s t) = two (token eq_code 0) (term_tokens s) (term_tokens t) refl (term-subtree s) (term-subtree t)
+formula-subtree (compare n c s t) = two (token (rel_code c) 0) (term_tokens s) (term_tokens t) (rel-arity c) (term-subtree s) (term-subtree t)
+formula-subtree (ex l F) = two (token ex_code 0) (token local_code l ∷ []) (formula_tokens F) refl (leaf (token local_code l) refl) (formula-subtree F)
+formula-subtree (some n l a b F) = range some_code l a b (formula_tokens F) refl (formula-subtree F)
+formula-subtree (all n l a b F) = range all_code l a b (formula_tokens F) refl (formula-subtree F)
 formula-subtree (call K ts F) =
-    node (token callCode 0) 1 (token (procedureCode + length ts) K ∷ termsTokens ts) refl (number-subtree K ts)
+    node (token call_code 0) 1 (token (procedure_code + length ts) K ∷ terms_tokens ts) refl (number-subtree K ts)
 
 -- ---- what follows a subtree
 
@@ -126,7 +126,7 @@ after-subtree xs rest h = h rest 0 ∙ after_none rest
 
 pub some-token : (xs : List Token) → Subtrees 1 xs → 1 ≤ length xs
 unfolding after
-some-token [] h = contradiction (ap length (h (token trueCode 0 ∷ []) 0))
+some-token [] h = contradiction (ap length (h (token true_code 0 ∷ []) 0))
 some-token (x ∷ xs) h = omega arith
 
 -- ---- by numbers: what is left is an end of the list

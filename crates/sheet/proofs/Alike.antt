@@ -9,21 +9,21 @@ use Rattle.specification.specs.Parser.{Reader, Read, refused, found, Parser, giv
 use Rattle.specification.specs.Lines.{count}
 use Rattle.specification.specs.Formula.{Locals}
 use Rattle.specification.proofs.Laws.LineReaders.{Composed, count_by}
-use Rattle.sheet.specs.Answers.{numberTo}
+use Rattle.sheet.specs.Answers.{number_to}
 
 module _ (t : ℕ) (B : Locals) where
   -- after t tokens, with these locals bound
   abbrev pub later : Reader → Reader
   later r = record { place = r.place; rest = r.rest; tokens = t; bound = B }
 
-  abbrev pub laterRead : {A : Type 0} → Read A → Read A
-  laterRead (refused n p) = refused n p
-  laterRead (found a r) = found a (later r)
+  abbrev pub later_read : {A : Type 0} → Read A → Read A
+  later_read (refused n p) = refused n p
+  later_read (found a r) = found a (later r)
 
   abbrev pub Alike : {A : Type 0} → Parser A → Type 0
-  Alike m = (r : Reader) → m (later r) ≡ laterRead (m r)
+  Alike m = (r : Reader) → m (later r) ≡ later_read (m r)
 
-  pick-later : {A : Type 0} (b : Bool) (x y : Read A) → pick b (laterRead x) (laterRead y) ≡ laterRead (pick b x y)
+  pick-later : {A : Type 0} (b : Bool) (x y : Read A) → pick b (later_read x) (later_read y) ≡ later_read (pick b x y)
   pick-later true x y = refl
   pick-later false x y = refl
 
@@ -42,7 +42,7 @@ module _ (t : ℕ) (B : Locals) where
   bind-alike : {A C : Type 0} (m : Parser A) (f : A → Parser C) → Alike m → ((a : A) → Alike (f a)) → Alike (m >>= f)
   bind-alike {A} m f h k r = ap (and_then f) (h r) ∙ by (m r)
     where
-      by : (x : Read A) → and_then f (laterRead x) ≡ laterRead (and_then f x)
+      by : (x : Read A) → and_then f (later_read x) ≡ later_read (and_then f x)
       by (refused n p) = refl
       by (found a r₁) = k a r₁
 
@@ -59,7 +59,7 @@ module _ (t : ℕ) (B : Locals) where
     taken = taken-alike;
   }
 
-  pub number-alike : (k : Bytes) (lo hi : ℕ) (c : Class) → Alike (numberTo k lo hi c)
+  pub number-alike : (k : Bytes) (lo hi : ℕ) (c : Class) → Alike (number_to k lo hi c)
   number-alike k lo hi c =
       bind-alike (exactly 3 k) (λ u. count lo hi >>= λ n. mark c >> give n) (exactly-alike 3 k) λ u.
       bind-alike (count lo hi) (λ n. mark c >> give n) (count_by alike-composed lo hi) λ n.

@@ -12,8 +12,8 @@ use Rattle.specification.specs.Lines.{Declared}
 use Rattle.specification.specs.Given.{Item}
 use Rattle.specification.specs.Ast.{Formula}
 use Rattle.specification.specs.Formula.{formula}
-use Rattle.specification.specs.Sheet.{withProcedures, procedureLines, mostProcedures, Sheet, refuses, sheet}
-use Rattle.tables.specs.Layout.{maxNesting}
+use Rattle.specification.specs.Sheet.{with_procedures, procedure_lines, most_procedures, Sheet, refuses, sheet}
+use Rattle.tables.specs.Layout.{max_nesting}
 use Rattle.sheet.specs.declared.given.Given.{Given}
 use Rattle.sheet.specs.declared.given.Given.TheVariants as goal
 use Rattle.sheet.specs.declared.formula.Limits.{Limits}
@@ -22,15 +22,15 @@ use Rattle.sheet.specs.declared.formula.Parsed.{Parsed}
 use Rattle.sheet.specs.declared.formula.Parsed.TheVariants as parsed
 use Rattle.sheet.specs.declared.whole.Progress.{Progress}
 use Rattle.sheet.specs.declared.whole.Progress.TheVariants as progress
-use Rattle.sheet.specs.Codes.{formulaTokens, proceduresTokens}
-use Rattle.sheet.specs.Reader.{readerAt, line_at}
-use Rattle.sheet.specs.Tables.{Words, laidCells, laidGiven, laidProcs, laidTokens, declaredTables, tables}
+use Rattle.sheet.specs.Codes.{formula_tokens, procedures_tokens}
+use Rattle.sheet.specs.Reader.{reader_at, line_at}
+use Rattle.sheet.specs.Tables.{Words, laid_cells, laid_given, laid_procs, laid_tokens, declared_tables, tables}
 use Rattle.sheet.specs.Items.{GivenFound, GivenDone}
 use Rattle.sheet.specs.Stack.{Beside}
-use Rattle.sheet.specs.Ends.{tokensIn}
-use Rattle.sheet.specs.FormulaLine.{lineFormula, formulaRest, refusesIn, begin, Laid, LineRead}
-use Rattle.sheet.specs.Rest.{sheetOf, fromFormula, fromProcedures, fromGiven}
-use Rattle.sheet.specs.Whole.{Ranged, Filled, Stage, Went, Goes, Leads, leftLines, reached}
+use Rattle.sheet.specs.Ends.{tokens_in}
+use Rattle.sheet.specs.FormulaLine.{line_formula, formula_rest, refuses_in, begin, Laid, LineRead}
+use Rattle.sheet.specs.Rest.{sheet_of, from_formula, from_procedures, from_given}
+use Rattle.sheet.specs.Whole.{Ranged, Filled, Stage, Went, Goes, Leads, left_lines, reached}
 use Rattle.sheet.proofs.Left.{then_same}
 use Rattle.sheet.proofs.Laid.{tokens-length}
 use Rattle.sheet.proofs.Regions.{given-length}
@@ -45,12 +45,12 @@ use Rattle.sheet.proofs.Subtrees.{beside-tokens-in}
 -- after them the sheet's reading goes on as the lines of procedures and the formula's line do
 module _ (refusing : Bool) (D : Declared) (is : List Item) where
   abbrev whole : Formula → Reader → Read Sheet
-  whole F = give (sheetOf D is F)
+  whole F = give (sheet_of D is F)
 
   formula-sheet : (r : Reader) →
-      and_then (λ u. formula refusing D maxNesting [] >>= λ F. mark feed >> (finish >> whole F)) (key (bytes "formula=") r) ≡
-      fromFormula refusing D is r
-  unfolding formulaRest lineFormula
+      and_then (λ u. formula refusing D max_nesting [] >>= λ F. mark feed >> (finish >> whole F)) (key (bytes "formula=") r) ≡
+      from_formula refusing D is r
+  unfolding formula_rest line_formula
   formula-sheet r = by_key (key (bytes "formula=") r)
     where
       by_end : (F : Formula) (x : Read (Unit {0})) → and_then (λ u. whole F) x ≡ and_then whole (and_then (λ u. give F) x)
@@ -67,29 +67,29 @@ module _ (refusing : Bool) (D : Declared) (is : List Item) where
       by-formula (found F r) = by-feed F (mark feed r)
 
       by_key : (x : Read (Unit {0})) →
-          and_then (λ u. formula refusing D maxNesting [] >>= λ F. mark feed >> (finish >> whole F)) x ≡
-          and_then whole (and_then (λ u. (formula refusing D maxNesting [] >>= λ F. mark feed >> give F) >>= λ F. finish >> give F) x)
+          and_then (λ u. formula refusing D max_nesting [] >>= λ F. mark feed >> (finish >> whole F)) x ≡
+          and_then whole (and_then (λ u. (formula refusing D max_nesting [] >>= λ F. mark feed >> give F) >>= λ F. finish >> give F) x)
       by_key (refused k p) = refl
-      by_key (found u r) = by-formula (formula refusing D maxNesting [] r)
+      by_key (found u r) = by-formula (formula refusing D max_nesting [] r)
 
 procedures-sheet : (refusing : Bool) (k : ℕ) (D : Declared) (is : List Item) (r : Reader) →
     and_then
-    (λ Ps. let E = withProcedures Ps D in
-    key (bytes "formula=") >> (formula refusing E maxNesting [] >>= λ F. mark feed >> (finish >> give (sheetOf E is F))))
-    (procedureLines refusing k D r) ≡
-    fromProcedures refusing k D is r
-procedures-sheet refusing k D is r = then_same (λ Ps r₁. formula-sheet refusing (withProcedures Ps D) is r₁) (procedureLines refusing k D r)
+    (λ Ps. let E = with_procedures Ps D in
+    key (bytes "formula=") >> (formula refusing E max_nesting [] >>= λ F. mark feed >> (finish >> give (sheet_of E is F))))
+    (procedure_lines refusing k D r) ≡
+    from_procedures refusing k D is r
+procedures-sheet refusing k D is r = then_same (λ Ps r₁. formula-sheet refusing (with_procedures Ps D) is r₁) (procedure_lines refusing k D r)
 
 module _ (s : Bytes) (n : ℕ) (d : Limits) (at : ℕ) (w : Words) (h : Ranged s n d at w) (w₁ : Words) (r : Given) (g : GivenDone h.declared s at w w₁ r) where
   pub given-refused : (k p : ℕ) → r ≡ goal.Refused k p → Went d.strict 5 s n (progress.Refused k p) w₁
-  unfolding fromGiven
+  unfolding from_given
   given-refused k p q =
       let x : GivenDone h.declared s at w w₁ (goal.Refused k p) = rw q at g in
       (h.rest ∙ rw x.0, x.1 ∙ h.long)
 
   pub given-found : (c : ℕ) (x : Reached) → r ≡ goal.Read c → x ≡ reached c → Went d.strict 5 s n (progress.Read d x) w₁
-  unfolding fromGiven laidProcs laidTokens proceduresTokens
-  given-found c x q there = (refl, subst (λ y. Filled (leftLines d) s n d y w₁) (sym there) at_place)
+  unfolding from_given laid_procs laid_tokens procedures_tokens
+  given-found c x q there = (refl, subst (λ y. Filled (left_lines d) s n d y w₁) (sym there) at_place)
     where
       f : GivenFound h.declared s at w w₁ c
       f = rw q at g
@@ -97,33 +97,33 @@ module _ (s : Bytes) (n : ℕ) (d : Limits) (at : ℕ) (w : Words) (h : Ranged s
       edition : ℕ
       edition = h.declared.edition
 
-      most : mostProcedures edition ≡ leftLines d
+      most : most_procedures edition ≡ left_lines d
       most =
           let z : d.procedures ≡ 0 = sym h.counts.procedures ∙ ap length h.none in
-          ap mostProcedures h.counts.edition ∙ omega (arith, z)
+          ap most_procedures h.counts.edition ∙ omega (arith, z)
 
       base : Words
-      base = laidGiven f.items (laidCells h.declared (replicate n 0))
+      base = laid_given f.items (laid_cells h.declared (replicate n 0))
 
       same : w₁ ≡ base
-      same = f.laid ∙ ap (laidGiven f.items) h.words
+      same = f.laid ∙ ap (laid_given f.items) h.words
 
-      at_place : Filled (leftLines d) s n d (reached c) w₁
+      at_place : Filled (left_lines d) s n d (reached c) w₁
       at_place = record {
         declared = h.declared;
         items = f.items;
         locals = [];
         rest = h.rest ∙
-            rw f.read (procedures-sheet (refuses d.strict edition) (mostProcedures edition) h.declared f.items (line_at s c)) ∙
-            ap (λ e. fromProcedures (refuses d.strict e) (mostProcedures edition) h.declared f.items (line_at s c)) h.counts.edition ∙
-            ap (λ k. fromProcedures (refusesIn d) k h.declared f.items (line_at s c)) most;
+            rw f.read (procedures-sheet (refuses d.strict edition) (most_procedures edition) h.declared f.items (line_at s c)) ∙
+            ap (λ e. from_procedures (refuses d.strict e) (most_procedures edition) h.declared f.items (line_at s c)) h.counts.edition ∙
+            ap (λ k. from_procedures (refuses_in d) k h.declared f.items (line_at s c)) most;
         counts = h.counts;
         plain = h.plain;
         small = h.small;
         set = bits_none;
-        tokens = ap (λ Ps. length (proceduresTokens Ps)) h.none;
+        tokens = ap (λ Ps. length (procedures_tokens Ps)) h.none;
         few = omega arith;
-        words = subst (λ Ps. Beside (laidTokens 0 (proceduresTokens Ps) (laidProcs 0 0 Ps base)) w₁) (sym h.none) (subst (Beside base) (sym same) (beside-self base));
+        words = subst (λ Ps. Beside (laid_tokens 0 (procedures_tokens Ps) (laid_procs 0 0 Ps base)) w₁) (sym h.none) (subst (Beside base) (sym same) (beside-self base));
         long = ap length f.laid ∙ given-length f.items w ∙ h.long;
         enough = h.enough;
       }
@@ -132,39 +132,39 @@ module _ (s : Bytes) (n : ℕ) (d : Limits) (at : ℕ) (w : Words) (h : Ranged s
 
 module _ (s : Bytes) (n : ℕ) (d : Limits) (x : Reached) (w : Words) (h : Filled 0 s n d x w) (w₁ : Words) (r : Parsed)
     (f : LineRead (begin s d x.at x.tokens h.locals) h.declared w w₁ r) where
-  abbrev onFormula : Read Formula → Read Sheet
-  onFormula y = and_then (λ F. give (sheetOf h.declared h.items F)) y
+  abbrev on_formula : Read Formula → Read Sheet
+  on_formula y = and_then (λ F. give (sheet_of h.declared h.items F)) y
 
   -- no procedures are left
-  formula-next : sheet d.strict (line_at s 0) ≡ onFormula (formulaRest (refusesIn d) h.declared (readerAt s x.at x.tokens h.locals))
-  unfolding procedureLines
+  formula-next : sheet d.strict (line_at s 0) ≡ on_formula (formula_rest (refuses_in d) h.declared (reader_at s x.at x.tokens h.locals))
+  unfolding procedure_lines
   formula-next = h.rest
 
   pub formula-refused : (k p : ℕ) → r ≡ parsed.Refused k p → Went d.strict 7 s n (progress.Refused k p) w₁
   formula-refused k p q =
       let y : LineRead (begin s d x.at x.tokens h.locals) h.declared w w₁ (parsed.Refused k p) = rw q at f in
-      (formula-next ∙ ap onFormula y.0, y.1 ∙ h.long)
+      (formula-next ∙ ap on_formula y.0, y.1 ∙ h.long)
 
   pub formula-found : (t e m : ℕ) → r ≡ parsed.Read t →
       Went d.strict 7 s n (progress.Read d (record { first = x.tokens; tokens = t; bound = m; at = e })) w₁
   unfolding tables
   formula-found t e m q =
       let l : Laid (begin s d x.at x.tokens h.locals) h.declared w w₁ t = rw q at f in
-      let T = proceduresTokens h.declared.procedures in
-      let ts = formulaTokens l.formula in
-      let base = declaredTables h.declared h.items n in
+      let T = procedures_tokens h.declared.procedures in
+      let ts = formula_tokens l.formula in
+      let base = declared_tables h.declared h.items n in
       let long : length base ≡ n = declared-length h.declared h.items n in
       let size = length-append T ts in
-      let there : tokensIn w 0 x.tokens ≡ T =
-      ap (tokensIn w 0) (sym h.tokens) ∙ beside-tokens-in T base w (omega (arith, h.tokens, h.few)) (omega (arith, long, h.enough)) h.words in
+      let there : tokens_in w 0 x.tokens ≡ T =
+      ap (tokens_in w 0) (sym h.tokens) ∙ beside-tokens-in T base w (omega (arith, h.tokens, h.few)) (omega (arith, long, h.enough)) h.words in
       let laid = beside-tokens ts x.tokens (rw tokens-length (omega (arith, long, h.enough, l.count, l.few))) h.words in
-      let from : laidTokens 0 (T ++ ts) base ≡ laidTokens x.tokens ts (laidTokens 0 T base) =
-      tokens-both T ts 0 base ∙ ap (λ i. laidTokens i ts (laidTokens 0 T base)) (omega (arith, h.tokens)) in (
+      let from : laid_tokens 0 (T ++ ts) base ≡ laid_tokens x.tokens ts (laid_tokens 0 T base) =
+      tokens-both T ts 0 base ∙ ap (λ i. laid_tokens i ts (laid_tokens 0 T base)) (omega (arith, h.tokens)) in (
         refl,
         record {
-          whole = sheetOf h.declared h.items l.formula;
+          whole = sheet_of h.declared h.items l.formula;
           after = l.after;
-          is = formula-next ∙ ap onFormula l.is;
+          is = formula-next ∙ ap on_formula l.is;
           scalars = h.counts.scalars;
           arrays = h.counts.arrays;
           tokens = omega (arith, size, h.tokens, l.count);

@@ -10,47 +10,47 @@ use lib.Dec.{leb}
 use lib.ListN.{length, get_or, take, drop, set, length-set}
 use lib.Seq.{drop-drop}
 use borrow.Author.Tests.{leb-true}
-use Rattle.specification.specs.Bytes.{Bytes, bytes, pick, between, comma, feed, classNumber, begins}
+use Rattle.specification.specs.Bytes.{Bytes, bytes, pick, between, comma, feed, class_number, begins}
 use Rattle.specification.specs.Parser.{Reader, Read, refused, found, require, and_then, ◌>>◌, give, next, mark}
-use Rattle.specification.specs.Lines.{index, count, lengths, arraysLine, sum, Declared, first_of}
+use Rattle.specification.specs.Lines.{index, count, lengths, arrays_line, sum, Declared, first_of}
 use Rattle.specification.proofs.Laws.Contradiction.{contradiction}
 use Rattle.text.specs.Class.{class_at}
 use Rattle.text.proofs.Laws.Class.{class-next, class-not-next}
-use Rattle.tables.specs.Layout.{maxArrays, maxCells, first_slot}
+use Rattle.tables.specs.Layout.{max_arrays, max_cells, first_slot}
 use Rattle.sheet.specs.declared.arrays.Arrays.{Arrays}
 use Rattle.sheet.specs.declared.arrays.Arrays.TheVariants as arrays
 use Rattle.sheet.specs.declared.lines.Count.{Count}
 use Rattle.sheet.specs.declared.lines.Count.TheVariants as counted
 use Rattle.sheet.specs.Reader.{line_at}
-use Rattle.sheet.specs.Tables.{Words, laidFirsts, laidArrays}
-use Rattle.sheet.specs.Answers.{mapped, countRead}
-use Rattle.sheet.specs.Firsts.{laidOn, Table, tabled, arraysValue, arraysRead, ArraysFound}
+use Rattle.sheet.specs.Tables.{Words, laid_firsts, laid_arrays}
+use Rattle.sheet.specs.Answers.{mapped, count_read}
+use Rattle.sheet.specs.Firsts.{laid_on, Table, tabled, arrays_value, arrays_read, ArraysFound}
 use Rattle.sheet.proofs.Answers.{Origin, mapped-refused, mapped-found}
 use Rattle.sheet.proofs.Keys.{exactly-yes, exactly-no, mark-yes, closed, closed-yes, closed-no}
 
 -- ---- first cells
 
 module _ (a end : ℕ) (w : Words) where
-  laid_next : (ns : List ℕ) → a ≤ maxArrays
-      → laidOn (suc maxArrays - a) a end ns w ≡ laidOn (suc maxArrays - (a + 1)) (a + 1) (end + get_or ns 0 0) (drop 1 ns) (set w (first_slot a) end)
-  unfolding laidOn
+  laid_next : (ns : List ℕ) → a ≤ max_arrays
+      → laid_on (suc max_arrays - a) a end ns w ≡ laid_on (suc max_arrays - (a + 1)) (a + 1) (end + get_or ns 0 0) (drop 1 ns) (set w (first_slot a) end)
+  unfolding laid_on
   laid_next ns h =
-      let q : suc maxArrays - a ≡ suc (suc maxArrays - (a + 1)) = omega arith in
+      let q : suc max_arrays - a ≡ suc (suc max_arrays - (a + 1)) = omega arith in
       rw (q, add-one)
 
 -- ---- the loop of `fill`: what is laid from the start on is laid from here on
 
 pub record Filling (w₀ : Words) (from end : ℕ) (w : Words) (a : ℕ) : Type 0 where
   pub long : length w ≡ length w₀
-  pub rest : laidOn (suc maxArrays - from) from end [] w₀ ≡ laidOn (suc maxArrays - a) a end [] w
+  pub rest : laid_on (suc max_arrays - from) from end [] w₀ ≡ laid_on (suc max_arrays - a) a end [] w
 
 module _ {w₀ : Words} {from end : ℕ} {w : Words} {a : ℕ} (st : Filling w₀ from end w a) where
-  pub fill_more : a ≤ maxArrays → (w' : Words) → w' ≡ set w (first_slot a) end → Filling w₀ from end w' (a + 1)
+  pub fill_more : a ≤ max_arrays → (w' : Words) → w' ≡ set w (first_slot a) end → Filling w₀ from end w' (a + 1)
   fill_more h w' laid = rw laid (record { long = length-set w (first_slot a) end ∙ st.long; rest = st.rest ∙ laid_next a end w [] h ∙ rw add-zero })
 
-  pub fill_done : maxArrays < a → w ≡ laidOn (suc maxArrays - from) from end [] w₀
-  unfolding laidOn
-  fill_done h = let q : suc maxArrays - a ≡ 0 = omega arith in sym (rw q at st.rest)
+  pub fill_done : max_arrays < a → w ≡ laid_on (suc max_arrays - from) from end [] w₀
+  unfolding laid_on
+  fill_done h = let q : suc max_arrays - a ≡ 0 = omega arith in sym (rw q at st.rest)
 
 -- ---- the first cells of a sheet
 
@@ -65,16 +65,16 @@ pub first_more : (D : Declared) (a : ℕ) → first_of D (suc a) ≡ first_of D 
 unfolding first_of
 first_more D a = omega (arith, sum_more D.arrays a)
 
-laid-declared : (D : Declared) (m a : ℕ) (w : Words) → laidFirsts D a m w ≡ laidOn m a (first_of D a) (drop a D.arrays) w
-unfolding laidFirsts laidOn
+laid-declared : (D : Declared) (m a : ℕ) (w : Words) → laid_firsts D a m w ≡ laid_on m a (first_of D a) (drop a D.arrays) w
+unfolding laid_firsts laid_on
 laid-declared D zero a w = refl
 laid-declared D (suc m) a w = rw (sym (first_more D a), drop-drop, add-one a) (laid-declared D m (suc a) (set w (first_slot a) (first_of D a)))
 
 -- the first cells of a sheet that declares the lengths
-declared-laid : (D : Declared) (scalars : ℕ) (ns : List ℕ) (w : Words) → D.scalars ≡ scalars → D.arrays ≡ ns → laidOn (suc maxArrays) 0 scalars ns w ≡ laidArrays D w
-unfolding laidArrays first_of sum
+declared-laid : (D : Declared) (scalars : ℕ) (ns : List ℕ) (w : Words) → D.scalars ≡ scalars → D.arrays ≡ ns → laid_on (suc max_arrays) 0 scalars ns w ≡ laid_arrays D w
+unfolding laid_arrays first_of sum
 declared-laid D scalars ns w a b =
-    ap (λ (x : ℕ). laidOn (suc maxArrays) 0 x ns w) (sym a ∙ sym (add-zero D.scalars)) ∙ ap (λ (l : List ℕ). laidOn (suc maxArrays) 0 (D.scalars + 0) l w) (sym b) ∙ sym (laid-declared D (suc maxArrays) 0 w)
+    ap (λ (x : ℕ). laid_on (suc max_arrays) 0 x ns w) (sym a ∙ sym (add-zero D.scalars)) ∙ ap (λ (l : List ℕ). laid_on (suc max_arrays) 0 (D.scalars + 0) l w) (sym b) ∙ sym (laid-declared D (suc max_arrays) 0 w)
 
 -- ---- one turn of the reading of lengths
 
@@ -94,13 +94,13 @@ count-few lo hi m r r' e = by_index (index r) e
 
 -- what is laid from the start on is laid from here on
 pub record Reading (s : Bytes) (from scalars : ℕ) (w₀ w : Words) (at n end : ℕ) : Type 0 where
-  pub few : n ≤ maxArrays
-  pub small : end ≤ maxCells
+  pub few : n ≤ max_arrays
+  pub small : end ≤ max_cells
   pub long : length w ≡ length w₀
-  pub rest : mapped (tabled 0 scalars w₀) (lengths maxArrays (maxCells - scalars) (line_at s from)) ≡ mapped (tabled n end w) (lengths (maxArrays - n) (maxCells - end) (line_at s at))
+  pub rest : mapped (tabled 0 scalars w₀) (lengths max_arrays (max_cells - scalars) (line_at s from)) ≡ mapped (tabled n end w) (lengths (max_arrays - n) (max_cells - end) (line_at s at))
 
 -- a length that was read, before those that follow
-tabled-more : (n end m : ℕ) (w : Words) → n < maxArrays → (x : Read (List ℕ))
+tabled-more : (n end m : ℕ) (w : Words) → n < max_arrays → (x : Read (List ℕ))
     → mapped (tabled n end w) (and_then (λ ns. give (m ∷ ns)) x) ≡ mapped (tabled (n + 1) (end + m) (set w (first_slot n) end)) x
 unfolding sum
 tabled-more n end m w h (refused k p) = refl
@@ -111,90 +111,90 @@ tabled-more n end m w h (found ns r) =
 
 module _ {s : Bytes} {from scalars : ℕ} {w₀ w : Words} {at n end : ℕ} (st : Reading s from scalars w₀ w at n end) where
   abbrev Whole : Read Table → Type 0
-  Whole x = x ≡ mapped (tabled 0 scalars w₀) (lengths maxArrays (maxCells - scalars) (line_at s from))
+  Whole x = x ≡ mapped (tabled 0 scalars w₀) (lengths max_arrays (max_cells - scalars) (line_at s from))
 
   -- the seventeenth
-  pub turn-none : maxArrays ≤ n → Whole (refused 4 at)
+  pub turn-none : max_arrays ≤ n → Whole (refused 4 at)
   unfolding lengths
-  turn-none h = let q : maxArrays - n ≡ 0 = omega arith in sym (rw q at st.rest)
+  turn-none h = let q : max_arrays - n ≡ 0 = omega arith in sym (rw q at st.rest)
 
-  module _ (h : n < maxArrays) where
+  module _ (h : n < max_arrays) where
     -- what follows a length that ends at e
     abbrev following : ℕ → Read ℕ → Read (List ℕ)
-    following k x = and_then (λ m r. and_then (λ ns. give (m ∷ ns)) (pick (next comma r.rest) (mark comma >> lengths k (maxCells - end - m)) (give []) r)) x
+    following k x = and_then (λ m r. and_then (λ ns. give (m ∷ ns)) (pick (next comma r.rest) (mark comma >> lengths k (max_cells - end - m)) (give []) r)) x
 
-    turned : (x : Read ℕ) → x ≡ count 1 (maxCells - end) (line_at s at) → Whole (mapped (tabled n end w) (following (maxArrays - (n + 1)) x))
+    turned : (x : Read ℕ) → x ≡ count 1 (max_cells - end) (line_at s at) → Whole (mapped (tabled n end w) (following (max_arrays - (n + 1)) x))
     unfolding lengths
     turned x e =
-        let q : maxArrays - n ≡ suc (maxArrays - (n + 1)) = omega arith in
+        let q : max_arrays - n ≡ suc (max_arrays - (n + 1)) = omega arith in
         rw e (sym (rw q at st.rest))
 
-    pub turn-refused : (x : Count) → countRead s x ≡ count 1 (maxCells - end) (line_at s at) → (k p : ℕ) → x ≡ counted.Refused k p → Whole (refused k p)
+    pub turn-refused : (x : Count) → count_read s x ≡ count 1 (max_cells - end) (line_at s at) → (k p : ℕ) → x ≡ counted.Refused k p → Whole (refused k p)
     turn-refused x read k p told = turned (refused k p) (rw told at read)
 
-    module _ (x : Count) (read : countRead s x ≡ count 1 (maxCells - end) (line_at s at)) (m e : ℕ) (told : x ≡ counted.Is m e) where
-      is : found m (line_at s e) ≡ count 1 (maxCells - end) (line_at s at)
+    module _ (x : Count) (read : count_read s x ≡ count 1 (max_cells - end) (line_at s at)) (m e : ℕ) (told : x ≡ counted.Is m e) where
+      is : found m (line_at s e) ≡ count 1 (max_cells - end) (line_at s at)
       is = rw told at read
 
-      pub turn-few : end + m ≤ maxCells
-      turn-few = omega (arith, (count-few 1 (maxCells - end) m (line_at s at) (line_at s e) is).1, st.small)
+      pub turn-few : end + m ≤ max_cells
+      turn-few = omega (arith, (count-few 1 (max_cells - end) m (line_at s at) (line_at s e) is).1, st.small)
 
       -- with its first cell
       module _ (w₁ : Words) (first : w₁ ≡ set w (first_slot n) end) where
-        pub turn_last : (class_at s e ≡ classNumber comma → ⊥) → (w' : Words) → w' ≡ laidOn (suc maxArrays - (n + 1)) (n + 1) (end + m) [] w₁
+        pub turn_last : (class_at s e ≡ class_number comma → ⊥) → (w' : Words) → w' ≡ laid_on (suc max_arrays - (n + 1)) (n + 1) (end + m) [] w₁
             → Whole (found (record { arrays = n + 1; end = end + m; words = w' }) (line_at s e))
         unfolding sum
         turn_last other w' laid =
             let last = rw (class-not-next s e comma other) at (turned (found m (line_at s e)) is) in
             rw (laid, first) (rw (add-zero (n + 1), add-zero (end + m)) at (sym (tabled-more n end m w h (found [] (line_at s e))) ∙ last))
 
-        pub turn-next : class_at s e ≡ classNumber comma → Reading s from scalars w₀ w₁ (e + 1) (n + 1) (end + m)
+        pub turn-next : class_at s e ≡ class_number comma → Reading s from scalars w₀ w₁ (e + 1) (n + 1) (end + m)
         turn-next is-comma =
-            let left : maxCells - end - m ≡ maxCells - (end + m) = omega arith in
+            let left : max_cells - end - m ≡ max_cells - (end + m) = omega arith in
             let more = rw (class-next s e comma is-comma, mark-yes s e comma _ is-comma, left) at (turned (found m (line_at s e)) is) in
             rw first (record {
               few = omega arith;
               small = turn-few;
               long = length-set w (first_slot n) end ∙ st.long;
-              rest = sym (sym (tabled-more n end m w h (lengths (maxArrays - (n + 1)) (maxCells - (end + m)) (line_at s (e + 1)))) ∙ more);
+              rest = sym (sym (tabled-more n end m w h (lengths (max_arrays - (n + 1)) (max_cells - (end + m)) (line_at s (e + 1)))) ∙ more);
             })
 
 -- ---- the line
 
 module _ (s : Bytes) (from scalars : ℕ) (w : Words) where
-  pub value_none : class_at s from ≡ classNumber feed → (w' : Words) → w' ≡ laidOn (suc maxArrays) 0 scalars [] w
-      → found (record { arrays = 0; end = scalars; words = w' }) (line_at s from) ≡ mapped (tabled 0 scalars w) (arraysValue scalars (line_at s from))
+  pub value_none : class_at s from ≡ class_number feed → (w' : Words) → w' ≡ laid_on (suc max_arrays) 0 scalars [] w
+      → found (record { arrays = 0; end = scalars; words = w' }) (line_at s from) ≡ mapped (tabled 0 scalars w) (arrays_value scalars (line_at s from))
   unfolding sum
   value_none is-feed w' laid = rw (class-next s from feed is-feed, laid, add-zero scalars)
 
-  pub value-some : (class_at s from ≡ classNumber feed → ⊥)
-      → mapped (tabled 0 scalars w) (lengths maxArrays (maxCells - scalars) (line_at s from)) ≡ mapped (tabled 0 scalars w) (arraysValue scalars (line_at s from))
+  pub value-some : (class_at s from ≡ class_number feed → ⊥)
+      → mapped (tabled 0 scalars w) (lengths max_arrays (max_cells - scalars) (line_at s from)) ≡ mapped (tabled 0 scalars w) (arrays_value scalars (line_at s from))
   value-some other = rw (class-not-next s from feed other)
 
 module _ (s : Bytes) (at scalars : ℕ) where
-  pub lined-no : begins (bytes "arrays=") (drop at s) ≡ false → arraysLine scalars (line_at s at) ≡ refused 3 at
-  unfolding arraysLine
+  pub lined-no : begins (bytes "arrays=") (drop at s) ≡ false → arrays_line scalars (line_at s at) ≡ refused 3 at
+  unfolding arrays_line
   lined-no h = exactly-no s at (bytes "arrays=") 3 _ h
 
   -- with x what is read of the value, over the words w, which it leaves as w'
   module _ (key : begins (bytes "arrays=") (drop at s) ≡ true) (w w' : Words) (x : Arrays)
-      (is : arraysRead s x w' ≡ mapped (tabled 0 scalars w) (arraysValue scalars (line_at s (at + 7)))) where
-    lined : arraysLine scalars (line_at s at) ≡ closed (arraysValue scalars (line_at s (at + 7)))
-    unfolding arraysLine
+      (is : arrays_read s x w' ≡ mapped (tabled 0 scalars w) (arrays_value scalars (line_at s (at + 7)))) where
+    lined : arrays_line scalars (line_at s at) ≡ closed (arrays_value scalars (line_at s (at + 7)))
+    unfolding arrays_line
     lined = exactly-yes s at (bytes "arrays=") 3 _ key
 
-    pub lined-refused : (k p : ℕ) → x ≡ arrays.Refused k p → arraysLine scalars (line_at s at) ≡ refused k p
+    pub lined-refused : (k p : ℕ) → x ≡ arrays.Refused k p → arrays_line scalars (line_at s at) ≡ refused k p
     lined-refused k p told =
-        lined ∙ ap closed (mapped-refused (tabled 0 scalars w) k p (arraysValue scalars (line_at s (at + 7))) (rw told at is))
+        lined ∙ ap closed (mapped-refused (tabled 0 scalars w) k p (arrays_value scalars (line_at s (at + 7))) (rw told at is))
 
     module _ (n end e : ℕ) (told : x ≡ arrays.Read n end e) where
-      from : Origin (tabled 0 scalars w) (record { arrays = n; end = end; words = w' }) (line_at s e) (arraysValue scalars (line_at s (at + 7)))
-      from = mapped-found (tabled 0 scalars w) _ _ (arraysValue scalars (line_at s (at + 7))) (rw told at is)
+      from : Origin (tabled 0 scalars w) (record { arrays = n; end = end; words = w' }) (line_at s e) (arrays_value scalars (line_at s (at + 7)))
+      from = mapped-found (tabled 0 scalars w) _ _ (arrays_value scalars (line_at s (at + 7))) (rw told at is)
 
-      pub lined-open : (class_at s e ≡ classNumber feed → ⊥) → arraysLine scalars (line_at s at) ≡ refused 5 e
+      pub lined-open : (class_at s e ≡ class_number feed → ⊥) → arrays_line scalars (line_at s at) ≡ refused 5 e
       lined-open other = lined ∙ ap closed from.is ∙ sym (closed-no s e from.origin other)
 
-      pub lined-found : class_at s e ≡ classNumber feed → ArraysFound s at scalars w (record { arrays = n; end = end; words = w' }) (e + 1)
+      pub lined-found : class_at s e ≡ class_number feed → ArraysFound s at scalars w (record { arrays = n; end = end; words = w' }) (e + 1)
       lined-found is-feed = record {
         lengths = from.origin;
         read = lined ∙ ap closed from.is ∙ sym (closed-yes s e from.origin is-feed);

@@ -8,16 +8,16 @@ use mathlib.Core.List.{List, [], ◌∷◌, ◌++◌}
 use lib.ListN.{length, get_or, set, length-set}
 use lib.Seq.{get_or-set_same, get_or-set_other, set_comm}
 use lib.Dec.{eqb}
-use Rattle.tables.specs.Layout.{tokenSlot}
+use Rattle.tables.specs.Layout.{token_slot}
 use borrow.Author.Tests.{eqb-true, eqb-false}
 use Rattle.sheet.specs.declared.Token.{Token}
 use Rattle.sheet.specs.Sorts.{arity}
-use Rattle.sheet.specs.Tables.{Words, laidTokens, after, laidEnds}
+use Rattle.sheet.specs.Tables.{Words, laid_tokens, after, laid_ends}
 use Rattle.sheet.specs.Stack.{Beside}
 
 -- a token's two words
 abbrev pub stored : Words → ℕ → Token → Words
-stored w i t = set (set w (tokenSlot i) t.code) (tokenSlot i + 1) t.operand
+stored w i t = set (set w (token_slot i) t.code) (token_slot i + 1) t.operand
 
 -- ---- the same word in both
 
@@ -38,25 +38,25 @@ module _ {u v : Words} (i x : ℕ) (h : i < length u) (b : Beside u v) where
 
 -- ---- the same tokens, the same ends
 
-pub beside-stored : {u v : Words} (i : ℕ) (t : Token) → tokenSlot i + 1 < length u → Beside u v → Beside (stored u i t) (stored v i t)
-beside-stored i t h b = beside-set (tokenSlot i + 1) t.operand (simp length-set h) (beside-set (tokenSlot i) t.code (omega arith) b)
+pub beside-stored : {u v : Words} (i : ℕ) (t : Token) → token_slot i + 1 < length u → Beside u v → Beside (stored u i t) (stored v i t)
+beside-stored i t h b = beside-set (token_slot i + 1) t.operand (simp length-set h) (beside-set (token_slot i) t.code (omega arith) b)
 
-pub beside-tokens : (ts : List Token) (i : ℕ) {u v : Words} → tokenSlot (i + length ts) ≤ length u → Beside u v → Beside (laidTokens i ts u) (laidTokens i ts v)
-unfolding laidTokens
+pub beside-tokens : (ts : List Token) (i : ℕ) {u v : Words} → token_slot (i + length ts) ≤ length u → Beside u v → Beside (laid_tokens i ts u) (laid_tokens i ts v)
+unfolding laid_tokens
 beside-tokens [] i h b = b
 beside-tokens (t ∷ ts) i {u} h b = beside-tokens ts (suc i) (simp length-set (omega arith)) (beside-stored i t (omega arith) b)
 
-pub beside-ends : (ts : List Token) (i : ℕ) {u v : Words} → tokenSlot (i + length ts) ≤ length u → Beside u v → Beside (laidEnds i ts u) (laidEnds i ts v)
-unfolding laidEnds
+pub beside-ends : (ts : List Token) (i : ℕ) {u v : Words} → token_slot (i + length ts) ≤ length u → Beside u v → Beside (laid_ends i ts u) (laid_ends i ts v)
+unfolding laid_ends
 beside-ends [] i h b = b
 beside-ends (t ∷ ts) i h b =
     beside-ends ts (suc i) (simp length-set (omega arith))
-    (beside-set (tokenSlot i + 2) (suc i + length ts - length (after ts (arity t.code))) (omega arith) b)
+    (beside-set (token_slot i + 2) (suc i + length ts - length (after ts (arity t.code))) (omega arith) b)
 
 -- ---- one token more
 
-pub tokens-more : (ts : List Token) (i : ℕ) (t : Token) (w : Words) → laidTokens i (ts ++ (t ∷ [])) w ≡ stored (laidTokens i ts w) (i + length ts) t
-unfolding laidTokens
+pub tokens-more : (ts : List Token) (i : ℕ) (t : Token) (w : Words) → laid_tokens i (ts ++ (t ∷ [])) w ≡ stored (laid_tokens i ts w) (i + length ts) t
+unfolding laid_tokens
 tokens-more [] i t w = let e : i + 0 ≡ i = omega arith in rw e
 tokens-more (x ∷ ts) i t w =
     let e : i + suc (length ts) ≡ suc i + length ts = omega arith in
@@ -64,19 +64,19 @@ tokens-more (x ∷ ts) i t w =
 
 -- ---- tokens behind others, and other words
 
-pub tokens-both : (xs ys : List Token) (i : ℕ) (w : Words) → laidTokens i (xs ++ ys) w ≡ laidTokens (i + length xs) ys (laidTokens i xs w)
-unfolding laidTokens
+pub tokens-both : (xs ys : List Token) (i : ℕ) (w : Words) → laid_tokens i (xs ++ ys) w ≡ laid_tokens (i + length xs) ys (laid_tokens i xs w)
+unfolding laid_tokens
 tokens-both [] ys i w = let e : i + 0 ≡ i = omega arith in rw e
 tokens-both (x ∷ xs) ys i w =
     let e : i + suc (length xs) ≡ suc i + length xs = omega arith in
     rw e (tokens-both xs ys (suc i) (stored w i x))
 
-pub tokens-set : (ts : List Token) (i j x : ℕ) (w : Words) → tokenSlot (i + length ts) ≤ j → laidTokens i ts (set w j x) ≡ set (laidTokens i ts w) j x
-unfolding laidTokens
+pub tokens-set : (ts : List Token) (i j x : ℕ) (w : Words) → token_slot (i + length ts) ≤ j → laid_tokens i ts (set w j x) ≡ set (laid_tokens i ts w) j x
+unfolding laid_tokens
 tokens-set [] i j x w h = refl
 tokens-set (t ∷ ts) i j x w h =
     rw (
-      set_comm w j (tokenSlot i) x t.code (λ q. omega arith),
-      set_comm (set w (tokenSlot i) t.code) j (tokenSlot i + 1) x t.operand (λ q. omega arith),
+      set_comm w j (token_slot i) x t.code (λ q. omega arith),
+      set_comm (set w (token_slot i) t.code) j (token_slot i + 1) x t.operand (λ q. omega arith),
     )
     (tokens-set ts (suc i) j x (stored w i t) (omega arith))

@@ -9,18 +9,18 @@ use lib.Dec.{eqb}
 use borrow.Author.Tests.{ne_eqb, eqb-true, eqb-false}
 use Rattle.specification.specs.Bytes.{pick}
 use Rattle.specification.specs.Formula.{Locals, has}
-use Rattle.tables.specs.Layout.{maxLocals}
+use Rattle.tables.specs.Layout.{max_locals}
 use Rattle.tables.specs.Locals.{in_set}
-use Rattle.tables.proofs.Laws.Locals.{inSet-none, inSet-with}
+use Rattle.tables.proofs.Laws.Locals.{in_set-none, in_set-with}
 use Rattle.sheet.specs.Stack.{Bits}
 
 pub bits_none : Bits 0 []
 unfolding has
-bits_none = record { at = λ l h. inSet-none l }
+bits_none = record { at = λ l h. in_set-none l }
 
 pub bits-more : {m : ℕ} {S : Locals} (k : ℕ) → Bits m S → Bits (bit_or m (2 ^ k)) (k ∷ S)
 unfolding has
-bits-more {m} k b = record { at = λ l h. inSet-with m k l ∙ rw (b.at l h) }
+bits-more {m} k b = record { at = λ l h. in_set-with m k l ∙ rw (b.at l h) }
 
 -- ---- each set stands for a list
 
@@ -50,5 +50,5 @@ has-below m (suc n) l h = by (in_set m n) refl (eqb l n) refl (λ q. has-below m
     by false p true q r = rw (eqb-true l n q) (has_above m n n (omega arith) ∙ sym p)
     by false p false q r = r (omega (arith, eqb-false l n q))
 
-pub bits_in : (m : ℕ) → Bits m (locals_in m maxLocals)
-bits_in m = record { at = λ l h. sym (has-below m maxLocals l h) }
+pub bits_in : (m : ℕ) → Bits m (locals_in m max_locals)
+bits_in m = record { at = λ l h. sym (has-below m max_locals l h) }

@@ -13,19 +13,19 @@ use Rattle.specification.specs.Parser.{Reader}
 use Rattle.specification.specs.Lines.{Declared}
 use Rattle.specification.specs.Ast.{Formula, Procedure}
 use Rattle.specification.specs.Formula.{formula}
-use Rattle.specification.specs.Sheet.{withParameters, withProcedures, procedureLine, procedureLines}
+use Rattle.specification.specs.Sheet.{with_parameters, with_procedures, procedure_line, procedure_lines}
 use Rattle.specification.proofs.Laws.Parser.{Post, holds, bind-post, choose-post}
 use Rattle.specification.proofs.Laws.Lists.{each-++}
 use Rattle.specification.proofs.Laws.LineReaders.{count_by}
 use Rattle.specification.proofs.Laws.ReadLines.{count_post}
-use Rattle.tables.specs.Layout.{maxTokens, maxNesting, maxLocals, maxParameters}
-use Rattle.sheet.specs.Codes.{formulaTokens, proceduresTokens}
+use Rattle.tables.specs.Layout.{max_tokens, max_nesting, max_locals, max_parameters}
+use Rattle.sheet.specs.Codes.{formula_tokens, procedures_tokens}
 use Rattle.sheet.specs.Held.{Shallow}
-use Rattle.sheet.specs.Numbered.{formulaSize, Numbered}
+use Rattle.sheet.specs.Numbered.{formula_size, Numbered}
 use Rattle.sheet.proofs.Stays.{both_post, mark-stays, exactly-stays, stays-composed}
 use Rattle.sheet.proofs.Numbered.{renumbered, formula-counts}
 use Rattle.sheet.proofs.Shallow.{formula-shallow}
-use Rattle.sheet.proofs.Procs.{none, firstToken, tokens-one-more, few-parameters}
+use Rattle.sheet.proofs.Procs.{none, first_token, tokens-one-more, few-parameters}
 
 -- ---- all procedures, from the K-th on, whose first token is the i-th
 
@@ -35,29 +35,29 @@ pub record Body (K i : ℕ) (F : Formula) : Type 0 where
 
 unfoldable pub Bodies : ℕ → ℕ → List Procedure → Type 0
 Bodies K i [] = Unit {0}
-Bodies K i (P ∷ Ps) = Body K i P.formula × Bodies (suc K) (i + formulaSize P.formula) Ps
+Bodies K i (P ∷ Ps) = Body K i P.formula × Bodies (suc K) (i + formula_size P.formula) Ps
 
 moved : {K K' i i' : ℕ} (F : Formula) → K ≡ K' → i ≡ i' → Body K i F → Body K' i' F
 moved {K} {i' = i'} F e f b = subst (λ k. Body k i' F) e (subst (λ j. Body K j F) f b)
 
-bodies-more : (Ps : List Procedure) (P : Procedure) (K i : ℕ) → Bodies K i Ps → Body (K + length Ps) (i + length (proceduresTokens Ps)) P.formula →
+bodies-more : (Ps : List Procedure) (P : Procedure) (K i : ℕ) → Bodies K i Ps → Body (K + length Ps) (i + length (procedures_tokens Ps)) P.formula →
     Bodies K i (Ps ++ (P ∷ []))
-unfolding Bodies proceduresTokens
+unfolding Bodies procedures_tokens
 bodies-more [] P K i b h = (moved P.formula (add-zero K) (add-zero i) h, tt)
 bodies-more (Q ∷ Ps) P K i b h =
-    let xs = formulaTokens Q.formula in
+    let xs = formula_tokens Q.formula in
     let e : K + suc (length Ps) ≡ suc K + length Ps = omega arith in
-    let f : i + length (xs ++ proceduresTokens Ps) ≡ i + length xs + length (proceduresTokens Ps) = omega (arith, length-append xs (proceduresTokens Ps)) in
+    let f : i + length (xs ++ procedures_tokens Ps) ≡ i + length xs + length (procedures_tokens Ps) = omega (arith, length-append xs (procedures_tokens Ps)) in
     (b.0, bodies-more Ps P (suc K) (i + length xs) b.1 (moved P.formula e f h))
 
-pub bodies-at : (Ps : List Procedure) (K i m : ℕ) → m < length Ps → Bodies K i Ps → Body (K + m) (i + firstToken Ps m) (get_or Ps m none).formula
-unfolding Bodies proceduresTokens
+pub bodies-at : (Ps : List Procedure) (K i m : ℕ) → m < length Ps → Bodies K i Ps → Body (K + m) (i + first_token Ps m) (get_or Ps m none).formula
+unfolding Bodies procedures_tokens
 bodies-at [] K i m h b = absurd (omega arith)
 bodies-at (P ∷ Ps) K i zero h b = moved P.formula (sym (add-zero K)) (sym (add-zero i)) b.0
 bodies-at (P ∷ Ps) K i (suc m) h b =
-    let xs = formulaTokens P.formula in
+    let xs = formula_tokens P.formula in
     let e : suc K + m ≡ K + suc m = omega arith in
-    let f : i + length xs + firstToken Ps m ≡ i + length (xs ++ proceduresTokens (take m Ps)) = omega (arith, length-append xs (proceduresTokens (take m Ps))) in
+    let f : i + length xs + first_token Ps m ≡ i + length (xs ++ procedures_tokens (take m Ps)) = omega (arith, length-append xs (procedures_tokens (take m Ps))) in
     moved (get_or Ps m none).formula e f (bodies-at Ps (suc K) (i + length xs) m (omega arith) b.1)
 
 -- ---- the lines
@@ -65,43 +65,43 @@ bodies-at (P ∷ Ps) K i (suc m) h b =
 -- these procedures were read, with all tokens so far
 pub record Read (Ps : List Procedure) (n : ℕ) : Type 0 where
   pub bodies : Bodies 0 0 Ps
-  pub parameters : Each (λ P. P.parameters ≤ maxParameters) Ps
-  pub tokens : n ≡ length (proceduresTokens Ps)
-  pub few : n ≤ maxTokens
+  pub parameters : Each (λ P. P.parameters ≤ max_parameters) Ps
+  pub tokens : n ≡ length (procedures_tokens Ps)
+  pub few : n ≤ max_tokens
 
-module _ (refusing : Bool) (E : Declared) (locals : E.locals ≤ maxLocals) where
+module _ (refusing : Bool) (E : Declared) (locals : E.locals ≤ max_locals) where
   abbrev after : List Procedure → Declared
-  after Ps = withProcedures Ps E
+  after Ps = with_procedures Ps E
 
   line-body : (Ps : List Procedure) (r : Reader) → Read Ps r.tokens →
-      Post (λ P r'. Read (Ps ++ (P ∷ [])) r'.tokens) (procedureLine refusing (after Ps) r)
-  unfolding procedureLine Each
+      Post (λ P r'. Read (Ps ++ (P ∷ [])) r'.tokens) (procedure_line refusing (after Ps) r)
+  unfolding procedure_line Each
   line-body Ps r h =
       bind-post (exactly-stays r.tokens 3 (bytes "proc=") r refl) λ u r₁ t₁.
-      bind-post (both_post (count_post 0 maxParameters r₁) (count_by (stays-composed r.tokens) 0 maxParameters r₁ t₁)) λ n r₂ h₂.
+      bind-post (both_post (count_post 0 max_parameters r₁) (count_by (stays-composed r.tokens) 0 max_parameters r₁ t₁)) λ n r₂ h₂.
       bind-post (mark-stays r.tokens colon r₂ h₂.1) λ u r₃ t₃.
-      let D = withParameters n (after Ps) in
+      let D = with_parameters n (after Ps) in
       bind-post
-      (both_post (formula-counts refusing D maxNesting [] r₃)
-      (formula-shallow D refusing (length Ps) (omega arith) (few-parameters Ps h.parameters) locals maxNesting (omega arith) [] r₃)) λ F r₄ h₄.
+      (both_post (formula-counts refusing D max_nesting [] r₃)
+      (formula-shallow D refusing (length Ps) (omega arith) (few-parameters Ps h.parameters) locals max_nesting (omega arith) [] r₃)) λ F r₄ h₄.
       bind-post (mark-stays r₄.tokens feed r₄ refl) λ u r₅ t₅.
       let P : Procedure = record { parameters = n; formula = F } in
-      let l : r₃.tokens ≡ 0 + length (proceduresTokens Ps) = omega (arith, t₃, h.tokens) in
-      let size : r₅.tokens ≡ length (proceduresTokens (Ps ++ (P ∷ []))) =
+      let l : r₃.tokens ≡ 0 + length (procedures_tokens Ps) = omega (arith, t₃, h.tokens) in
+      let size : r₅.tokens ≡ length (procedures_tokens (Ps ++ (P ∷ []))) =
       rw (tokens-one-more Ps P, length-append) (omega (arith, t₅, h₄.0.1.tokens, l)) in
       holds (record {
         bodies = bodies-more Ps P 0 0 h.bodies (record {
           numbered = renumbered F l h₄.0.0;
           shallow = subst (λ k. Shallow k F) (omega arith) h₄.1;
         });
-        parameters = each-++ (λ Q. Q.parameters ≤ maxParameters) Ps (P ∷ []) h.parameters (h₂.0.1, tt);
+        parameters = each-++ (λ Q. Q.parameters ≤ max_parameters) Ps (P ∷ []) h.parameters (h₂.0.1, tt);
         tokens = size;
         few = omega (arith, t₅, h₄.0.1.few);
       })
 
   pub procedures-read : (k : ℕ) (Ps : List Procedure) (r : Reader) → Read Ps r.tokens →
-      Post (λ Qs r'. Read Qs r'.tokens) (procedureLines refusing k (after Ps) r)
-  unfolding procedureLines
+      Post (λ Qs r'. Read Qs r'.tokens) (procedure_lines refusing k (after Ps) r)
+  unfolding procedure_lines
   procedures-read zero Ps r h = holds h
   procedures-read (suc k) Ps r h =
       choose-post (begins (bytes "p") r.rest) _ _ r

@@ -10,12 +10,12 @@ use Rattle.specification.specs.Bytes.{pick}
 use Rattle.specification.specs.Parser.{Reader}
 use Rattle.specification.specs.Lines.{Declared}
 use Rattle.specification.specs.Formula.{Locals}
-use Rattle.tables.specs.Layout.{maxTokens, maxParameters, maxNesting, maxDues}
+use Rattle.tables.specs.Layout.{max_tokens, max_parameters, max_nesting, max_dues}
 use Rattle.sheet.specs.declared.Token.{Token}
-use Rattle.tables.specs.Codes.{lastFormula, firstTerm, lastTerm, constant_code, procedureCode}
-use Rattle.sheet.specs.Sorts.{operandsOf}
-use Rattle.sheet.specs.Dues.{Due, dueFormula, dueTerm, dueProcedure, dueEx, dueRange, dueBounds, dueUpper}
-use Rattle.sheet.specs.Turn.{room, suits, dueBy, dues, upper, opens, faultOf, tokenAt, faultAt}
+use Rattle.tables.specs.Codes.{last_formula, first_term, last_term, constant_code, procedure_code}
+use Rattle.sheet.specs.Sorts.{operands_of}
+use Rattle.sheet.specs.Dues.{Due, due_formula, due_term, due_procedure, due_ex, due_range, due_bounds, due_upper}
+use Rattle.sheet.specs.Turn.{room, suits, due_by, dues, upper, opens, fault_of, token_at, fault_at}
 use Rattle.text.proofs.Laws.Ranges.{within}
 use Rattle.sheet.proofs.CodeOperands.{operands-all, operands-term, operands-number}
 
@@ -23,13 +23,13 @@ use Rattle.sheet.proofs.CodeOperands.{operands-all, operands-term, operands-numb
 
 -- a range's local counts for all that its bounds and its formula become, a procedure's number for its arguments
 abbrev weight : Due → ℕ
-weight (dueFormula k S) = 1
-weight (dueTerm k S) = 1
-weight (dueProcedure k S) = maxParameters
-weight (dueEx k S) = 1
-weight (dueRange k S p) = 3
-weight (dueBounds k S p) = 2
-weight (dueUpper k S p x) = 1
+weight (due_formula k S) = 1
+weight (due_term k S) = 1
+weight (due_procedure k S) = max_parameters
+weight (due_ex k S) = 1
+weight (due_range k S p) = 3
+weight (due_bounds k S p) = 2
+weight (due_upper k S p x) = 1
 
 unfoldable pub weights : List Due → ℕ
 weights [] = 0
@@ -37,21 +37,21 @@ weights (d ∷ ds) = weight d + weights ds
 
 -- a call's arguments are five more than another word's operands: what can still become a call, or a formula with one in it, leaves room
 abbrev slack : Due → ℕ
-slack (dueFormula k S) = 5
-slack (dueTerm k S) = 0
-slack (dueProcedure k S) = 0
-slack (dueEx k S) = 5
-slack (dueRange k S p) = 5
-slack (dueBounds k S p) = 0
-slack (dueUpper k S p x) = 0
+slack (due_formula k S) = 5
+slack (due_term k S) = 0
+slack (due_procedure k S) = 0
+slack (due_ex k S) = 5
+slack (due_range k S p) = 5
+slack (due_bounds k S p) = 0
+slack (due_upper k S p x) = 0
 
 -- each, with those after it, leaves two for each nesting that may still come
 unfoldable pub Fits : List Due → Type 0
 Fits [] = Unit {0}
-Fits (d ∷ ds) = (weights (d ∷ ds) + 2 * room d + slack d ≤ maxDues) × Fits ds
+Fits (d ∷ ds) = (weights (d ∷ ds) + 2 * room d + slack d ≤ max_dues) × Fits ds
 
 -- the whole formula
-pub fits-start : Fits (dueFormula maxNesting [] ∷ [])
+pub fits-start : Fits (due_formula max_nesting [] ∷ [])
 unfolding Fits weights
 fits-start = (omega arith, tt)
 
@@ -59,26 +59,26 @@ fits-start = (omega arith, tt)
 
 module _ (p k : ℕ) (S : Locals) (ds : List Due) where
   -- arguments
-  terms-weigh : (n : ℕ) → weights (replicate n (dueTerm k S) ++ ds) ≡ n + weights ds
+  terms-weigh : (n : ℕ) → weights (replicate n (due_term k S) ++ ds) ≡ n + weights ds
   unfolding weights
   terms-weigh zero = omega arith
   terms-weigh (suc n) = omega (arith, terms-weigh n)
 
-  terms-fit : (n : ℕ) → weights ds + n + 2 * k ≤ maxDues → Fits ds → Fits (replicate n (dueTerm k S) ++ ds)
+  terms-fit : (n : ℕ) → weights ds + n + 2 * k ≤ max_dues → Fits ds → Fits (replicate n (due_term k S) ++ ds)
   unfolding Fits weights
   terms-fit zero h f = f
   terms-fit (suc n) h f = (omega (arith, terms-weigh n), terms-fit n (omega arith) f)
 
   -- what a formula's token makes due
-  formula-fits : weights ds + 2 * k + 8 ≤ maxDues → Fits ds → (c : ℕ) → c ≤ lastFormula → Fits (dues p k S (operandsOf c) ++ ds)
-  unfolding dues dueBy Fits weights
-  formula-fits h f c l =
+  formula_fits : weights ds + 2 * k + 8 ≤ max_dues → Fits ds → (c : ℕ) → c ≤ last_formula → Fits (dues p k S (operands_of c) ++ ds)
+  unfolding dues due_by Fits weights
+  formula_fits h f c l =
       operands-all (λ o. Fits (dues p k S o ++ ds)) c f (omega arith, f) (omega arith, (omega arith, f)) (omega arith, f)
       (omega arith, (omega arith, f))
       (omega arith, f) (omega arith, f) (λ e. (omega arith, f)) (λ e. absurd (omega arith))
 
-  term_fits : weights ds + 2 * k + 3 ≤ maxDues → Fits ds → (c : ℕ) → firstTerm ≤ c → c ≤ lastTerm → Fits (dues p k S (operandsOf c) ++ ds)
-  unfolding dues dueBy Fits weights
+  term_fits : weights ds + 2 * k + 3 ≤ max_dues → Fits ds → (c : ℕ) → first_term ≤ c → c ≤ last_term → Fits (dues p k S (operands_of c) ++ ds)
+  unfolding dues due_by Fits weights
   term_fits h f c l m =
       operands-term (λ o. Fits (dues p k S o ++ ds)) c l m f (omega arith, f) (omega arith, (omega arith, f))
 
@@ -87,42 +87,42 @@ upper-weighs : (k : ℕ) (S : Locals) (q : ℕ) (t : Token) → weight (upper k 
 unfolding upper
 upper-weighs k S q t = by (eqb t.code constant_code)
   where
-    by : (b : Bool) → weight (pick b (dueUpper k S q t.operand) (dueTerm k S)) ≡ 1
+    by : (b : Bool) → weight (pick b (due_upper k S q t.operand) (due_term k S)) ≡ 1
     by true = refl
     by false = refl
 
-upper_fits : (k : ℕ) (S : Locals) (q : ℕ) (t : Token) (ds : List Due) → weights ds + 2 * k + 1 ≤ maxDues → Fits ds → Fits (upper k S q t ∷ ds)
+upper_fits : (k : ℕ) (S : Locals) (q : ℕ) (t : Token) (ds : List Due) → weights ds + 2 * k + 1 ≤ max_dues → Fits ds → Fits (upper k S q t ∷ ds)
 unfolding upper Fits weights
 upper_fits k S q t ds h f = by (eqb t.code constant_code)
   where
-    by : (b : Bool) → Fits (pick b (dueUpper k S q t.operand) (dueTerm k S) ∷ ds)
+    by : (b : Bool) → Fits (pick b (due_upper k S q t.operand) (due_term k S) ∷ ds)
     by true = (omega arith, f)
     by false = (omega arith, f)
 
 -- the first that is due is replaced by what its token makes due
 pub fits-turn : (p : ℕ) (d : Due) (ds : List Due) (t : Token) → suits d t.code ≡ true → 1 ≤ room d → Fits (d ∷ ds) → Fits (opens p d t ++ ds)
-unfolding opens dues dueBy Fits weights
-fits-turn p (dueFormula zero S) ds t s n f = absurd (omega arith)
-fits-turn p (dueFormula (suc k) S) ds t s n f = formula-fits p k S ds (omega arith) f.1 t.code (within _ _ _ s).1
-fits-turn p (dueTerm zero S) ds t s n f = absurd (omega arith)
-fits-turn p (dueTerm (suc k) S) ds t s n f = let b = within _ _ _ s in term_fits p k S ds (omega arith) f.1 t.code b.0 b.1
-fits-turn p (dueProcedure k S) ds t s n f =
+unfolding opens dues due_by Fits weights
+fits-turn p (due_formula zero S) ds t s n f = absurd (omega arith)
+fits-turn p (due_formula (suc k) S) ds t s n f = formula_fits p k S ds (omega arith) f.1 t.code (within _ _ _ s).1
+fits-turn p (due_term zero S) ds t s n f = absurd (omega arith)
+fits-turn p (due_term (suc k) S) ds t s n f = let b = within _ _ _ s in term_fits p k S ds (omega arith) f.1 t.code b.0 b.1
+fits-turn p (due_procedure k S) ds t s n f =
     let b = within _ _ _ s in
-    rw (operands-number t.code b.0) (terms-fit p k S ds (t.code - procedureCode) (omega (arith, b.1)) f.1)
-fits-turn p (dueEx k S) ds t s n f = (omega arith, f.1)
-fits-turn p (dueRange k S q) ds t s n f = (omega arith, (omega arith, f.1))
-fits-turn p (dueBounds zero S q) ds t s n f = absurd (omega arith)
-fits-turn p (dueBounds (suc k) S q) ds t s n f =
+    rw (operands-number t.code b.0) (terms-fit p k S ds (t.code - procedure_code) (omega (arith, b.1)) f.1)
+fits-turn p (due_ex k S) ds t s n f = (omega arith, f.1)
+fits-turn p (due_range k S q) ds t s n f = (omega arith, (omega arith, f.1))
+fits-turn p (due_bounds zero S q) ds t s n f = absurd (omega arith)
+fits-turn p (due_bounds (suc k) S q) ds t s n f =
     let b = within _ _ _ s in
     rw append_assoc (term_fits p k S (upper (suc k) S q t ∷ ds) (omega (arith, upper-weighs (suc k) S q t))
     (upper_fits (suc k) S q t ds (omega arith) f.1) t.code b.0 b.1)
-fits-turn p (dueUpper zero S q x) ds t s n f = absurd (omega arith)
-fits-turn p (dueUpper (suc k) S q x) ds t s n f = let b = within _ _ _ s in term_fits p k S ds (omega arith) f.1 t.code b.0 b.1
+fits-turn p (due_upper zero S q x) ds t s n f = absurd (omega arith)
+fits-turn p (due_upper (suc k) S q x) ds t s n f = let b = within _ _ _ s in term_fits p k S ds (omega arith) f.1 t.code b.0 b.1
 
 -- a token stands only where nesting may go deeper
-pub room-left : (D : Declared) (d : Due) (r : Reader) → faultAt D d r ≡ 0 → 1 ≤ room d
-unfolding faultAt
-room-left D d r e = go (room d) (pick (ltb r.tokens maxTokens) (faultOf D d r.bound (tokenAt D d r)) 9) e
+pub room-left : (D : Declared) (d : Due) (r : Reader) → fault_at D d r ≡ 0 → 1 ≤ room d
+unfolding fault_at
+room-left D d r e = go (room d) (pick (ltb r.tokens max_tokens) (fault_of D d r.bound (token_at D d r)) 9) e
   where
     go : (k n : ℕ) → pick (eqb k 0) 9 n ≡ 0 → 1 ≤ k
     go zero n e = absurd (omega arith)
@@ -131,20 +131,20 @@ room-left D d r e = go (room d) (pick (ltb r.tokens maxTokens) (faultOf D d r.bo
 -- ---- bounds
 
 some-weight : (d : Due) → 1 ≤ weight d
-some-weight (dueFormula k S) = omega arith
-some-weight (dueTerm k S) = omega arith
-some-weight (dueProcedure k S) = omega arith
-some-weight (dueEx k S) = omega arith
-some-weight (dueRange k S p) = omega arith
-some-weight (dueBounds k S p) = omega arith
-some-weight (dueUpper k S p x) = omega arith
+some-weight (due_formula k S) = omega arith
+some-weight (due_term k S) = omega arith
+some-weight (due_procedure k S) = omega arith
+some-weight (due_ex k S) = omega arith
+some-weight (due_range k S p) = omega arith
+some-weight (due_bounds k S p) = omega arith
+some-weight (due_upper k S p x) = omega arith
 
 length-weights : (ds : List Due) → length ds ≤ weights ds
 unfolding weights
 length-weights [] = omega arith
 length-weights (d ∷ ds) = omega (arith, some-weight d, length-weights ds)
 
-pub fits-length : (ds : List Due) → Fits ds → length ds ≤ maxDues
+pub fits-length : (ds : List Due) → Fits ds → length ds ≤ max_dues
 unfolding Fits
 fits-length [] f = omega arith
 fits-length (d ∷ ds) f = omega (arith, length-weights (d ∷ ds))

@@ -7,121 +7,121 @@ use native.Mathlib.Omega.{arith}
 use lib.Dec.{ltb}
 use lib.ListN.{get_or, drop, get_or-eq_default}
 use borrow.Author.Tests.{ltb-true, ltb-false, lt-ltb, le-ltb}
-use Rattle.specification.specs.Bytes.{Bytes, bytes, pick, point, classNumber, begins}
+use Rattle.specification.specs.Bytes.{Bytes, bytes, pick, point, class_number, begins}
 use Rattle.specification.specs.Parser.{Read, refused, found, Parser, and_then, ◌>>=◌, ◌>>◌, give, mark}
-use Rattle.specification.specs.Lines.{index, Declared, cells, first_of, length_of, CellName, scalar, element, isDeclared, cell_of}
-use Rattle.specification.specs.Given.{scalarName, elementName, name}
+use Rattle.specification.specs.Lines.{index, Declared, cells, first_of, length_of, CellName, scalar, element, is_declared, cell_of}
+use Rattle.specification.specs.Given.{scalar_name, element_name, name}
 use Rattle.specification.proofs.Laws.Contradiction.{contradiction}
 use Rattle.text.specs.Class.{class_at}
 use Rattle.sheet.specs.declared.lines.Index.{Index}
 use Rattle.sheet.specs.declared.lines.Index.TheVariants as indexed
 use Rattle.sheet.specs.declared.given.Cell.{Cell}
 use Rattle.sheet.specs.declared.given.Cell.TheVariants as cell
-use Rattle.sheet.specs.Codes.{indexWord}
+use Rattle.sheet.specs.Codes.{index_word}
 use Rattle.sheet.specs.Reader.{line_at}
 use Rattle.sheet.specs.Tables.{Words}
-use Rattle.sheet.specs.Answers.{mapped, heldIndex, indexRead}
-use Rattle.sheet.specs.Items.{heldName, heldNames, elementAfter, scalarIn, elementIn, Declares}
+use Rattle.sheet.specs.Answers.{mapped, held_index, index_read}
+use Rattle.sheet.specs.Items.{held_name, held_names, element_after, scalar_in, element_in, Declares}
 use Rattle.sheet.proofs.Answers.{mapped-refused, mapped-found}
 use Rattle.sheet.proofs.Keys.{exactly-yes, exactly-no, mark-yes, mark-no}
 use Rattle.specification.proofs.Laws.Elements.{first_next, first-limit, scalar-declared, element-declared}
-use Rattle.tables.specs.Layout.{maxCells, first_at}
+use Rattle.tables.specs.Layout.{max_cells, first_at}
 
 -- ---- names, of what an index is told to be
 
 -- after the array's index
-abbrev elementFrom : ℕ → Parser CellName
-elementFrom a = mark point >> (index >>= λ i. give (element a i))
+abbrev element_from : ℕ → Parser CellName
+element_from a = mark point >> (index >>= λ i. give (element a i))
 
 module _ (s : Bytes) (at : ℕ) where
-  pub scalar-no : begins (bytes "v") (drop at s) ≡ false → refused 5 at ≡ heldNames (scalarName (line_at s at))
-  unfolding scalarName
-  scalar-no h = ap heldNames (sym (exactly-no s at (bytes "v") 5 (index >>= λ n. give (scalar n)) h))
+  pub scalar-no : begins (bytes "v") (drop at s) ≡ false → refused 5 at ≡ held_names (scalar_name (line_at s at))
+  unfolding scalar_name
+  scalar-no h = ap held_names (sym (exactly-no s at (bytes "v") 5 (index >>= λ n. give (scalar n)) h))
 
-  pub scalar-yes : begins (bytes "v") (drop at s) ≡ true → (x y : Index) → indexRead s x ≡ heldIndex (index (line_at s (at + 1))) → x ≡ y
-      → mapped scalar (indexRead s y) ≡ heldNames (scalarName (line_at s at))
-  unfolding scalarName
+  pub scalar-yes : begins (bytes "v") (drop at s) ≡ true → (x y : Index) → index_read s x ≡ held_index (index (line_at s (at + 1))) → x ≡ y
+      → mapped scalar (index_read s y) ≡ held_names (scalar_name (line_at s at))
+  unfolding scalar_name
   scalar-yes h x y is told =
-      ap (mapped scalar) (ap (indexRead s) (sym told) ∙ is) ∙ go (index (line_at s (at + 1)))
-      ∙ ap heldNames (sym (exactly-yes s at (bytes "v") 5 (index >>= λ n. give (scalar n)) h))
+      ap (mapped scalar) (ap (index_read s) (sym told) ∙ is) ∙ go (index (line_at s (at + 1)))
+      ∙ ap held_names (sym (exactly-yes s at (bytes "v") 5 (index >>= λ n. give (scalar n)) h))
     where
-      go : (r : Read ℕ) → mapped scalar (heldIndex r) ≡ heldNames (and_then (λ n. give (scalar n)) r)
+      go : (r : Read ℕ) → mapped scalar (held_index r) ≡ held_names (and_then (λ n. give (scalar n)) r)
       go (refused k p) = refl
       go (found n r) = refl
 
-  pub after-no : (a : ℕ) → (class_at s at ≡ classNumber point → ⊥) → refused 5 at ≡ elementAfter a (line_at s at)
-  unfolding elementAfter
-  after-no a h = sym (mark-no s at point (λ r. mapped (element a) (heldIndex (index r))) h)
+  pub after-no : (a : ℕ) → (class_at s at ≡ class_number point → ⊥) → refused 5 at ≡ element_after a (line_at s at)
+  unfolding element_after
+  after-no a h = sym (mark-no s at point (λ r. mapped (element a) (held_index (index r))) h)
 
-  pub after-yes : (a : ℕ) → class_at s at ≡ classNumber point → (x y : Index) → indexRead s x ≡ heldIndex (index (line_at s (at + 1))) → x ≡ y
-      → mapped (element a) (indexRead s y) ≡ elementAfter a (line_at s at)
-  unfolding elementAfter
+  pub after-yes : (a : ℕ) → class_at s at ≡ class_number point → (x y : Index) → index_read s x ≡ held_index (index (line_at s (at + 1))) → x ≡ y
+      → mapped (element a) (index_read s y) ≡ element_after a (line_at s at)
+  unfolding element_after
   after-yes a h x y is told =
-      ap (mapped (element a)) (ap (indexRead s) (sym told) ∙ is) ∙ sym (mark-yes s at point (λ r. mapped (element a) (heldIndex (index r))) h)
+      ap (mapped (element a)) (ap (index_read s) (sym told) ∙ is) ∙ sym (mark-yes s at point (λ r. mapped (element a) (held_index (index r))) h)
 
-  pub element-no : begins (bytes "a") (drop at s) ≡ false → refused 5 at ≡ heldNames (elementName (line_at s at))
-  unfolding elementName
-  element-no h = ap heldNames (sym (exactly-no s at (bytes "a") 5 (index >>= elementFrom) h))
+  pub element-no : begins (bytes "a") (drop at s) ≡ false → refused 5 at ≡ held_names (element_name (line_at s at))
+  unfolding element_name
+  element-no h = ap held_names (sym (exactly-no s at (bytes "a") 5 (index >>= element_from) h))
 
-  module _ (h : begins (bytes "a") (drop at s) ≡ true) (x : Index) (is : indexRead s x ≡ heldIndex (index (line_at s (at + 1)))) where
-    begun : heldNames (and_then elementFrom (index (line_at s (at + 1)))) ≡ heldNames (elementName (line_at s at))
-    unfolding elementName
-    begun = ap heldNames (sym (exactly-yes s at (bytes "a") 5 (index >>= elementFrom) h))
+  module _ (h : begins (bytes "a") (drop at s) ≡ true) (x : Index) (is : index_read s x ≡ held_index (index (line_at s (at + 1)))) where
+    begun : held_names (and_then element_from (index (line_at s (at + 1)))) ≡ held_names (element_name (line_at s at))
+    unfolding element_name
+    begun = ap held_names (sym (exactly-yes s at (bytes "a") 5 (index >>= element_from) h))
 
-    pub element-refused : (k p : ℕ) → x ≡ indexed.Refused k p → refused k p ≡ heldNames (elementName (line_at s at))
+    pub element-refused : (k p : ℕ) → x ≡ indexed.Refused k p → refused k p ≡ held_names (element_name (line_at s at))
     element-refused k p told =
-        rw (mapped-refused indexWord k p (index (line_at s (at + 1))) (rw told at is)) at begun
+        rw (mapped-refused index_word k p (index (line_at s (at + 1))) (rw told at is)) at begun
 
-    pub element-yes : (a e : ℕ) → x ≡ indexed.Is a e → elementAfter a (line_at s e) ≡ heldNames (elementName (line_at s at))
-    unfolding elementAfter
+    pub element-yes : (a e : ℕ) → x ≡ indexed.Is a e → element_after a (line_at s e) ≡ held_names (element_name (line_at s at))
+    unfolding element_after
     element-yes a e told =
-        let from = mapped-found indexWord a (line_at s e) (index (line_at s (at + 1))) (rw told at is) in
+        let from = mapped-found index_word a (line_at s e) (index (line_at s (at + 1))) (rw told at is) in
         let q = rw from.is at begun in
         rw (sym from.made) (go from.origin (mark point (line_at s e)) ∙ q)
       where
-        last : (m : ℕ) (r : Read ℕ) → mapped (element (indexWord m)) (heldIndex r) ≡ heldNames (and_then (λ i. give (element m i)) r)
+        last : (m : ℕ) (r : Read ℕ) → mapped (element (index_word m)) (held_index r) ≡ held_names (and_then (λ i. give (element m i)) r)
         last m (refused k p) = refl
         last m (found i r) = refl
 
         go : (m : ℕ) (r : Read (Unit {0}))
-            → and_then (λ u r. mapped (element (indexWord m)) (heldIndex (index r))) r ≡ heldNames (and_then (λ u. index >>= λ i. give (element m i)) r)
+            → and_then (λ u r. mapped (element (index_word m)) (held_index (index r))) r ≡ held_names (and_then (λ u. index >>= λ i. give (element m i)) r)
         go m (refused k p) = refl
         go m (found u r) = last m (index r)
 
-  pub name-scalar : begins (bytes "v") (drop at s) ≡ true → heldNames (scalarName (line_at s at)) ≡ heldNames (name (line_at s at))
+  pub name-scalar : begins (bytes "v") (drop at s) ≡ true → held_names (scalar_name (line_at s at)) ≡ held_names (name (line_at s at))
   unfolding name
   name-scalar h = rw h
 
-  pub name-element : begins (bytes "v") (drop at s) ≡ false → heldNames (elementName (line_at s at)) ≡ heldNames (name (line_at s at))
+  pub name-element : begins (bytes "v") (drop at s) ≡ false → held_names (element_name (line_at s at)) ≡ held_names (name (line_at s at))
   unfolding name
   name-element h = rw h
 
 -- ---- cells
 
 -- the number of a declared cell
-abbrev pub cellIn : Declared → CellName → Cell
-cellIn D n = pick (isDeclared D n) (cell.Is (cell_of D n)) cell.Undeclared
+abbrev pub cell_in : Declared → CellName → Cell
+cell_in D n = pick (is_declared D n) (cell.Is (cell_of D n)) cell.Undeclared
 
 module _ (D : Declared) where
-  below : (n : CellName) → isDeclared D n ≡ true → cell_of D n < cells D
-  unfolding isDeclared cell_of
+  below : (n : CellName) → is_declared D n ≡ true → cell_of D n < cells D
+  unfolding is_declared cell_of
   below (scalar n) h = scalar-declared D n (ltb-true n D.scalars h)
   below (element a i) h = element-declared D a i (ltb-true i (length_of D a) h)
 
   -- a declared cell lies among the cells
-  pub cell_below : (n : CellName) (c : ℕ) → cellIn D n ≡ cell.Is c → c < cells D
-  cell_below n c e = go (isDeclared D n) refl e
+  pub cell_below : (n : CellName) (c : ℕ) → cell_in D n ≡ cell.Is c → c < cells D
+  cell_below n c e = go (is_declared D n) refl e
     where
-      go : (t : Bool) → isDeclared D n ≡ t → pick t (cell.Is (cell_of D n)) cell.Undeclared ≡ cell.Is c → c < cells D
+      go : (t : Bool) → is_declared D n ≡ t → pick t (cell.Is (cell_of D n)) cell.Undeclared ≡ cell.Is c → c < cells D
       go true d e = let q : cell_of D n ≡ c = cc in omega (arith, below n d)
       go false d e = contradiction cc
 
 module _ {D : Declared} {scalars arrays : ℕ} {w : Words} (d : Declares D scalars arrays w) where
-  scalars-few : D.scalars ≤ maxCells
+  scalars-few : D.scalars ≤ max_cells
   unfolding cells
   scalars-few = omega (arith, d.small)
 
-  length-few : (a : ℕ) → length_of D a ≤ maxCells
+  length-few : (a : ℕ) → length_of D a ≤ max_cells
   length-few a = omega (arith, d.small, first_next D a, first-limit D (suc a))
 
   -- what the words have of an array
@@ -136,14 +136,14 @@ module _ {D : Declared} {scalars arrays : ℕ} {w : Words} (d : Declares D scala
   unfolding length_of
   none-beyond b h j = le-ltb j (get_or D.arrays b 0) (omega (arith, get_or-eq_default D.arrays 0 {n = b} (omega (arith, d.many))))
 
-  pub held-scalar : (n : ℕ) (c : CellName) → heldName c ≡ scalar n → scalarIn scalars n ≡ cellIn D c
-  unfolding isDeclared cell_of scalarIn
+  pub held-scalar : (n : ℕ) (c : CellName) → held_name c ≡ scalar n → scalar_in scalars n ≡ cell_in D c
+  unfolding is_declared cell_of scalar_in
   held-scalar n (scalar m) e = go (ltb m D.scalars) refl
     where
       q : n ≡ min m 4294967295
       q = cc
 
-      go : (t : Bool) → ltb m D.scalars ≡ t → scalarIn scalars n ≡ pick t (cell.Is m) cell.Undeclared
+      go : (t : Bool) → ltb m D.scalars ≡ t → scalar_in scalars n ≡ pick t (cell.Is m) cell.Undeclared
       go true h =
           let l : m < D.scalars = ltb-true m D.scalars h in
           let s : n ≡ m = omega (arith, q, scalars-few) in
@@ -153,8 +153,8 @@ module _ {D : Declared} {scalars arrays : ℕ} {w : Words} (d : Declares D scala
           rw (le-ltb n scalars (omega (arith, q, scalars-few, d.scalar)))
   held-scalar n (element a i) e = contradiction cc
 
-  pub held-element : (a i : ℕ) (c : CellName) → heldName c ≡ element a i → elementIn arrays w a i ≡ cellIn D c
-  unfolding isDeclared cell_of elementIn
+  pub held-element : (a i : ℕ) (c : CellName) → held_name c ≡ element a i → element_in arrays w a i ≡ cell_in D c
+  unfolding is_declared cell_of element_in
   held-element a i (scalar m) e = contradiction cc
   held-element a i (element b j) e = by-array (ltb a arrays) refl
     where
@@ -189,14 +189,14 @@ module _ {D : Declared} {scalars arrays : ℕ} {w : Words} (d : Declares D scala
 -- ---- an element's cell, by the words
 
 module _ (arrays : ℕ) (w : Words) (a i : ℕ) where
-  pub element-undeclared : arrays ≤ a → cell.Undeclared ≡ elementIn arrays w a i
-  unfolding elementIn
+  pub element-undeclared : arrays ≤ a → cell.Undeclared ≡ element_in arrays w a i
+  unfolding element_in
   element-undeclared h = rw (le-ltb a arrays h)
 
-  pub element-out : a < arrays → first_at w (a + 1) ≤ first_at w a + i → cell.Undeclared ≡ elementIn arrays w a i
-  unfolding elementIn
+  pub element-out : a < arrays → first_at w (a + 1) ≤ first_at w a + i → cell.Undeclared ≡ element_in arrays w a i
+  unfolding element_in
   element-out h l = rw (lt-ltb a arrays h, le-ltb (first_at w a + i) (first_at w (a + 1)) l)
 
-  pub element-in : a < arrays → (c : ℕ) → c ≡ first_at w a + i → c < first_at w (a + 1) → cell.Is c ≡ elementIn arrays w a i
-  unfolding elementIn
+  pub element-in : a < arrays → (c : ℕ) → c ≡ first_at w a + i → c < first_at w (a + 1) → cell.Is c ≡ element_in arrays w a i
+  unfolding element_in
   element-in h c e l = rw (lt-ltb a arrays h, sym e, lt-ltb c (first_at w (a + 1)) l)

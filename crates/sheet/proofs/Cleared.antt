@@ -9,9 +9,9 @@ use lib.Dec.{ltb}
 use borrow.Author.Tests.{ltb-true, ltb-false}
 use Rattle.specification.specs.Bytes.{Bytes}
 use Rattle.specification.specs.Parser.{Read, found}
-use Rattle.specification.specs.Sheet.{readWith}
+use Rattle.specification.specs.Sheet.{read_with}
 use Rattle.specification.proofs.Laws.ReadSheet.{read-well-formed}
-use Rattle.tables.specs.Layout.{duesAt, duesEnd, pathAt}
+use Rattle.tables.specs.Layout.{dues_at, dues_end, path_at}
 use Rattle.sheet.specs.declared.formula.Limits.{Limits}
 use Rattle.sheet.specs.declared.formula.Reached.{Reached}
 use Rattle.sheet.specs.declared.Reading.{Reading}
@@ -54,7 +54,7 @@ zeroed-all {w} {w'} z =
 -- ---- the reading of a sheet
 
 abbrev Leaves : Bool → Bytes → ℕ → Reading → Words → Type 0
-Leaves strict s n r w = (r ≡ reading_of (readWith strict s)) × (w ≡ words_of n (readWith strict s))
+Leaves strict s n r w = (r ≡ reading_of (read_with strict s)) × (w ≡ words_of n (read_with strict s))
 
 -- cleared words are zero, as many as there were
 pub cleared : (w w₁ : Words) → w₁ ≡ replicate (length w) 0 → (length w₁ ≡ length w) × (w₁ ≡ replicate (length w₁) 0)
@@ -64,34 +64,34 @@ cleared w w₁ e = let l : length w₁ ≡ length w = ap length e ∙ length-rep
 module _ (strict : Bool) (s : Bytes) (n : ℕ) (w : Words) (p : Progress) (h : Went strict 7 s n p w) (w₁ : Words) where
   -- refused, and all words cleared
   pub refused-whole : (k q : ℕ) → p ≡ progress.Refused k q → w₁ ≡ replicate (length w) 0 → Leaves strict s n (reading.Refused k q) w₁
-  unfolding readWith
+  unfolding read_with
   refused-whole k q i e =
       let x : Went strict 7 s n (progress.Refused k q) w = rw i at h in
       (sym (ap reading_of x.0), e ∙ ap (λ m. replicate m 0) x.1 ∙ sym (ap (words_of n) x.0))
 
-  module _ (d : Limits) (x : Reached) (i : p ≡ progress.Read d x) (long : pathAt ≤ n) (z : Zeroed w w₁ duesAt duesEnd) where
+  module _ (d : Limits) (x : Reached) (i : p ≡ progress.Read d x) (long : path_at ≤ n) (z : Zeroed w w₁ dues_at dues_end) where
     went : (d.strict ≡ strict) × Tabled s n d x w
     went = rw i at h
 
     abbrev f : Tabled s n d x w
     f = went.1
 
-    is : readWith strict s ≡ found f.whole f.after
-    unfolding readWith
-    is = ap (λ b. readWith b s) (sym went.0) ∙ f.is
+    is : read_with strict s ≡ found f.whole f.after
+    unfolding read_with
+    is = ap (λ b. read_with b s) (sym went.0) ∙ f.is
 
     abbrev T : Words
     T = tables f.whole n
 
-    zero-there : (j : ℕ) → duesAt ≤ j → get_or T j 0 ≡ 0
+    zero-there : (j : ℕ) → dues_at ≤ j → get_or T j 0 ≡ 0
     zero-there j a =
         rest-zero f.whole n long (read-counts strict s f.whole f.after is).few (read-well-formed strict s f.whole f.after is) j a
 
-    by_place : (j : ℕ) (a : Bool) → ltb j duesAt ≡ a → (b : Bool) → ltb j duesEnd ≡ b → get_or w₁ j 0 ≡ get_or T j 0
-    by_place j true e b d = z.below j (ltb-true j duesAt e) ∙ f.words.below j (ltb-true j duesAt e)
-    by_place j false e true d = z.inside j (ltb-false j duesAt e) (ltb-true j duesEnd d) ∙ sym (zero-there j (ltb-false j duesAt e))
-    by_place j false e false d = z.above j (ltb-false j duesEnd d) ∙ f.words.above j (ltb-false j duesEnd d)
+    by_place : (j : ℕ) (a : Bool) → ltb j dues_at ≡ a → (b : Bool) → ltb j dues_end ≡ b → get_or w₁ j 0 ≡ get_or T j 0
+    by_place j true e b d = z.below j (ltb-true j dues_at e) ∙ f.words.below j (ltb-true j dues_at e)
+    by_place j false e true d = z.inside j (ltb-false j dues_at e) (ltb-true j dues_end d) ∙ sym (zero-there j (ltb-false j dues_at e))
+    by_place j false e false d = z.above j (ltb-false j dues_end d) ∙ f.words.above j (ltb-false j dues_end d)
 
     -- read, and what was due cleared
     pub found-whole : Leaves strict s n (reading.Read d.scalars d.arrays x.tokens x.first) w₁
-    found-whole = (rw (is, f.scalars, f.arrays, f.tokens, f.first), ext_get_or 0 w₁ T (z.long ∙ f.words.long) (λ j _. by_place j (ltb j duesAt) refl (ltb j duesEnd) refl) ∙ sym (ap (words_of n) is))
+    found-whole = (rw (is, f.scalars, f.arrays, f.tokens, f.first), ext_get_or 0 w₁ T (z.long ∙ f.words.long) (λ j _. by_place j (ltb j dues_at) refl (ltb j dues_end) refl) ∙ sym (ap (words_of n) is))

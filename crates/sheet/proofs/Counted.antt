@@ -8,23 +8,23 @@ use lib.Dec.{ltb}
 use borrow.Author.Tests.{ltb-true}
 use mathlib.Core.List.{List, [], ◌∷◌}
 use mathlib.Core.Option.{Option}
-use Rattle.specification.specs.Bytes.{Bytes, space, inToken, run}
+use Rattle.specification.specs.Bytes.{Bytes, space, in_token, run}
 use Rattle.specification.specs.Parser.{Reader, refused, found, past, Parser, next, mark, taken}
 use Rattle.specification.specs.Lines.{Declared}
 use Rattle.specification.specs.Ast.{Term}
-use Rattle.specification.specs.Words.{TermWord, constantWord, scalarWord, localWord, arrayWord, parameterWord, opWord, Word, formulaWord, termWord, numberWord, unknown, word_of, number_of}
-use Rattle.specification.specs.Formula.{Token, token, operand, Locals, has, binderOf, binderWith, binder, procedureWith, procedure, termOf, termWith, term, arguments}
+use Rattle.specification.specs.Words.{TermWord, constant_word, scalar_word, local_word, array_word, parameter_word, op_word, Word, formula_word, term_word, number_word, unknown, word_of, number_of}
+use Rattle.specification.specs.Formula.{Token, token, operand, Locals, has, binder_of, binder_with, binder, procedure_with, procedure, term_of, term_with, term, arguments}
 use Rattle.specification.proofs.Laws.Parser.{Post, refusal, holds, bind-post, require-post, present-post, pick_post}
-use Rattle.tables.specs.Layout.{maxTokens}
-use Rattle.sheet.specs.Codes.{termTokens, termsTokens}
-use Rattle.sheet.specs.Numbered.{termSize, termsSize}
+use Rattle.tables.specs.Layout.{max_tokens}
+use Rattle.sheet.specs.Codes.{term_tokens, terms_tokens}
+use Rattle.sheet.specs.Numbered.{term_size, terms_size}
 
 -- ---- readers that count
 
 -- of m tokens, n were read before and so many since
 pub record Counted (n size m : ℕ) : Type 0 where
   pub tokens : m ≡ n + size
-  pub few : m ≤ maxTokens
+  pub few : m ≤ max_tokens
 
 module _ {A : Type 0} (size : A → ℕ) (P : ℕ → A → Type 0) where
   -- what is read from token n on has the property
@@ -47,9 +47,9 @@ pub token-counts : (word : Bytes → Option Word) (r : Reader) → Post (Next r.
 unfolding token taken
 token-counts word r =
     bind-post {P = λ n r₁. (n ≡ r.tokens) × Counted r.tokens 1 r₁.tokens}
-    (pick_post (ltb r.tokens maxTokens) _ _
-    (λ e. holds (refl, record { tokens = omega arith; few = ltb-true r.tokens maxTokens e })) (λ e. refusal tt)) λ n r₁ h.
-    bind-post (present-post 4 r.place (word (run inToken r₁.rest)) _ tt (λ w e. h)) λ w r₂ h₂.
+    (pick_post (ltb r.tokens max_tokens) _ _
+    (λ e. holds (refl, record { tokens = omega arith; few = ltb-true r.tokens max_tokens e })) (λ e. refusal tt)) λ n r₁ h.
+    bind-post (present-post 4 r.place (word (run in_token r₁.rest)) _ tt (λ w e. h)) λ w r₂ h₂.
     holds h₂
 
 -- ---- terms
@@ -58,29 +58,29 @@ abbrev Anything : {A : Type 0} → ℕ → A → Type 0
 Anything n a = Unit {0}
 
 abbrev pub TermFrom : ℕ → Term → Reader → Type 0
-TermFrom = Counting termSize Anything
+TermFrom = Counting term_size Anything
 
 module _ (D : Declared) (S : Locals) where
   module _ (p : Parser Term) (h : (r : Reader) → Post (TermFrom r.tokens) (p r)) (n : ℕ) (r : Reader) (c : Counted n 1 r.tokens) where
-    term_of : (q : ℕ) (w : TermWord) → Post (TermFrom n) (termOf D p S q w r)
-    unfolding termTokens
-    term_of q (constantWord z) = holds (tt, c)
-    term_of q (scalarWord m) = require-post (ltb m D.scalars) _ _ _ _ tt λ e. holds (tt, c)
-    term_of q (localWord l) = require-post (ltb l D.locals) _ _ _ _ tt λ e. require-post (has l S) _ _ _ _ tt λ f. holds (tt, c)
-    term_of q (parameterWord m) = require-post (ltb m D.parameters) _ _ _ _ tt λ e. holds (tt, c)
-    term_of q (arrayWord a) =
+    term-of : (q : ℕ) (w : TermWord) → Post (TermFrom n) (term_of D p S q w r)
+    unfolding term_tokens
+    term-of q (constant_word z) = holds (tt, c)
+    term-of q (scalar_word m) = require-post (ltb m D.scalars) _ _ _ _ tt λ e. holds (tt, c)
+    term-of q (local_word l) = require-post (ltb l D.locals) _ _ _ _ tt λ e. require-post (has l S) _ _ _ _ tt λ f. holds (tt, c)
+    term-of q (parameter_word m) = require-post (ltb m D.parameters) _ _ _ _ tt λ e. holds (tt, c)
+    term-of q (array_word a) =
         require-post (ltb a (length D.arrays)) _ _ _ _ tt λ e.
-        bind-post (operand-counts termSize Anything p h r) λ i r₁ h₁.
+        bind-post (operand-counts term_size Anything p h r) λ i r₁ h₁.
         holds (tt, record { tokens = omega arith; few = h₁.1.few })
-    term_of q (opWord o) =
-        bind-post (operand-counts termSize Anything p h r) λ s r₁ h₁.
-        bind-post (operand-counts termSize Anything p h r₁) λ t r₂ h₂.
-        holds (tt, record { tokens = omega (arith, length-append (termTokens s) (termTokens t)); few = h₂.1.few })
+    term-of q (op_word o) =
+        bind-post (operand-counts term_size Anything p h r) λ s r₁ h₁.
+        bind-post (operand-counts term_size Anything p h r₁) λ t r₂ h₂.
+        holds (tt, record { tokens = omega (arith, length-append (term_tokens s) (term_tokens t)); few = h₂.1.few })
 
-    term-with : (t : Token) (w : Word) → Post (TermFrom n) (termWith D p S t w r)
-    term-with t (termWord w) = term_of t.place w
-    term-with t (formulaWord w) = refusal tt
-    term-with t (numberWord m) = refusal tt
+    term-with : (t : Token) (w : Word) → Post (TermFrom n) (term_with D p S t w r)
+    term-with t (term_word w) = term-of t.place w
+    term-with t (formula_word w) = refusal tt
+    term-with t (number_word m) = refusal tt
     term-with t unknown = refusal tt
 
   term-counts : (k : ℕ) (r : Reader) → Post (TermFrom r.tokens) (term D k S r)
@@ -92,20 +92,20 @@ module _ (D : Declared) (S : Locals) where
 
   -- as an operand
   pub term-operand-counts : (k : ℕ) (r : Reader) → Post (TermFrom r.tokens) (operand (term D k S) r)
-  term-operand-counts k = operand-counts termSize Anything (term D k S) (term-counts k)
+  term-operand-counts k = operand-counts term_size Anything (term D k S) (term-counts k)
 
 -- the arguments of a call, so many
 abbrev pub TermsFrom : ℕ → ℕ → List Term → Reader → Type 0
-TermsFrom m n ts r = (length ts ≡ m) × Counted n (termsSize ts) r.tokens
+TermsFrom m n ts r = (length ts ≡ m) × Counted n (terms_size ts) r.tokens
 
 module _ (D : Declared) (k : ℕ) (S : Locals) where
-  pub arguments-count : (m : ℕ) (r : Reader) → r.tokens ≤ maxTokens → Post (TermsFrom m r.tokens) (arguments D (term D k S) m r)
-  unfolding arguments termsTokens
+  pub arguments-count : (m : ℕ) (r : Reader) → r.tokens ≤ max_tokens → Post (TermsFrom m r.tokens) (arguments D (term D k S) m r)
+  unfolding arguments terms_tokens
   arguments-count zero r few = holds {a = []} {r = r} (refl, record { tokens = omega arith; few = few })
   arguments-count (suc m) r few =
       bind-post (term-operand-counts D S k r) λ t r₁ h₁.
       bind-post (arguments-count m r₁ h₁.1.few) λ ts r₂ h₂.
-      holds {a = t ∷ ts} {r = r₂} (ap suc h₂.0, record { tokens = omega (arith, h₂.1.tokens, h₁.1.tokens, length-append (termTokens t) (termsTokens ts)); few = h₂.1.few })
+      holds {a = t ∷ ts} {r = r₂} (ap suc h₂.0, record { tokens = omega (arith, h₂.1.tokens, h₁.1.tokens, length-append (term_tokens t) (terms_tokens ts)); few = h₂.1.few })
 
 -- ---- a binder's local, a procedure's number
 
@@ -114,20 +114,20 @@ LocalFrom = Counting (λ l. 1) Anything
 
 module _ (D : Declared) where
   module _ (n : ℕ) (r : Reader) (c : Counted n 1 r.tokens) where
-    binder-of : (p : ℕ) (w : TermWord) → Post (LocalFrom n) (binderOf D p w r)
-    binder-of p (localWord l) =
+    binder-of : (p : ℕ) (w : TermWord) → Post (LocalFrom n) (binder_of D p w r)
+    binder-of p (local_word l) =
         require-post (ltb l D.locals) _ _ _ _ tt λ e.
         pick_post (has l r.bound) _ _ (λ e. refusal tt) (λ e. holds (tt, c))
-    binder-of p (constantWord z) = refusal tt
-    binder-of p (scalarWord m) = refusal tt
-    binder-of p (arrayWord a) = refusal tt
-    binder-of p (parameterWord m) = refusal tt
-    binder-of p (opWord o) = refusal tt
+    binder-of p (constant_word z) = refusal tt
+    binder-of p (scalar_word m) = refusal tt
+    binder-of p (array_word a) = refusal tt
+    binder-of p (parameter_word m) = refusal tt
+    binder-of p (op_word o) = refusal tt
 
-    binder-with : (t : Token) (w : Word) → Post (LocalFrom n) (binderWith D t w r)
-    binder-with t (termWord w) = binder-of t.place w
-    binder-with t (formulaWord w) = refusal tt
-    binder-with t (numberWord m) = refusal tt
+    binder-with : (t : Token) (w : Word) → Post (LocalFrom n) (binder_with D t w r)
+    binder-with t (term_word w) = binder-of t.place w
+    binder-with t (formula_word w) = refusal tt
+    binder-with t (number_word m) = refusal tt
     binder-with t unknown = refusal tt
 
   binder-counts : (k : ℕ) (r : Reader) → Post (LocalFrom r.tokens) (binder D k r)
@@ -142,10 +142,10 @@ module _ (D : Declared) where
   NumberFrom = Counting (λ K. 1) (λ n K. K < length D.procedures)
 
   module _ (n : ℕ) (r : Reader) (c : Counted n 1 r.tokens) where
-    procedure-with : (t : Token) (w : Word) → Post (NumberFrom n) (procedureWith D t w r)
-    procedure-with t (numberWord K) = require-post (ltb K (length D.procedures)) _ _ _ _ tt λ e. holds (ltb-true K _ e, c)
-    procedure-with t (formulaWord w) = refusal tt
-    procedure-with t (termWord w) = refusal tt
+    procedure-with : (t : Token) (w : Word) → Post (NumberFrom n) (procedure_with D t w r)
+    procedure-with t (number_word K) = require-post (ltb K (length D.procedures)) _ _ _ _ tt λ e. holds (ltb-true K _ e, c)
+    procedure-with t (formula_word w) = refusal tt
+    procedure-with t (term_word w) = refusal tt
     procedure-with t unknown = refusal tt
 
   procedure-counts : (k : ℕ) (r : Reader) → Post (NumberFrom r.tokens) (procedure D k r)

@@ -11,13 +11,13 @@ use lib.Seq.{get_or-set_same, get_or-set_other}
 use borrow.Author.Tests.{leb-true, leb-false}
 use Rattle.specification.specs.Bytes.{Bytes, bytes, pick, comma, feed}
 use Rattle.specification.specs.Parser.{Reader, Read, refused, found, and_then, ◌>>◌, give, next, mark, key}
-use Rattle.specification.specs.Lines.{count, lengths, arraysLine, sum, Declared, cells, first_of}
+use Rattle.specification.specs.Lines.{count, lengths, arrays_line, sum, Declared, cells, first_of}
 use Rattle.specification.proofs.Laws.Contradiction.{contradiction}
-use Rattle.tables.specs.Layout.{maxArrays, maxCells, first_slot, pathAt}
+use Rattle.tables.specs.Layout.{max_arrays, max_cells, first_slot, path_at}
 use Rattle.sheet.specs.Reader.{line_at}
-use Rattle.sheet.specs.Tables.{Words, laidFirsts, laidArrays}
+use Rattle.sheet.specs.Tables.{Words, laid_firsts, laid_arrays}
 use Rattle.sheet.specs.Held.{ArraysAt}
-use Rattle.sheet.specs.Firsts.{ArraysFound, arraysValue}
+use Rattle.sheet.specs.Firsts.{ArraysFound, arrays_value}
 use Rattle.sheet.specs.Items.{Declares}
 use Rattle.sheet.proofs.Keys.{closed}
 use Rattle.sheet.proofs.ArrayLine.{count-few}
@@ -64,57 +64,57 @@ lengths-few (suc k) left r ns r' e = by_count (λ n. lengths-few k (left - n)) (
         few-more ns r' k left n (count-few 1 left n r q (sym c)).1
         (pick (next comma q.rest) (mark comma >> lengths k (left - n)) (give []) q) (by_next n (ih n) q (next comma q.rest)) e
 
-pub arrays-few : (scalars : ℕ) (r : Reader) (ns : List ℕ) (r' : Reader) → arraysLine scalars r ≡ found ns r' → Few maxArrays (maxCells - scalars) ns
-unfolding arraysLine sum
+pub arrays-few : (scalars : ℕ) (r : Reader) (ns : List ℕ) (r' : Reader) → arrays_line scalars r ≡ found ns r' → Few max_arrays (max_cells - scalars) ns
+unfolding arrays_line sum
 arrays-few scalars r ns r' e = by_key (key (bytes "arrays=") r) e
   where
     by-feed : (ms : List ℕ) (x : Read (Unit {0})) → and_then (λ u. give ms) x ≡ found ns r' → ms ≡ ns
     by-feed ms (refused i p) e = contradiction cc
     by-feed ms (found u q) e = cc
 
-    by_lengths : (x : Read (List ℕ)) → ((ms : List ℕ) (q : Reader) → x ≡ found ms q → Few maxArrays (maxCells - scalars) ms) → closed x ≡ found ns r' → Few maxArrays (maxCells - scalars) ns
+    by_lengths : (x : Read (List ℕ)) → ((ms : List ℕ) (q : Reader) → x ≡ found ms q → Few max_arrays (max_cells - scalars) ms) → closed x ≡ found ns r' → Few max_arrays (max_cells - scalars) ns
     by_lengths (refused i p) h e = contradiction cc
     by_lengths (found ms q) h e = let same = by-feed ms (mark feed q) e in rw (sym same) (h ms q refl)
 
-    by_next : (q : Reader) (t : Bool) (ms : List ℕ) (q' : Reader) → pick t (give []) (lengths maxArrays (maxCells - scalars)) q ≡ found ms q' → Few maxArrays (maxCells - scalars) ms
+    by_next : (q : Reader) (t : Bool) (ms : List ℕ) (q' : Reader) → pick t (give []) (lengths max_arrays (max_cells - scalars)) q ≡ found ms q' → Few max_arrays (max_cells - scalars) ms
     by_next q true ms q' e = let same : [] ≡ ms = cc in (omega (arith, ap length same), omega (arith, ap sum same))
-    by_next q false ms q' e = lengths-few maxArrays (maxCells - scalars) q ms q' e
+    by_next q false ms q' e = lengths-few max_arrays (max_cells - scalars) q ms q' e
 
-    by_key : (x : Read (Unit {0})) → and_then (λ u q. closed (arraysValue scalars q)) x ≡ found ns r' → Few maxArrays (maxCells - scalars) ns
+    by_key : (x : Read (Unit {0})) → and_then (λ u q. closed (arrays_value scalars q)) x ≡ found ns r' → Few max_arrays (max_cells - scalars) ns
     by_key (refused i p) e = contradiction cc
-    by_key (found u q) e = by_lengths (arraysValue scalars q) (by_next q (next feed q.rest)) e
+    by_key (found u q) e = by_lengths (arrays_value scalars q) (by_next q (next feed q.rest)) e
 
 -- ---- first cells in their places
 
 module _ (D : Declared) where
-  laid-before : (n a b : ℕ) (w : Words) → b < a → get_or (laidFirsts D a n w) (first_slot b) 0 ≡ get_or w (first_slot b) 0
-  unfolding laidFirsts
+  laid-before : (n a b : ℕ) (w : Words) → b < a → get_or (laid_firsts D a n w) (first_slot b) 0 ≡ get_or w (first_slot b) 0
+  unfolding laid_firsts
   laid-before zero a b w h = refl
   laid-before (suc n) a b w h =
       laid-before n (suc a) b (set w (first_slot a) (first_of D a)) (omega arith) ∙ get_or-set_other w (first_slot a) (first_slot b) (first_of D a) 0 (λ e. omega arith)
 
-  laid-at : (n a b : ℕ) (w : Words) → a ≤ b → b < a + n → first_slot b < length w → get_or (laidFirsts D a n w) (first_slot b) 0 ≡ first_of D b
-  unfolding laidFirsts
+  laid-at : (n a b : ℕ) (w : Words) → a ≤ b → b < a + n → first_slot b < length w → get_or (laid_firsts D a n w) (first_slot b) 0 ≡ first_of D b
+  unfolding laid_firsts
   laid-at zero a b w l h k = absurd (omega arith)
   laid-at (suc n) a b w l h k = go (laid-at n (suc a) b (set w (first_slot a) (first_of D a))) (leb b a) refl
     where
       w₁ : Words
       w₁ = set w (first_slot a) (first_of D a)
 
-      go : (suc a ≤ b → b < suc a + n → first_slot b < length w₁ → get_or (laidFirsts D (suc a) n w₁) (first_slot b) 0 ≡ first_of D b)
-          → (t : Bool) → leb b a ≡ t → get_or (laidFirsts D (suc a) n w₁) (first_slot b) 0 ≡ first_of D b
+      go : (suc a ≤ b → b < suc a + n → first_slot b < length w₁ → get_or (laid_firsts D (suc a) n w₁) (first_slot b) 0 ≡ first_of D b)
+          → (t : Bool) → leb b a ≡ t → get_or (laid_firsts D (suc a) n w₁) (first_slot b) 0 ≡ first_of D b
       go ih true e =
           let same : b ≡ a = omega (arith, leb-true b a e) in
           rw same (laid-before n (suc a) a w₁ (omega arith) ∙ get_or-set_same w (first_slot a) (first_of D a) 0 (omega arith))
       go ih false e = ih (omega (arith, leb-false b a e)) (omega arith) (omega (arith, length-set w (first_slot a) (first_of D a)))
 
-  pub laid-arrays : (w : Words) → pathAt ≤ length w → ArraysAt (laidArrays D w) D
-  unfolding laidArrays
-  laid-arrays w long a l = laid-at (suc maxArrays) 0 a w (omega arith) (omega arith) (omega arith)
+  pub laid-arrays : (w : Words) → path_at ≤ length w → ArraysAt (laid_arrays D w) D
+  unfolding laid_arrays
+  laid-arrays w long a l = laid-at (suc max_arrays) 0 a w (omega arith) (omega arith) (omega arith)
 
 -- what the line of given values wants of the words
 pub found-declares : {s : Bytes} {at scalars : ℕ} {w w' : Words} {n end e : ℕ} → (f : ArraysFound s at scalars w (record { arrays = n; end = end; words = w' }) e)
-    → scalars ≤ maxCells → pathAt ≤ length w → (D : Declared) → D.scalars ≡ scalars → D.arrays ≡ f.lengths → Declares D scalars n w'
+    → scalars ≤ max_cells → path_at ≤ length w → (D : Declared) → D.scalars ≡ scalars → D.arrays ≡ f.lengths → Declares D scalars n w'
 unfolding cells
 found-declares {s} {at} {scalars} {w} {w'} {n} {end} {e} f few long D a b =
     let h = arrays-few scalars (line_at s at) f.lengths (line_at s e) f.read in

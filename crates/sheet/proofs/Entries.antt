@@ -5,7 +5,7 @@ use mathlib.Core.Path.{◌≡◌, refl, subst, ◌∙◌}
 use mathlib.Core.List.{List, [], ◌∷◌, ◌++◌}
 use lib.ListN.{length, get_or, set, replicate, length-set, length-append, length-replicate}
 use lib.Seq.{get_or-set_same, get_or-set_other}
-use Rattle.tables.specs.Layout.{maxDues, dueSlot, duesAt, pathAt}
+use Rattle.tables.specs.Layout.{max_dues, due_slot, dues_at, path_at}
 use Rattle.sheet.specs.declared.stack.Entry.{Entry}
 use Rattle.sheet.specs.Dues.{Due}
 use Rattle.sheet.specs.Tables.{Words}
@@ -20,46 +20,46 @@ module _ (w : Words) (i : ℕ) (e : Entry) where
   entered-length : length (entered w i e) ≡ length w
   entered-length = simp length-set
 
-  entered-other : (j : ℕ) → (j ≡ dueSlot i → ⊥) → (j ≡ dueSlot i + 1 → ⊥) → (j ≡ dueSlot i + 2 → ⊥) → get_or (entered w i e) j 0 ≡ get_or w j 0
+  entered-other : (j : ℕ) → (j ≡ due_slot i → ⊥) → (j ≡ due_slot i + 1 → ⊥) → (j ≡ due_slot i + 2 → ⊥) → get_or (entered w i e) j 0 ≡ get_or w j 0
   entered-other j a b c =
-      get_or-set_other (set (set w (dueSlot i) e.sort) (dueSlot i + 1) e.room) (dueSlot i + 2) j e.scope 0 c ∙
-      get_or-set_other (set w (dueSlot i) e.sort) (dueSlot i + 1) j e.room 0 b ∙
-      get_or-set_other w (dueSlot i) j e.sort 0 a
+      get_or-set_other (set (set w (due_slot i) e.sort) (due_slot i + 1) e.room) (due_slot i + 2) j e.scope 0 c ∙
+      get_or-set_other (set w (due_slot i) e.sort) (due_slot i + 1) j e.room 0 b ∙
+      get_or-set_other w (due_slot i) j e.sort 0 a
 
-  module _ (h : dueSlot i + 2 < length w) where
+  module _ (h : due_slot i + 2 < length w) where
     entered_at : entry_at (entered w i e) i ≡ e
     entered_at = entry_of e _ _ _ at-sort at_room at-scope
       where
-        at-scope : get_or (entered w i e) (dueSlot i + 2) 0 ≡ e.scope
-        at-scope = get_or-set_same (set (set w (dueSlot i) e.sort) (dueSlot i + 1) e.room) (dueSlot i + 2) e.scope 0 (simp length-set h)
+        at-scope : get_or (entered w i e) (due_slot i + 2) 0 ≡ e.scope
+        at-scope = get_or-set_same (set (set w (due_slot i) e.sort) (due_slot i + 1) e.room) (due_slot i + 2) e.scope 0 (simp length-set h)
 
-        at_room : get_or (entered w i e) (dueSlot i + 1) 0 ≡ e.room
+        at_room : get_or (entered w i e) (due_slot i + 1) 0 ≡ e.room
         at_room =
-            get_or-set_other (set (set w (dueSlot i) e.sort) (dueSlot i + 1) e.room) (dueSlot i + 2) (dueSlot i + 1) e.scope 0 (λ q. omega arith) ∙
-            get_or-set_same (set w (dueSlot i) e.sort) (dueSlot i + 1) e.room 0 (simp length-set (omega arith))
+            get_or-set_other (set (set w (due_slot i) e.sort) (due_slot i + 1) e.room) (due_slot i + 2) (due_slot i + 1) e.scope 0 (λ q. omega arith) ∙
+            get_or-set_same (set w (due_slot i) e.sort) (due_slot i + 1) e.room 0 (simp length-set (omega arith))
 
-        at-sort : get_or (entered w i e) (dueSlot i) 0 ≡ e.sort
+        at-sort : get_or (entered w i e) (due_slot i) 0 ≡ e.sort
         at-sort =
-            get_or-set_other (set (set w (dueSlot i) e.sort) (dueSlot i + 1) e.room) (dueSlot i + 2) (dueSlot i) e.scope 0 (λ q. omega arith) ∙
-            get_or-set_other (set w (dueSlot i) e.sort) (dueSlot i + 1) (dueSlot i) e.room 0 (λ q. omega arith) ∙
-            get_or-set_same w (dueSlot i) e.sort 0 (omega arith)
+            get_or-set_other (set (set w (due_slot i) e.sort) (due_slot i + 1) e.room) (due_slot i + 2) (due_slot i) e.scope 0 (λ q. omega arith) ∙
+            get_or-set_other (set w (due_slot i) e.sort) (due_slot i + 1) (due_slot i) e.room 0 (λ q. omega arith) ∙
+            get_or-set_same w (due_slot i) e.sort 0 (omega arith)
 
 -- ---- the stack
 
 -- the stack is what stands in its words
-pub stacked-same : (w w' : Words) (ds : List Due) → ((j : ℕ) → duesAt ≤ j → j < dueSlot (length ds) → get_or w' j 0 ≡ get_or w j 0) → Stacked w ds → Stacked w' ds
+pub stacked-same : (w w' : Words) (ds : List Due) → ((j : ℕ) → dues_at ≤ j → j < due_slot (length ds) → get_or w' j 0 ≡ get_or w j 0) → Stacked w ds → Stacked w' ds
 unfolding Stacked
 stacked-same w w' [] h s = tt
 stacked-same w w' (d ∷ ds) h s = (
   rw (
-    h (dueSlot (length ds)) (omega arith) (omega arith),
-    h (dueSlot (length ds) + 1) (omega arith) (omega arith),
-    h (dueSlot (length ds) + 2) (omega arith) (omega arith),
+    h (due_slot (length ds)) (omega arith) (omega arith),
+    h (due_slot (length ds) + 1) (omega arith) (omega arith),
+    h (due_slot (length ds) + 2) (omega arith) (omega arith),
   ) s.0,
   stacked-same w w' ds (λ j a b. h j a (omega arith)) s.1,
 )
 
-pub stacked-put : (w : Words) (d : Due) (ds : List Due) (n : ℕ) (e : Entry) → length ds ≡ n → dueSlot n + 2 < length w → Means e d → Stacked w ds → Stacked (entered w n e) (d ∷ ds)
+pub stacked-put : (w : Words) (d : Due) (ds : List Due) (n : ℕ) (e : Entry) → length ds ≡ n → due_slot n + 2 < length w → Means e d → Stacked w ds → Stacked (entered w n e) (d ∷ ds)
 unfolding Stacked
 stacked-put w d ds n e q h m s = (
   rw (q, entered_at w n e h) m,
@@ -78,7 +78,7 @@ beside-then p q = record {
   above = λ j h. q.above j h ∙ p.above j h;
 }
 
-pub beside-put : (w : Words) (n : ℕ) (e : Entry) → n < maxDues → Beside w (entered w n e)
+pub beside-put : (w : Words) (n : ℕ) (e : Entry) → n < max_dues → Beside w (entered w n e)
 beside-put w n e h = record {
   long = entered-length w n e;
   below = λ j l. entered-other w n e j (λ r. omega arith) (λ r. omega arith) (λ r. omega arith);
@@ -91,7 +91,7 @@ module _ (w : Words) (n : ℕ) (e : Entry) where
   pub repeated-none : Repeated w w n e 0
   repeated-none = record { beside = beside-self w; stack = λ d ds m q s. s }
 
-  pub repeated-more : (w' : Words) (i : ℕ) → n + i < maxDues → pathAt ≤ length w → Repeated w w' n e i → Repeated w (entered w' (n + i) e) n e (suc i)
+  pub repeated-more : (w' : Words) (i : ℕ) → n + i < max_dues → path_at ≤ length w → Repeated w w' n e i → Repeated w (entered w' (n + i) e) n e (suc i)
   repeated-more w' i h l p = record {
     beside = beside-then p.beside (beside-put w' (n + i) e h);
     stack = λ d ds m q s.
@@ -103,7 +103,7 @@ module _ (w : Words) (n : ℕ) (e : Entry) where
   pub repeated-start : Repeated w w n e (n - n)
   repeated-start = let z : n - n ≡ 0 = omega arith in rw z repeated-none
 
-  pub repeated-next : (w' : Words) (i : ℕ) → n ≤ i → i < maxDues → pathAt ≤ length w → Repeated w w' n e (i - n) → Repeated w (entered w' i e) n e (i + 1 - n)
+  pub repeated-next : (w' : Words) (i : ℕ) → n ≤ i → i < max_dues → path_at ≤ length w → Repeated w w' n e (i - n) → Repeated w (entered w' i e) n e (i + 1 - n)
   repeated-next w' i l h k p =
       let at : n + (i - n) ≡ i = omega arith in
       let more : i + 1 - n ≡ suc (i - n) = omega arith in

@@ -11,90 +11,90 @@ use Rattle.specification.specs.Bytes.{pick, between}
 use Rattle.specification.specs.Lines.{Declared}
 use Rattle.specification.specs.Formula.{Locals, has}
 use Rattle.specification.proofs.Laws.Contradiction.{contradiction}
-use Rattle.tables.specs.Layout.{maxTokens, operand_at}
-use Rattle.tables.specs.Codes.{firstFormula, lastFormula, firstTerm, lastTerm, constant_code, localCode, parameterCode, badConstantCode, procedureCode, lastCode}
+use Rattle.tables.specs.Layout.{max_tokens, operand_at}
+use Rattle.tables.specs.Codes.{first_formula, last_formula, first_term, last_term, constant_code, local_code, parameter_code, bad_constant_code, procedure_code, last_code}
 use Rattle.sheet.specs.declared.Token.{Token}
 use Rattle.sheet.specs.declared.stack.Entry.{Entry}
 use Rattle.sheet.specs.declared.formula.Limits.{Limits}
-use Rattle.sheet.specs.Sorts.{formulaSort, termSort, upperSort, boundsSort, procedureSort}
-use Rattle.sheet.specs.Dues.{Due, dueFormula, dueTerm, dueProcedure, dueEx, dueRange, dueBounds, dueUpper}
-use Rattle.sheet.specs.Turn.{room, suits, declared, undeclared, placed, faultOf, empties, binds}
+use Rattle.sheet.specs.Sorts.{formula_sort, term_sort, upper_sort, bounds_sort, procedure_sort}
+use Rattle.sheet.specs.Dues.{Due, due_formula, due_term, due_procedure, due_ex, due_range, due_bounds, due_upper}
+use Rattle.sheet.specs.Turn.{room, suits, declared, undeclared, placed, fault_of, empties, binds}
 use Rattle.sheet.specs.Tables.{Words}
-use Rattle.sheet.specs.Stack.{sortOf, scope_of, Means, Kept, Coded}
-use Rattle.sheet.specs.FormulaLine.{Counts, counted, refusalOf}
+use Rattle.sheet.specs.Stack.{sort_of, scope_of, Means, Kept, Coded}
+use Rattle.sheet.specs.FormulaLine.{Counts, counted, refusal_of}
 use Rattle.text.proofs.Laws.Ranges.{within}
 
 -- ---- by the number of the sort
 
-pub suits-by : (d : Due) (sort c : ℕ) → sort ≡ sortOf d →
+pub suits-by : (d : Due) (sort c : ℕ) → sort ≡ sort_of d →
     suits d c ≡
-    pick (eqb sort formulaSort) (between firstFormula lastFormula c)
-    (pick (between termSort boundsSort sort) (between firstTerm lastTerm c)
-    (pick (eqb sort procedureSort) (between procedureCode lastCode c) (eqb c localCode)))
-suits-by (dueFormula k S) sort c e = rw e
-suits-by (dueTerm k S) sort c e = rw e
-suits-by (dueProcedure k S) sort c e = rw e
-suits-by (dueEx k S) sort c e = rw e
-suits-by (dueRange k S p) sort c e = rw e
-suits-by (dueBounds k S p) sort c e = rw e
-suits-by (dueUpper k S p x) sort c e = rw e
+    pick (eqb sort formula_sort) (between first_formula last_formula c)
+    (pick (between term_sort bounds_sort sort) (between first_term last_term c)
+    (pick (eqb sort procedure_sort) (between procedure_code last_code c) (eqb c local_code)))
+suits-by (due_formula k S) sort c e = rw e
+suits-by (due_term k S) sort c e = rw e
+suits-by (due_procedure k S) sort c e = rw e
+suits-by (due_ex k S) sort c e = rw e
+suits-by (due_range k S p) sort c e = rw e
+suits-by (due_bounds k S p) sort c e = rw e
+suits-by (due_upper k S p x) sort c e = rw e
 
-pub placed_by : (d : Due) (B : Locals) (sort l : ℕ) → sort ≡ sortOf d →
+pub placed_by : (d : Due) (B : Locals) (sort l : ℕ) → sort ≡ sort_of d →
     placed d B l ≡
-    pick (eqb sort formulaSort) true (pick (between termSort boundsSort sort) (has l (scope_of d))
-    (pick (eqb sort procedureSort) true (not (has l B))))
-placed_by (dueFormula k S) B sort l e = rw e
-placed_by (dueTerm k S) B sort l e = rw e
-placed_by (dueProcedure k S) B sort l e = rw e
-placed_by (dueEx k S) B sort l e = rw e
-placed_by (dueRange k S p) B sort l e = rw e
-placed_by (dueBounds k S p) B sort l e = rw e
-placed_by (dueUpper k S p x) B sort l e = rw e
+    pick (eqb sort formula_sort) true (pick (between term_sort bounds_sort sort) (has l (scope_of d))
+    (pick (eqb sort procedure_sort) true (not (has l B))))
+placed_by (due_formula k S) B sort l e = rw e
+placed_by (due_term k S) B sort l e = rw e
+placed_by (due_procedure k S) B sort l e = rw e
+placed_by (due_ex k S) B sort l e = rw e
+placed_by (due_range k S p) B sort l e = rw e
+placed_by (due_bounds k S p) B sort l e = rw e
+placed_by (due_upper k S p x) B sort l e = rw e
 
-pub binds-none : (d : Due) (t : Token) (B : Locals) → sortOf d ≤ procedureSort → binds d t B ≡ B
-binds-none (dueFormula k S) t B h = refl
-binds-none (dueTerm k S) t B h = refl
-binds-none (dueProcedure k S) t B h = refl
-binds-none (dueEx k S) t B h = absurd (omega arith)
-binds-none (dueRange k S p) t B h = absurd (omega arith)
-binds-none (dueBounds k S p) t B h = refl
-binds-none (dueUpper k S p x) t B h = refl
+pub binds-none : (d : Due) (t : Token) (B : Locals) → sort_of d ≤ procedure_sort → binds d t B ≡ B
+binds-none (due_formula k S) t B h = refl
+binds-none (due_term k S) t B h = refl
+binds-none (due_procedure k S) t B h = refl
+binds-none (due_ex k S) t B h = absurd (omega arith)
+binds-none (due_range k S p) t B h = absurd (omega arith)
+binds-none (due_bounds k S p) t B h = refl
+binds-none (due_upper k S p x) t B h = refl
 
-pub binds-local : (d : Due) (t : Token) (B : Locals) → procedureSort < sortOf d → binds d t B ≡ t.operand ∷ B
-binds-local (dueFormula k S) t B h = absurd (omega arith)
-binds-local (dueTerm k S) t B h = absurd (omega arith)
-binds-local (dueProcedure k S) t B h = absurd (omega arith)
-binds-local (dueEx k S) t B h = refl
-binds-local (dueRange k S p) t B h = refl
-binds-local (dueBounds k S p) t B h = absurd (omega arith)
-binds-local (dueUpper k S p x) t B h = absurd (omega arith)
+pub binds-local : (d : Due) (t : Token) (B : Locals) → procedure_sort < sort_of d → binds d t B ≡ t.operand ∷ B
+binds-local (due_formula k S) t B h = absurd (omega arith)
+binds-local (due_term k S) t B h = absurd (omega arith)
+binds-local (due_procedure k S) t B h = absurd (omega arith)
+binds-local (due_ex k S) t B h = refl
+binds-local (due_range k S p) t B h = refl
+binds-local (due_bounds k S p) t B h = absurd (omega arith)
+binds-local (due_upper k S p x) t B h = absurd (omega arith)
 
 -- ---- an upper bound that makes a range empty: by the sort, then by whether that is refused, by the code and by the word
 
-pub empties-other : (refusing : Bool) (d : Due) (t : Token) → (sortOf d ≡ upperSort → ⊥) → false ≡ empties refusing d t
-empties-other refusing (dueFormula k S) t n = refl
-empties-other refusing (dueTerm k S) t n = refl
-empties-other refusing (dueProcedure k S) t n = refl
-empties-other refusing (dueEx k S) t n = refl
-empties-other refusing (dueRange k S p) t n = refl
-empties-other refusing (dueBounds k S p) t n = refl
-empties-other refusing (dueUpper k S p x) t n = absurd (n refl)
+pub empties-other : (refusing : Bool) (d : Due) (t : Token) → (sort_of d ≡ upper_sort → ⊥) → false ≡ empties refusing d t
+empties-other refusing (due_formula k S) t n = refl
+empties-other refusing (due_term k S) t n = refl
+empties-other refusing (due_procedure k S) t n = refl
+empties-other refusing (due_ex k S) t n = refl
+empties-other refusing (due_range k S p) t n = refl
+empties-other refusing (due_bounds k S p) t n = refl
+empties-other refusing (due_upper k S p x) t n = absurd (n refl)
 
 module _ (refusing : Bool) (w : Words) (n p : ℕ) (t : Token) where
   -- the lower bound is the last of n tokens
   abbrev below : Bool
   below = refusing && (eqb t.code constant_code && ltb t.operand (operand_at w (n - 1)))
 
-  empties-upper : (d : Due) → sortOf d ≡ upperSort → Kept w n p d → below ≡ empties refusing d t
-  empties-upper (dueFormula k S) e h = absurd (omega arith)
-  empties-upper (dueTerm k S) e h = absurd (omega arith)
-  empties-upper (dueProcedure k S) e h = absurd (omega arith)
-  empties-upper (dueEx k S) e h = absurd (omega arith)
-  empties-upper (dueRange k S q) e h = absurd (omega arith)
-  empties-upper (dueBounds k S q) e h = absurd (omega arith)
-  empties-upper (dueUpper k S q x) e h = rw h.2
+  empties-upper : (d : Due) → sort_of d ≡ upper_sort → Kept w n p d → below ≡ empties refusing d t
+  empties-upper (due_formula k S) e h = absurd (omega arith)
+  empties-upper (due_term k S) e h = absurd (omega arith)
+  empties-upper (due_procedure k S) e h = absurd (omega arith)
+  empties-upper (due_ex k S) e h = absurd (omega arith)
+  empties-upper (due_range k S q) e h = absurd (omega arith)
+  empties-upper (due_bounds k S q) e h = absurd (omega arith)
+  empties-upper (due_upper k S q x) e h = rw h.2
 
-  module _ (d : Due) (e : sortOf d ≡ upperSort) (h : Kept w n p d) where
+  module _ (d : Due) (e : sort_of d ≡ upper_sort) (h : Kept w n p d) where
     pub empties-off : refusing ≡ false → false ≡ empties refusing d t
     empties-off q = is ∙ empties-upper d e h
       where
@@ -121,11 +121,11 @@ module _ {l : Limits} {D : Declared} (g : Counts l D) where
   unfolding declared
   declared-counted t = rw (g.scalars, g.locals, g.arrays, g.parameters, g.procedures, length-replicate, length-replicate)
 
-  pub fault-counted : (d : Due) (B : Locals) (t : Token) → faultOf D d B t ≡ faultOf (counted l) d B t
-  unfolding faultOf
+  pub fault-counted : (d : Due) (B : Locals) (t : Token) → fault_of D d B t ≡ fault_of (counted l) d B t
+  unfolding fault_of
   fault-counted d B t = rw (declared-counted t)
 
-pub declared-local : (l : Limits) (t : Token) → t.code ≡ localCode → declared (counted l) t ≡ true → t.operand < l.locals
+pub declared-local : (l : Limits) (t : Token) → t.code ≡ local_code → declared (counted l) t ≡ true → t.operand < l.locals
 unfolding declared
 declared-local l t e h = ltb-true _ _ (rw e at h)
 
@@ -142,32 +142,32 @@ kept false k x h e = absurd (omega arith)
 
 undeclared-some : (c : ℕ) → 0 < undeclared c
 unfolding undeclared
-undeclared-some c = go (eqb c parameterCode) (between procedureCode lastCode c)
+undeclared-some c = go (eqb c parameter_code) (between procedure_code last_code c)
   where
     go : (a b : Bool) → 0 < pick a 12 (pick b 11 7)
     go true b = omega arith
     go false true = omega arith
     go false false = omega arith
 
-suits-local : (d : Due) (c : ℕ) → procedureSort < sortOf d → suits d c ≡ true → c ≡ localCode
-suits-local (dueFormula k S) c h e = absurd (omega arith)
-suits-local (dueTerm k S) c h e = absurd (omega arith)
-suits-local (dueProcedure k S) c h e = absurd (omega arith)
-suits-local (dueEx k S) c h e = eqb-true c localCode e
-suits-local (dueRange k S p) c h e = eqb-true c localCode e
-suits-local (dueBounds k S p) c h e = absurd (omega arith)
-suits-local (dueUpper k S p x) c h e = absurd (omega arith)
+suits-local : (d : Due) (c : ℕ) → procedure_sort < sort_of d → suits d c ≡ true → c ≡ local_code
+suits-local (due_formula k S) c h e = absurd (omega arith)
+suits-local (due_term k S) c h e = absurd (omega arith)
+suits-local (due_procedure k S) c h e = absurd (omega arith)
+suits-local (due_ex k S) c h e = eqb-true c local_code e
+suits-local (due_range k S p) c h e = eqb-true c local_code e
+suits-local (due_bounds k S p) c h e = absurd (omega arith)
+suits-local (due_upper k S p x) c h e = absurd (omega arith)
 
 pub suits-coded : (d : Due) (e : Entry) (c : ℕ) → Means e d → suits d c ≡ true → Coded e c
-suits-coded (dueFormula k S) e c m q = record { word = λ h. omega (arith, (within firstFormula lastFormula c q).1); number = λ h. absurd (omega (arith, m.sort)) }
-suits-coded (dueTerm k S) e c m q = record { word = λ h. omega (arith, (within firstTerm lastTerm c q).1); number = λ h. absurd (omega (arith, m.sort)) }
-suits-coded (dueProcedure k S) e c m q = record { word = λ h. absurd (omega (arith, m.sort)); number = λ h. (within procedureCode lastCode c q).0 }
-suits-coded (dueEx k S) e c m q = record { word = λ h. absurd (omega (arith, m.sort)); number = λ h. absurd (omega (arith, m.sort)) }
-suits-coded (dueRange k S p) e c m q = record { word = λ h. absurd (omega (arith, m.sort)); number = λ h. absurd (omega (arith, m.sort)) }
-suits-coded (dueBounds k S p) e c m q =
-    record { word = λ h. omega (arith, (within firstTerm lastTerm c q).1); number = λ h. absurd (omega (arith, m.sort)) }
-suits-coded (dueUpper k S p x) e c m q =
-    record { word = λ h. omega (arith, (within firstTerm lastTerm c q).1); number = λ h. absurd (omega (arith, m.sort)) }
+suits-coded (due_formula k S) e c m q = record { word = λ h. omega (arith, (within first_formula last_formula c q).1); number = λ h. absurd (omega (arith, m.sort)) }
+suits-coded (due_term k S) e c m q = record { word = λ h. omega (arith, (within first_term last_term c q).1); number = λ h. absurd (omega (arith, m.sort)) }
+suits-coded (due_procedure k S) e c m q = record { word = λ h. absurd (omega (arith, m.sort)); number = λ h. (within procedure_code last_code c q).0 }
+suits-coded (due_ex k S) e c m q = record { word = λ h. absurd (omega (arith, m.sort)); number = λ h. absurd (omega (arith, m.sort)) }
+suits-coded (due_range k S p) e c m q = record { word = λ h. absurd (omega (arith, m.sort)); number = λ h. absurd (omega (arith, m.sort)) }
+suits-coded (due_bounds k S p) e c m q =
+    record { word = λ h. omega (arith, (within first_term last_term c q).1); number = λ h. absurd (omega (arith, m.sort)) }
+suits-coded (due_upper k S p x) e c m q =
+    record { word = λ h. omega (arith, (within first_term last_term c q).1); number = λ h. absurd (omega (arith, m.sort)) }
 
 some-room : (k : ℕ) → eqb k 0 ≡ false → 0 < k
 some-room zero e = contradiction cc
@@ -175,16 +175,16 @@ some-room (suc k) e = omega arith
 
 pub record Stands (l : Limits) (d : Due) (n : ℕ) (t : Token) : Type 0 where
   pub room : 0 < room d
-  pub number : n < maxTokens
+  pub number : n < max_tokens
   pub suits : suits d t.code ≡ true
-  pub index : procedureSort < sortOf d → t.operand < l.locals
+  pub index : procedure_sort < sort_of d → t.operand < l.locals
 
-pub stands : (l : Limits) (d : Due) (B : Locals) (n : ℕ) (t : Token) → refusalOf l d B n t ≡ 0 → Stands l d n t
-unfolding faultOf
+pub stands : (l : Limits) (d : Due) (B : Locals) (n : ℕ) (t : Token) → refusal_of l d B n t ≡ 0 → Stands l d n t
+unfolding fault_of
 stands l d B n t e =
     let a : (eqb (room d) 0 ≡ false) × _ = past _ _ _ (omega arith) e in
-    let b : (ltb n maxTokens ≡ true) × _ = kept _ _ _ (omega arith) a.1 in
-    let c : (eqb t.code badConstantCode ≡ false) × _ = past _ _ _ (omega arith) b.1 in
+    let b : (ltb n max_tokens ≡ true) × _ = kept _ _ _ (omega arith) a.1 in
+    let c : (eqb t.code bad_constant_code ≡ false) × _ = past _ _ _ (omega arith) b.1 in
     let s : (suits d t.code ≡ true) × _ = kept _ _ _ (omega arith) c.1 in
     let v : (declared (counted l) t ≡ true) × _ = kept _ _ _ (undeclared-some t.code) s.1 in
     record {

@@ -6,10 +6,10 @@ use native.Mathlib.Omega.{arith}
 use lib.Dec.{T, leb, ltb}
 use lib.IntN.{ℤ}
 use borrow.Author.Tests.{leb-true, le-leb, lt-leb, ltb-true}
-use Rattle.specification.specs.Bytes.{Bytes, pick, colon, classNumber}
+use Rattle.specification.specs.Bytes.{Bytes, pick, colon, class_number}
 use Rattle.specification.specs.Parser.{Reader, Read, refused, found, require, and_then, ◌>>=◌, ◌>>◌, give, mark}
 use Rattle.specification.specs.Number.{in32}
-use Rattle.specification.specs.Lines.{value, Declared, cells, CellName, scalar, element, isDeclared, cell_of, in_range}
+use Rattle.specification.specs.Lines.{value, Declared, cells, CellName, scalar, element, is_declared, cell_of, in_range}
 use Rattle.specification.specs.Given.{Item, name, item}
 use Rattle.specification.proofs.Laws.Contradiction.{contradiction}
 use Rattle.specification.proofs.Laws.Parser.{Post, of-found}
@@ -30,54 +30,54 @@ use Rattle.sheet.specs.declared.given.Cell.TheVariants as cell
 use Rattle.sheet.specs.declared.given.Entry.{Entry}
 use Rattle.sheet.specs.Reader.{line_at}
 use Rattle.sheet.specs.Tables.{Words}
-use Rattle.sheet.specs.Answers.{integerRead}
-use Rattle.sheet.specs.Items.{heldName, heldNames, nameRead, scalarIn, elementIn, item_of, Below, judged, afterName, entryRead, Arranged, Vacant}
+use Rattle.sheet.specs.Answers.{integer_read}
+use Rattle.sheet.specs.Items.{held_name, held_names, name_read, scalar_in, element_in, item_of, Below, judged, after_name, entry_read, Arranged, Vacant}
 use Rattle.sheet.proofs.Answers.{mapped-refused, mapped-found}
 use Rattle.sheet.proofs.Keys.{mark-yes, mark-no}
-use Rattle.sheet.proofs.CellNames.{cellIn, cell_below, held-scalar, held-element}
+use Rattle.sheet.proofs.CellNames.{cell_in, cell_below, held-scalar, held-element}
 
 -- ---- the rest of an item after its name, which ends at e
 
 module _ (s : Bytes) (p e floor : ℕ) (w : Words) (c : Cell) where
-  pub valued-no : (class_at s e ≡ classNumber colon → ⊥) → refused 5 e ≡ afterName p floor w c (line_at s e)
-  unfolding afterName
+  pub valued-no : (class_at s e ≡ class_number colon → ⊥) → refused 5 e ≡ after_name p floor w c (line_at s e)
+  unfolding after_name
   valued-no h = sym (mark-no s e colon (value >>= judged p floor w c) h)
 
   -- of what the value is told to be
-  module _ (h : class_at s e ≡ classNumber colon) (x : Integer) (is : integerRead s x ≡ value (line_at s (e + 1))) where
-    valued_read : (y : Integer) → x ≡ y → and_then (judged p floor w c) (integerRead s y) ≡ afterName p floor w c (line_at s e)
-    unfolding afterName
+  module _ (h : class_at s e ≡ class_number colon) (x : Integer) (is : integer_read s x ≡ value (line_at s (e + 1))) where
+    valued_read : (y : Integer) → x ≡ y → and_then (judged p floor w c) (integer_read s y) ≡ after_name p floor w c (line_at s e)
+    unfolding after_name
     valued_read y told =
-        ap (and_then (judged p floor w c)) (ap (integerRead s) (sym told) ∙ is) ∙ sym (mark-yes s e colon (value >>= judged p floor w c) h)
+        ap (and_then (judged p floor w c)) (ap (integer_read s) (sym told) ∙ is) ∙ sym (mark-yes s e colon (value >>= judged p floor w c) h)
 
-    pub valued-refused : (k q : ℕ) → x ≡ integer.Refused k q → refused k q ≡ afterName p floor w c (line_at s e)
+    pub valued-refused : (k q : ℕ) → x ≡ integer.Refused k q → refused k q ≡ after_name p floor w c (line_at s e)
     valued-refused k q told = valued_read (integer.Refused k q) told
 
     module _ (z q : ℕ) (told : x ≡ integer.Is z q) where
-      pub valued-undeclared : c ≡ cell.Undeclared → refused 7 p ≡ afterName p floor w c (line_at s e)
+      pub valued-undeclared : c ≡ cell.Undeclared → refused 7 p ≡ after_name p floor w c (line_at s e)
       valued-undeclared d = ap (λ (c : Cell). judged p floor w c (signed z) (line_at s q)) (sym d) ∙ valued_read (integer.Is z q) told
 
       module _ (n : ℕ) (d : c ≡ cell.Is n) where
         valued-declared : require (leb floor n) 10 p (require (allows w (value_at w n) (biased (signed z))) 13 p (give (item_of n (signed z)))) (line_at s q) ≡
-            afterName p floor w c (line_at s e)
+            after_name p floor w c (line_at s e)
         valued-declared = ap (λ (c : Cell). judged p floor w c (signed z) (line_at s q)) (sym d) ∙ valued_read (integer.Is z q) told
 
-        pub valued-low : n < floor → refused 10 p ≡ afterName p floor w c (line_at s e)
+        pub valued-low : n < floor → refused 10 p ≡ after_name p floor w c (line_at s e)
         valued-low l = rw (lt-leb floor n l) at valued-declared
 
         module _ (l : floor ≤ n) where
-          valued-rising : require (allows w (value_at w n) z) 13 p (give (item_of n (signed z))) (line_at s q) ≡ afterName p floor w c (line_at s e)
+          valued-rising : require (allows w (value_at w n) z) 13 p (give (item_of n (signed z))) (line_at s q) ≡ after_name p floor w c (line_at s e)
           valued-rising = rw (le-leb floor n l, biased-signed) at valued-declared
 
-          pub valued-outside : allows w (value_at w n) z ≡ false → refused 13 p ≡ afterName p floor w c (line_at s e)
+          pub valued-outside : allows w (value_at w n) z ≡ false → refused 13 p ≡ after_name p floor w c (line_at s e)
           valued-outside o = rw o at valued-rising
 
-          pub valued_found : allows w (value_at w n) z ≡ true → found (item_of n (signed z)) (line_at s q) ≡ afterName p floor w c (line_at s e)
+          pub valued_found : allows w (value_at w n) z ≡ true → found (item_of n (signed z)) (line_at s q) ≡ after_name p floor w c (line_at s e)
           valued_found o = rw o at valued-rising
 
 -- an item that was read has a cell, at the floor or above it
-after-found : (p floor : ℕ) (w : Words) (c : Cell) (r r' : Reader) (i : Item) → found i r' ≡ afterName p floor w c r → (c ≡ cell.Is i.cell) × (floor ≤ i.cell)
-unfolding afterName
+after-found : (p floor : ℕ) (w : Words) (c : Cell) (r r' : Reader) (i : Item) → found i r' ≡ after_name p floor w c r → (c ≡ cell.Is i.cell) × (floor ≤ i.cell)
+unfolding after_name
 after-found p floor w c r r' i e = by-colon (mark colon r) e
   where
     by-range : (n : ℕ) (z : ℤ) (q : Reader) (t : Bool) → floor ≤ n → found i r' ≡ require t 13 p (give (item_of n z)) q
@@ -110,8 +110,8 @@ module _ {D : Declared} {scalars arrays floor : ℕ} {w : Words} (v : Vacant D s
   abbrev p : ℕ
   p = r.place
 
-  item-named : item D floor r ≡ and_then (λ n. afterName p floor w (cellIn D n)) (name r)
-  unfolding item afterName
+  item-named : item D floor r ≡ and_then (λ n. after_name p floor w (cell_in D n)) (name r)
+  unfolding item after_name
   item-named = go (name r)
     where
       -- the cell's mark allows the values of its range
@@ -122,51 +122,51 @@ module _ {D : Declared} {scalars arrays floor : ℕ} {w : Words} (v : Vacant D s
           ap (λ (b : Bool). require b 13 p (give (item_of c z)) q) (sym (ap (λ (m : ℕ). allows w m (biased z)) (v.marks c (leb-true floor c l) h) ∙ v.ranges.allowed c h z i))
       by-floor c z q false l h i = refl
 
-      by-cell : (n : CellName) (z : ℤ) (q : Reader) (t : Bool) → isDeclared D n ≡ t → T (in32 z) →
+      by-cell : (n : CellName) (z : ℤ) (q : Reader) (t : Bool) → is_declared D n ≡ t → T (in32 z) →
           require t 7 p (require (leb floor (cell_of D n)) 10 p (require (in_range D (cell_of D n) z) 13 p (give (item_of (cell_of D n) z)))) q ≡
           judged p floor w (pick t (cell.Is (cell_of D n)) cell.Undeclared) z q
       by-cell n z q true d i = by-floor (cell_of D n) z q (leb floor (cell_of D n)) refl (declared-cell D n d) i
       by-cell n z q false d i = refl
 
       by_value : (n : CellName) (x : Read ℤ) → Post (λ z q. T (in32 z)) x →
-          and_then (λ z. require (isDeclared D n) 7 p (require (leb floor (cell_of D n)) 10 p (require (in_range D (cell_of D n) z) 13 p (give (item_of (cell_of D n) z))))) x ≡
-          and_then (judged p floor w (cellIn D n)) x
+          and_then (λ z. require (is_declared D n) 7 p (require (leb floor (cell_of D n)) 10 p (require (in_range D (cell_of D n) z) 13 p (give (item_of (cell_of D n) z))))) x ≡
+          and_then (judged p floor w (cell_in D n)) x
       by_value n (refused k q) i = refl
-      by_value n (found z q) i = by-cell n z q (isDeclared D n) refl (of-found i refl)
+      by_value n (found z q) i = by-cell n z q (is_declared D n) refl (of-found i refl)
 
       by-colon : (n : CellName) (x : Read (Unit {0})) →
-          and_then (λ u. value >>= λ z. require (isDeclared D n) 7 p (require (leb floor (cell_of D n)) 10 p (require (in_range D (cell_of D n) z) 13 p (give (item_of (cell_of D n) z))))) x ≡
-          and_then (λ u. value >>= judged p floor w (cellIn D n)) x
+          and_then (λ u. value >>= λ z. require (is_declared D n) 7 p (require (leb floor (cell_of D n)) 10 p (require (in_range D (cell_of D n) z) 13 p (give (item_of (cell_of D n) z))))) x ≡
+          and_then (λ u. value >>= judged p floor w (cell_in D n)) x
       by-colon n (refused k q) = refl
       by-colon n (found u q) = by_value n (value q) (value-post q)
 
       go : (x : Read CellName)
-          → and_then (λ n. mark colon >> (value >>= λ z. require (isDeclared D n) 7 p (require (leb floor (cell_of D n)) 10 p (require (in_range D (cell_of D n) z) 13 p (give (item_of (cell_of D n) z)))))) x
-          ≡ and_then (λ n. afterName p floor w (cellIn D n)) x
+          → and_then (λ n. mark colon >> (value >>= λ z. require (is_declared D n) 7 p (require (leb floor (cell_of D n)) 10 p (require (in_range D (cell_of D n) z) 13 p (give (item_of (cell_of D n) z)))))) x
+          ≡ and_then (λ n. after_name p floor w (cell_in D n)) x
       go (refused k q) = refl
       go (found n q) = by-colon n (mark colon q)
 
   pub item-cell : (i : Item) (r' : Reader) → found i r' ≡ item D floor r → (floor ≤ i.cell) × (i.cell < cells D)
   item-cell i r' e = go (name r) (e ∙ item-named)
     where
-      go : (x : Read CellName) → found i r' ≡ and_then (λ n. afterName p floor w (cellIn D n)) x → (floor ≤ i.cell) × (i.cell < cells D)
+      go : (x : Read CellName) → found i r' ≡ and_then (λ n. after_name p floor w (cell_in D n)) x → (floor ≤ i.cell) × (i.cell < cells D)
       go (refused k q) e = contradiction cc
       go (found n q) e =
-          let h = after-found p floor w (cellIn D n) q r' i e in
+          let h = after-found p floor w (cell_in D n) q r' i e in
           (h.1, cell_below D n i.cell h.0)
 
 -- a cell that the words have is within the limit
 module _ {scalars arrays : ℕ} {w : Words} (a : Arranged scalars arrays w) where
-  pub scalar_below : (n : ℕ) (c : Cell) → c ≡ scalarIn scalars n → Below c
-  unfolding scalarIn cells
+  pub scalar_below : (n : ℕ) (c : Cell) → c ≡ scalar_in scalars n → Below c
+  unfolding scalar_in cells
   scalar_below n c e = rw e (go (ltb n scalars) refl)
     where
       go : (t : Bool) → ltb n scalars ≡ t → Below (pick t (cell.Is n) cell.Undeclared)
       go true l = omega (arith, ltb-true n scalars l, a.declares.scalar, a.declares.small)
       go false l = tt
 
-  pub element-below : (b i : ℕ) (c : Cell) → c ≡ elementIn arrays w b i → Below c
-  unfolding elementIn
+  pub element-below : (b i : ℕ) (c : Cell) → c ≡ element_in arrays w b i → Below c
+  unfolding element_in
   element-below b i c e = rw e (by-array (ltb b arrays) refl)
     where
       by-element : b < arrays → (t : Bool) → ltb (first_at w b + i) (first_at w (b + 1)) ≡ t → Below (pick t (cell.Is (first_at w b + i)) cell.Undeclared)
@@ -180,24 +180,24 @@ module _ {scalars arrays : ℕ} {w : Words} (a : Arranged scalars arrays w) wher
       by-array true f = by-element (ltb-true b arrays f) (ltb (first_at w b + i) (first_at w (b + 1))) refl
       by-array false f = tt
 
-module _ (s : Bytes) (at floor : ℕ) (x : Name) (is : nameRead s x ≡ heldNames (name (line_at s at)))
+module _ (s : Bytes) (at floor : ℕ) (x : Name) (is : name_read s x ≡ held_names (name (line_at s at)))
     {D : Declared} {scalars arrays : ℕ} {w : Words} (v : Vacant D scalars arrays floor w) where
   pub item_refused : (k p : ℕ) → x ≡ names.Refused k p → refused k p ≡ item D floor (line_at s at)
   item_refused k p told =
-      let q : name (line_at s at) ≡ refused k p = mapped-refused heldName k p (name (line_at s at)) (rw told at is) in
+      let q : name (line_at s at) ≡ refused k p = mapped-refused held_name k p (name (line_at s at)) (rw told at is) in
       rw (item-named v (line_at s at), q)
 
   -- by the cell that the words have, with y the rest of the item
-  module _ (e : ℕ) (c : Cell) (y : Entry) (rest : entryRead s y ≡ afterName at floor w c (line_at s e)) where
-    by_name : (n : CellName) → found n (line_at s e) ≡ heldNames (name (line_at s at)) → ((m : CellName) → heldName m ≡ n → c ≡ cellIn D m)
-        → entryRead s y ≡ item D floor (line_at s at)
+  module _ (e : ℕ) (c : Cell) (y : Entry) (rest : entry_read s y ≡ after_name at floor w c (line_at s e)) where
+    by_name : (n : CellName) → found n (line_at s e) ≡ held_names (name (line_at s at)) → ((m : CellName) → held_name m ≡ n → c ≡ cell_in D m)
+        → entry_read s y ≡ item D floor (line_at s at)
     by_name n found_name same =
-        let from = mapped-found heldName n (line_at s e) (name (line_at s at)) found_name in
-        rest ∙ ap (λ (c : Cell). afterName at floor w c (line_at s e)) (same from.origin from.made)
-        ∙ ap (and_then (λ n. afterName at floor w (cellIn D n))) (sym from.is) ∙ sym (item-named v (line_at s at))
+        let from = mapped-found held_name n (line_at s e) (name (line_at s at)) found_name in
+        rest ∙ ap (λ (c : Cell). after_name at floor w c (line_at s e)) (same from.origin from.made)
+        ∙ ap (and_then (λ n. after_name at floor w (cell_in D n))) (sym from.is) ∙ sym (item-named v (line_at s at))
 
-    pub item-scalar : (n : ℕ) → x ≡ names.Scalar n e → c ≡ scalarIn scalars n → entryRead s y ≡ item D floor (line_at s at)
+    pub item-scalar : (n : ℕ) → x ≡ names.Scalar n e → c ≡ scalar_in scalars n → entry_read s y ≡ item D floor (line_at s at)
     item-scalar n told k = by_name (scalar n) (rw told at is) (λ m h. k ∙ held-scalar v.declares n m h)
 
-    pub item-element : (a i : ℕ) → x ≡ names.Element a i e → c ≡ elementIn arrays w a i → entryRead s y ≡ item D floor (line_at s at)
+    pub item-element : (a i : ℕ) → x ≡ names.Element a i e → c ≡ element_in arrays w a i → entry_read s y ≡ item D floor (line_at s at)
     item-element a i told k = by_name (element a i) (rw told at is) (λ m h. k ∙ held-element v.declares a i m h)

@@ -8,24 +8,24 @@ use native.Mathlib.Numerals.{add-one}
 use native.Mathlib.Omega.{arith}
 use lib.ListN.{length, get_or, drop, set, length-set}
 use lib.Seq.{get_or-set_other}
-use Rattle.specification.specs.Bytes.{Bytes, bytes, pick, feed, comma, classNumber, begins}
+use Rattle.specification.specs.Bytes.{Bytes, bytes, pick, feed, comma, class_number, begins}
 use Rattle.specification.specs.Parser.{Read, refused, found, and_then, ◌>>◌, give, next, mark}
 use Rattle.specification.specs.Lines.{Declared}
-use Rattle.specification.specs.Given.{Item, item, items, givenLine}
+use Rattle.specification.specs.Given.{Item, item, items, given_line}
 use Rattle.text.specs.Class.{class_at}
 use Rattle.text.proofs.Laws.Class.{class-next, class-not-next}
 use Rattle.values.specs.Word.{signed}
 use Rattle.values.proofs.Laws.Word.{biased-signed}
-use Rattle.tables.specs.Layout.{maxCells, cellSlot, first_slot}
-use Rattle.tables.specs.Ranges.{rangeSlot}
+use Rattle.tables.specs.Layout.{max_cells, cell_slot, first_slot}
+use Rattle.tables.specs.Ranges.{range_slot}
 use Rattle.tables.proofs.Laws.Ranges.{SameRanges}
 use Rattle.sheet.specs.declared.given.Entry.{Entry}
 use Rattle.sheet.specs.declared.given.Entry.TheVariants as entry
 use Rattle.sheet.specs.declared.given.Given.{Given}
 use Rattle.sheet.specs.declared.given.Given.TheVariants as goal
 use Rattle.sheet.specs.Reader.{line_at}
-use Rattle.sheet.specs.Tables.{Words, laidGiven}
-use Rattle.sheet.specs.Items.{item_of, entryRead, Arranged, Vacant, Furnished, laidItems, givenRead, givenValue, GivenFound}
+use Rattle.sheet.specs.Tables.{Words, laid_given}
+use Rattle.sheet.specs.Items.{item_of, entry_read, Arranged, Vacant, Furnished, laid_items, given_read, given_value, GivenFound}
 use Rattle.sheet.proofs.Answers.{Origin, mapped-refused, mapped-found}
 use Rattle.sheet.proofs.Ranged.{ranges-keep}
 use Rattle.sheet.proofs.Keys.{exactly-yes, exactly-no, mark-yes, closed, closed-yes, closed-no}
@@ -34,20 +34,20 @@ use Rattle.sheet.proofs.GivenItems.{item-cell}
 -- ---- a cell that is laid
 
 abbrev pub stored : ℕ → ℕ → Words → Words
-stored c z w = set (set w (cellSlot c) 1) (cellSlot c + 1) z
+stored c z w = set (set w (cell_slot c) 1) (cell_slot c + 1) z
 
 pub stored-length : (c z : ℕ) (w : Words) → length (stored c z w) ≡ length w
-stored-length c z w = length-set (set w (cellSlot c) 1) (cellSlot c + 1) z ∙ length-set w (cellSlot c) 1
+stored-length c z w = length-set (set w (cell_slot c) 1) (cell_slot c + 1) z ∙ length-set w (cell_slot c) 1
 
 -- the arrays' first cells and the ranges stay, and the marks of the cells above
-module _ (w : Words) (c z : ℕ) (h : c < maxCells) where
-  stored_other : (j : ℕ) → ¬ (j ≡ cellSlot c) → ¬ (j ≡ cellSlot c + 1) → get_or (stored c z w) j 0 ≡ get_or w j 0
-  stored_other j p q = get_or-set_other (set w (cellSlot c) 1) (cellSlot c + 1) j z 0 q ∙ get_or-set_other w (cellSlot c) j 1 0 p
+module _ (w : Words) (c z : ℕ) (h : c < max_cells) where
+  stored_other : (j : ℕ) → ¬ (j ≡ cell_slot c) → ¬ (j ≡ cell_slot c + 1) → get_or (stored c z w) j 0 ≡ get_or w j 0
+  stored_other j p q = get_or-set_other (set w (cell_slot c) 1) (cell_slot c + 1) j z 0 q ∙ get_or-set_other w (cell_slot c) j 1 0 p
 
   stored-ranges : SameRanges w (stored c z w)
   stored-ranges = record {
-    lowest = λ k l. stored_other (rangeSlot k) (λ e. omega arith) (λ e. omega arith);
-    highest = λ k l. stored_other (rangeSlot k + 1) (λ e. omega arith) (λ e. omega arith);
+    lowest = λ k l. stored_other (range_slot k) (λ e. omega arith) (λ e. omega arith);
+    highest = λ k l. stored_other (range_slot k + 1) (λ e. omega arith) (λ e. omega arith);
   }
 
   stored-vacant : {D : Declared} {scalars arrays floor : ℕ} → floor ≤ c → Vacant D scalars arrays floor w → Vacant D scalars arrays (c + 1) (stored c z w)
@@ -62,13 +62,13 @@ module _ (w : Words) (c z : ℕ) (h : c < maxCells) where
           held = λ a l. stored_other (first_slot a) (λ e. omega arith) (λ e. omega arith) ∙ d.held a l;
         };
         ranges = ranges-keep stored-ranges v.ranges;
-        marks = λ x l m. stored_other (cellSlot x + 1) (λ e. omega arith) (λ e. omega arith) ∙ v.marks x (omega arith) m;
+        marks = λ x l m. stored_other (cell_slot x + 1) (λ e. omega arith) (λ e. omega arith) ∙ v.marks x (omega arith) m;
       }
 
 -- an item that was read, before those that follow
 laid_more : (c z : ℕ) (w : Words) (x : Read (List Item))
-    → laidItems w (and_then (λ is. give (item_of c (signed z) ∷ is)) x) ≡ laidItems (stored c z w) x
-unfolding laidGiven
+    → laid_items w (and_then (λ is. give (item_of c (signed z) ∷ is)) x) ≡ laid_items (stored c z w) x
+unfolding laid_given
 laid_more c z w (refused k p) = refl
 laid_more c z w (found is r) = rw biased-signed
 
@@ -76,16 +76,16 @@ laid_more c z w (found is r) = rw biased-signed
 
 pub record Turn (D : Declared) (s : Bytes) (from scalars arrays : ℕ) (w₀ w : Words) (at floor : ℕ) : Type 0 where
   pub left : ℕ
-  pub room : maxCells ≤ left + floor
+  pub room : max_cells ≤ left + floor
   pub vacant : Vacant D scalars arrays floor w
-  pub rest : laidItems w₀ (items D maxCells 0 (line_at s from)) ≡ laidItems w (items D left floor (line_at s at))
+  pub rest : laid_items w₀ (items D max_cells 0 (line_at s from)) ≡ laid_items w (items D left floor (line_at s at))
 
 pub record Turning (s : Bytes) (from scalars arrays : ℕ) (w₀ w : Words) (at floor : ℕ) : Type 0 where
   pub long : length w ≡ length w₀
   pub each : (D : Declared) → Vacant D scalars arrays 0 w₀ → Turn D s from scalars arrays w₀ w at floor
 
 pub turn-first : (s : Bytes) (from scalars arrays : ℕ) (w : Words) → Turning s from scalars arrays w w from 0
-turn-first s from scalars arrays w = record { long = refl; each = λ D d. record { left = maxCells; room = omega arith; vacant = d; rest = refl } }
+turn-first s from scalars arrays w = record { long = refl; each = λ D d. record { left = max_cells; room = omega arith; vacant = d; rest = refl } }
 
 -- what an item wants of the words
 pub turn-arranged : {s : Bytes} {from scalars arrays : ℕ} {w₀ w : Words} {at floor : ℕ} → Turning s from scalars arrays w₀ w at floor →
@@ -93,10 +93,10 @@ pub turn-arranged : {s : Bytes} {from scalars arrays : ℕ} {w₀ w : Words} {at
 turn-arranged st a = record { declared = a.declared; declares = (st.each a.declared a.vacant).vacant.declares }
 
 module _ {s : Bytes} {from scalars arrays : ℕ} {w₀ w : Words} {at floor : ℕ} (st : Turning s from scalars arrays w₀ w at floor)
-    (x : Entry) (read : (D : Declared) → Vacant D scalars arrays floor w → entryRead s x ≡ item D floor (line_at s at)) where
+    (x : Entry) (read : (D : Declared) → Vacant D scalars arrays floor w → entry_read s x ≡ item D floor (line_at s at)) where
   -- what the line's value lays for a sheet
   abbrev Whole : Read Words → Type 0
-  Whole y = (D : Declared) → Vacant D scalars arrays 0 w₀ → y ≡ laidItems w₀ (items D maxCells 0 (line_at s from))
+  Whole y = (D : Declared) → Vacant D scalars arrays 0 w₀ → y ≡ laid_items w₀ (items D max_cells 0 (line_at s from))
 
   pub turn-refused : (k p : ℕ) → x ≡ entry.Refused k p → Whole (refused k p)
   unfolding items
@@ -108,7 +108,7 @@ module _ {s : Bytes} {from scalars arrays : ℕ} {w₀ w : Words} {at floor : �
       e : item D floor (line_at s at) ≡ refused k p
       e = sym (rw told at (read D t.vacant))
 
-      go : (l : ℕ) → laidItems w₀ (items D maxCells 0 (line_at s from)) ≡ laidItems w (items D l floor (line_at s at)) → refused k p ≡ laidItems w₀ (items D maxCells 0 (line_at s from))
+      go : (l : ℕ) → laid_items w₀ (items D max_cells 0 (line_at s from)) ≡ laid_items w (items D l floor (line_at s at)) → refused k p ≡ laid_items w₀ (items D max_cells 0 (line_at s from))
       go zero r = sym (rw e at r)
       go (suc l) r = sym (rw e at r)
 
@@ -116,13 +116,13 @@ module _ {s : Bytes} {from scalars arrays : ℕ} {w₀ w : Words} {at floor : �
     is : (D : Declared) → Vacant D scalars arrays floor w → found (item_of c (signed z)) (line_at s e) ≡ item D floor (line_at s at)
     is D d = rw told at (read D d)
 
-    within : (D : Declared) → Vacant D scalars arrays floor w → (floor ≤ c) × (c < maxCells)
+    within : (D : Declared) → Vacant D scalars arrays floor w → (floor ≤ c) × (c < max_cells)
     within D d =
         let h = item-cell d (line_at s at) (item_of c (signed z)) (line_at s e) (is D d) in
         (h.0, omega (arith, h.1, d.declares.small))
 
     -- the cell lies above those before, and below the limit
-    pub turn-cell : Furnished scalars arrays w₀ → (floor ≤ c) × (c < maxCells)
+    pub turn-cell : Furnished scalars arrays w₀ → (floor ≤ c) × (c < max_cells)
     turn-cell a = within a.declared (st.each a.declared a.vacant).vacant
 
     -- what follows the item
@@ -132,7 +132,7 @@ module _ {s : Bytes} {from scalars arrays : ℕ} {w₀ w : Words} {at floor : �
 
     -- so many items are enough, since their cells rise
     turned : (D : Declared) (d : Vacant D scalars arrays 0 w₀)
-        → laidItems w₀ (items D maxCells 0 (line_at s from)) ≡ laidItems w (following D ((st.each D d).left - 1))
+        → laid_items w₀ (items D max_cells 0 (line_at s from)) ≡ laid_items w (following D ((st.each D d).left - 1))
     unfolding items
     turned D d =
         let t = st.each D d in
@@ -143,12 +143,12 @@ module _ {s : Bytes} {from scalars arrays : ℕ} {w₀ w : Words} {at floor : �
       pub turn-length : length w' ≡ length w₀
       turn-length = ap length laid ∙ stored-length c z w ∙ st.long
 
-      pub turn_last : (class_at s e ≡ classNumber comma → ⊥) → Whole (found w' (line_at s e))
-      unfolding laidGiven
+      pub turn_last : (class_at s e ≡ class_number comma → ⊥) → Whole (found w' (line_at s e))
+      unfolding laid_given
       turn_last other D d =
           rw laid (sym (laid_more c z w (found [] (line_at s e))) ∙ sym (rw (class-not-next s e comma other) at (turned D d)))
 
-      pub turn-next : class_at s e ≡ classNumber comma → Turning s from scalars arrays w₀ w' (e + 1) (c + 1)
+      pub turn-next : class_at s e ≡ class_number comma → Turning s from scalars arrays w₀ w' (e + 1) (c + 1)
       turn-next is-comma = record {
         long = turn-length;
         each = λ D d. let t = st.each D d in let h = within D t.vacant in record {
@@ -164,37 +164,37 @@ module _ {s : Bytes} {from scalars arrays : ℕ} {w₀ w : Words} {at floor : �
 -- ---- the line
 
 module _ (D : Declared) (s : Bytes) (from : ℕ) (w : Words) where
-  pub value_none : class_at s from ≡ classNumber feed → found w (line_at s from) ≡ laidItems w (givenValue D (line_at s from))
-  unfolding laidGiven
+  pub value_none : class_at s from ≡ class_number feed → found w (line_at s from) ≡ laid_items w (given_value D (line_at s from))
+  unfolding laid_given
   value_none is-feed = rw (class-next s from feed is-feed)
 
-  pub value-some : (class_at s from ≡ classNumber feed → ⊥) → laidItems w (items D maxCells 0 (line_at s from)) ≡ laidItems w (givenValue D (line_at s from))
+  pub value-some : (class_at s from ≡ class_number feed → ⊥) → laid_items w (items D max_cells 0 (line_at s from)) ≡ laid_items w (given_value D (line_at s from))
   value-some other = rw (class-not-next s from feed other)
 
 module _ (D : Declared) (s : Bytes) (at : ℕ) where
-  pub lined-no : begins (bytes "given=") (drop at s) ≡ false → givenLine D (line_at s at) ≡ refused 3 at
-  unfolding givenLine
+  pub lined-no : begins (bytes "given=") (drop at s) ≡ false → given_line D (line_at s at) ≡ refused 3 at
+  unfolding given_line
   lined-no h = exactly-no s at (bytes "given=") 3 _ h
 
   -- with x what is read of the value, over the words w, which it leaves as w'
   module _ (key : begins (bytes "given=") (drop at s) ≡ true) (w w' : Words) (x : Given)
-      (is : givenRead s x w' ≡ laidItems w (givenValue D (line_at s (at + 6)))) where
-    lined : givenLine D (line_at s at) ≡ closed (givenValue D (line_at s (at + 6)))
-    unfolding givenLine
+      (is : given_read s x w' ≡ laid_items w (given_value D (line_at s (at + 6)))) where
+    lined : given_line D (line_at s at) ≡ closed (given_value D (line_at s (at + 6)))
+    unfolding given_line
     lined = exactly-yes s at (bytes "given=") 3 _ key
 
-    pub lined-refused : (k p : ℕ) → x ≡ goal.Refused k p → givenLine D (line_at s at) ≡ refused k p
+    pub lined-refused : (k p : ℕ) → x ≡ goal.Refused k p → given_line D (line_at s at) ≡ refused k p
     lined-refused k p told =
-        lined ∙ ap closed (mapped-refused (λ is. laidGiven is w) k p (givenValue D (line_at s (at + 6))) (rw told at is))
+        lined ∙ ap closed (mapped-refused (λ is. laid_given is w) k p (given_value D (line_at s (at + 6))) (rw told at is))
 
     module _ (e : ℕ) (told : x ≡ goal.Read e) where
-      from : Origin (λ is. laidGiven is w) w' (line_at s e) (givenValue D (line_at s (at + 6)))
-      from = mapped-found (λ is. laidGiven is w) _ _ (givenValue D (line_at s (at + 6))) (rw told at is)
+      from : Origin (λ is. laid_given is w) w' (line_at s e) (given_value D (line_at s (at + 6)))
+      from = mapped-found (λ is. laid_given is w) _ _ (given_value D (line_at s (at + 6))) (rw told at is)
 
-      pub lined-open : (class_at s e ≡ classNumber feed → ⊥) → givenLine D (line_at s at) ≡ refused 5 e
+      pub lined-open : (class_at s e ≡ class_number feed → ⊥) → given_line D (line_at s at) ≡ refused 5 e
       lined-open other = lined ∙ ap closed from.is ∙ sym (closed-no s e from.origin other)
 
-      pub lined-found : class_at s e ≡ classNumber feed → GivenFound D s at w w' (e + 1)
+      pub lined-found : class_at s e ≡ class_number feed → GivenFound D s at w w' (e + 1)
       lined-found is-feed = record {
         items = from.origin;
         read = lined ∙ ap closed from.is ∙ sym (closed-yes s e from.origin is-feed);

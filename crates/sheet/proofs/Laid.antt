@@ -7,10 +7,10 @@ use mathlib.Core.Logic.{◌≢◌}
 use mathlib.Core.List.{List, [], ◌∷◌, ◌++◌}
 use lib.ListN.{length, get_or, set, length-set, length-append}
 use lib.Seq.{get_or-set_same, get_or-set_other}
-use Rattle.tables.specs.Layout.{tokenSlot}
+use Rattle.tables.specs.Layout.{token_slot}
 use Rattle.sheet.specs.declared.Token.{Token}
 use Rattle.sheet.specs.Sorts.{arity}
-use Rattle.sheet.specs.Tables.{Words, laidTokens, after, laidEnds}
+use Rattle.sheet.specs.Tables.{Words, laid_tokens, after, laid_ends}
 use Rattle.sheet.specs.Held.{code_at, operand_at, end_at}
 use Rattle.sheet.proofs.After.{Subtrees, after-subtree, some-token}
 
@@ -22,32 +22,32 @@ end_of i t ts = suc i + length ts - length (after ts (arity t.code))
 
 module _ (j : ℕ) where
   pub tokens-other : (i : ℕ) (ts : List Token) (w : Words) →
-      ((m : ℕ) → i ≤ m → m < i + length ts → (j ≢ tokenSlot m) × (j ≢ tokenSlot m + 1)) → get_or (laidTokens i ts w) j 0 ≡ get_or w j 0
-  unfolding laidTokens
+      ((m : ℕ) → i ≤ m → m < i + length ts → (j ≢ token_slot m) × (j ≢ token_slot m + 1)) → get_or (laid_tokens i ts w) j 0 ≡ get_or w j 0
+  unfolding laid_tokens
   tokens-other i [] w h = refl
   tokens-other i (t ∷ ts) w h =
       let k = h i (omega arith) (omega arith) in
-      tokens-other (suc i) ts (set (set w (tokenSlot i) t.code) (tokenSlot i + 1) t.operand) (λ m a b. h m (omega arith) (omega arith)) ∙
-      get_or-set_other (set w (tokenSlot i) t.code) (tokenSlot i + 1) j t.operand 0 k.1 ∙
-      get_or-set_other w (tokenSlot i) j t.code 0 k.0
+      tokens-other (suc i) ts (set (set w (token_slot i) t.code) (token_slot i + 1) t.operand) (λ m a b. h m (omega arith) (omega arith)) ∙
+      get_or-set_other (set w (token_slot i) t.code) (token_slot i + 1) j t.operand 0 k.1 ∙
+      get_or-set_other w (token_slot i) j t.code 0 k.0
 
   pub ends-other : (i : ℕ) (ts : List Token) (w : Words) →
-      ((m : ℕ) → i ≤ m → m < i + length ts → j ≢ tokenSlot m + 2) → get_or (laidEnds i ts w) j 0 ≡ get_or w j 0
-  unfolding laidEnds
+      ((m : ℕ) → i ≤ m → m < i + length ts → j ≢ token_slot m + 2) → get_or (laid_ends i ts w) j 0 ≡ get_or w j 0
+  unfolding laid_ends
   ends-other i [] w h = refl
   ends-other i (t ∷ ts) w h =
-      ends-other (suc i) ts (set w (tokenSlot i + 2) (end_of i t ts)) (λ m a b. h m (omega arith) (omega arith)) ∙
-      get_or-set_other w (tokenSlot i + 2) j (end_of i t ts) 0 (h i (omega arith) (omega arith))
+      ends-other (suc i) ts (set w (token_slot i + 2) (end_of i t ts)) (λ m a b. h m (omega arith) (omega arith)) ∙
+      get_or-set_other w (token_slot i + 2) j (end_of i t ts) 0 (h i (omega arith) (omega arith))
 
-pub tokens-length : (i : ℕ) (ts : List Token) (w : Words) → length (laidTokens i ts w) ≡ length w
-unfolding laidTokens
+pub tokens-length : (i : ℕ) (ts : List Token) (w : Words) → length (laid_tokens i ts w) ≡ length w
+unfolding laid_tokens
 tokens-length i [] w = refl
-tokens-length i (t ∷ ts) w = tokens-length (suc i) ts (set (set w (tokenSlot i) t.code) (tokenSlot i + 1) t.operand) ∙ simp length-set
+tokens-length i (t ∷ ts) w = tokens-length (suc i) ts (set (set w (token_slot i) t.code) (token_slot i + 1) t.operand) ∙ simp length-set
 
-pub ends-length : (i : ℕ) (ts : List Token) (w : Words) → length (laidEnds i ts w) ≡ length w
-unfolding laidEnds
+pub ends-length : (i : ℕ) (ts : List Token) (w : Words) → length (laid_ends i ts w) ≡ length w
+unfolding laid_ends
 ends-length i [] w = refl
-ends-length i (t ∷ ts) w = ends-length (suc i) ts (set w (tokenSlot i + 2) (end_of i t ts)) ∙ length-set w (tokenSlot i + 2) (end_of i t ts)
+ends-length i (t ∷ ts) w = ends-length (suc i) ts (set w (token_slot i + 2) (end_of i t ts)) ∙ length-set w (token_slot i + 2) (end_of i t ts)
 
 -- ---- the tokens, one after the other
 
@@ -76,50 +76,50 @@ module _ (w : Words) where
   abbrev Ended : ℕ → Token → List Token → Type 0
   Ended i t ts = end_at w i ≡ end_of i t ts
 
-laid-coded : (i : ℕ) (ts : List Token) (w : Words) → tokenSlot (i + length ts) ≤ length w → Along (Coded (laidTokens i ts w)) i ts
-unfolding laidTokens Along
+laid-coded : (i : ℕ) (ts : List Token) (w : Words) → token_slot (i + length ts) ≤ length w → Along (Coded (laid_tokens i ts w)) i ts
+unfolding laid_tokens Along
 laid-coded i [] w h = tt
 laid-coded i (t ∷ ts) w h = (
   (
-    tokens-other (tokenSlot i) (suc i) ts v (λ m a b. (omega arith, omega arith)) ∙
-        get_or-set_other u (tokenSlot i + 1) (tokenSlot i) t.operand 0 (omega arith) ∙
-        get_or-set_same w (tokenSlot i) t.code 0 (omega arith),
-    tokens-other (tokenSlot i + 1) (suc i) ts v (λ m a b. (omega arith, omega arith)) ∙
-        get_or-set_same u (tokenSlot i + 1) t.operand 0 (simp length-set (omega arith)),
+    tokens-other (token_slot i) (suc i) ts v (λ m a b. (omega arith, omega arith)) ∙
+        get_or-set_other u (token_slot i + 1) (token_slot i) t.operand 0 (omega arith) ∙
+        get_or-set_same w (token_slot i) t.code 0 (omega arith),
+    tokens-other (token_slot i + 1) (suc i) ts v (λ m a b. (omega arith, omega arith)) ∙
+        get_or-set_same u (token_slot i + 1) t.operand 0 (simp length-set (omega arith)),
   ),
   laid-coded (suc i) ts v (simp length-set (omega arith)),
 )
   where
     u : Words
-    u = set w (tokenSlot i) t.code
+    u = set w (token_slot i) t.code
 
     v : Words
-    v = set u (tokenSlot i + 1) t.operand
+    v = set u (token_slot i + 1) t.operand
 
-laid-ended : (i : ℕ) (ts : List Token) (w : Words) → tokenSlot (i + length ts) ≤ length w → Along (Ended (laidEnds i ts w)) i ts
-unfolding laidEnds Along
+laid-ended : (i : ℕ) (ts : List Token) (w : Words) → token_slot (i + length ts) ≤ length w → Along (Ended (laid_ends i ts w)) i ts
+unfolding laid_ends Along
 laid-ended i [] w h = tt
 laid-ended i (t ∷ ts) w h = (
-  ends-other (tokenSlot i + 2) (suc i) ts (set w (tokenSlot i + 2) (end_of i t ts)) (λ m a b. omega arith) ∙
-      get_or-set_same w (tokenSlot i + 2) (end_of i t ts) 0 (omega arith),
-  laid-ended (suc i) ts (set w (tokenSlot i + 2) (end_of i t ts)) (simp length-set (omega arith)),
+  ends-other (token_slot i + 2) (suc i) ts (set w (token_slot i + 2) (end_of i t ts)) (λ m a b. omega arith) ∙
+      get_or-set_same w (token_slot i + 2) (end_of i t ts) 0 (omega arith),
+  laid-ended (suc i) ts (set w (token_slot i + 2) (end_of i t ts)) (simp length-set (omega arith)),
 )
 
 -- the ends are written beside codes and operands
-ends-beside : (k : ℕ) (us : List Token) (w : Words) (i : ℕ) (ts : List Token) → Along (Coded w) i ts → Along (Coded (laidEnds k us w)) i ts
+ends-beside : (k : ℕ) (us : List Token) (w : Words) (i : ℕ) (ts : List Token) → Along (Coded w) i ts → Along (Coded (laid_ends k us w)) i ts
 unfolding Along
 ends-beside k us w i [] c = tt
 ends-beside k us w i (t ∷ ts) c = (
-  (ends-other (tokenSlot i) k us w (λ m a b. omega arith) ∙ c.0.0, ends-other (tokenSlot i + 1) k us w (λ m a b. omega arith) ∙ c.0.1),
+  (ends-other (token_slot i) k us w (λ m a b. omega arith) ∙ c.0.0, ends-other (token_slot i + 1) k us w (λ m a b. omega arith) ∙ c.0.1),
   ends-beside k us w (suc i) ts c.1,
 )
 
-pub laid : (ts : List Token) (w : Words) → tokenSlot (length ts) ≤ length w →
-    Along (Entry (laidEnds 0 ts (laidTokens 0 ts w))) 0 ts
+pub laid : (ts : List Token) (w : Words) → token_slot (length ts) ≤ length w →
+    Along (Entry (laid_ends 0 ts (laid_tokens 0 ts w))) 0 ts
 laid ts w h =
     along-both (λ i t us c e. record { code = c.0; operand = c.1; end = e }) 0 ts
-    (ends-beside 0 ts (laidTokens 0 ts w) 0 ts (laid-coded 0 ts w (omega arith)))
-    (laid-ended 0 ts (laidTokens 0 ts w) (rw tokens-length (omega arith)))
+    (ends-beside 0 ts (laid_tokens 0 ts w) 0 ts (laid-coded 0 ts w (omega arith)))
+    (laid-ended 0 ts (laid_tokens 0 ts w) (rw tokens-length (omega arith)))
 
 -- ---- a subtree among the tokens
 

@@ -9,10 +9,10 @@ use Rattle.specification.specs.Lines.{Declared}
 use Rattle.specification.specs.Ast.{Formula}
 use Rattle.specification.specs.Formula.{operand, formula}
 use Rattle.specification.proofs.Laws.Contradiction.{contradiction}
-use Rattle.tables.specs.Layout.{maxNesting}
+use Rattle.tables.specs.Layout.{max_nesting}
 use Rattle.sheet.specs.declared.Token.{Token}
-use Rattle.sheet.specs.Codes.{formulaTokens}
-use Rattle.sheet.specs.Dues.{Due, dueFormula, parse, parseAll, left, leftHere}
+use Rattle.sheet.specs.Codes.{formula_tokens}
+use Rattle.sheet.specs.Dues.{Due, due_formula, parse, parse_all, left, left_here}
 
 -- ---- readings, one after the other
 
@@ -45,12 +45,12 @@ module _ {A : Type 0} where
   then-give (found a r) = refl
 
 -- what was read, from its tokens
-pub spelled-found : (x : Read Formula) {ts : List Token} {r : Reader} → and_then (λ F. give (formulaTokens F)) x ≡ found ts r →
-    (F : Formula) × (x ≡ found F r) × (formulaTokens F ≡ ts)
+pub spelled-found : (x : Read Formula) {ts : List Token} {r : Reader} → and_then (λ F. give (formula_tokens F)) x ≡ found ts r →
+    (F : Formula) × (x ≡ found F r) × (formula_tokens F ≡ ts)
 spelled-found (refused n p) e = contradiction cc
 spelled-found (found F r) e = (F, cc, cc)
 
-pub spelled-refused : (x : Read Formula) {n p : ℕ} → and_then (λ F. give (formulaTokens F)) x ≡ refused n p → x ≡ refused n p
+pub spelled-refused : (x : Read Formula) {n p : ℕ} → and_then (λ F. give (formula_tokens F)) x ≡ refused n p → x ≡ refused n p
 spelled-refused (refused n p) e = cc
 spelled-refused (found F r) e = contradiction cc
 
@@ -64,18 +64,18 @@ regroup ts us (found ys r) = rw append_assoc
 
 module _ (refusing : Bool) (D : Declared) where
   pub left-none : (ts : List Token) (r : Reader) → left refusing D [] ts r ≡ found ts r
-  unfolding left parseAll
+  unfolding left parse_all
   left-none ts r = rw append-nil
 
-  pub left-cons : (d : Due) (ds : List Due) (ts : List Token) (r : Reader) → left refusing D (d ∷ ds) ts r ≡ operand (leftHere refusing D d ds ts) r
-  unfolding left leftHere parseAll
+  pub left-cons : (d : Due) (ds : List Due) (ts : List Token) (r : Reader) → left refusing D (d ∷ ds) ts r ≡ operand (left_here refusing D d ds ts) r
+  unfolding left left_here parse_all
   left-cons d ds ts r =
-      then-assoc (λ xs. parseAll refusing D ds >>= λ ys. give (xs ++ ys)) (λ ys. give (ts ++ ys)) (operand (parse refusing D d) r) ∙
-      then_same (λ xs r'. regroup ts xs (parseAll refusing D ds r')) (operand (parse refusing D d) r) ∙
+      then-assoc (λ xs. parse_all refusing D ds >>= λ ys. give (xs ++ ys)) (λ ys. give (ts ++ ys)) (operand (parse refusing D d) r) ∙
+      then_same (λ xs r'. regroup ts xs (parse_all refusing D ds r')) (operand (parse refusing D d) r) ∙
       then-assoc (λ u. parse refusing D d) (λ xs. left refusing D ds (ts ++ xs)) (mark space r)
 
   module _ (d : Due) (ds : List Due) (ts : List Token) (r : Reader) where
-    pub left-space : next space r.rest ≡ true → left refusing D (d ∷ ds) ts r ≡ leftHere refusing D d ds ts (past 1 r)
+    pub left-space : next space r.rest ≡ true → left refusing D (d ∷ ds) ts r ≡ left_here refusing D d ds ts (past 1 r)
     unfolding mark
     left-space e = left-cons d ds ts r ∙ rw e
 
@@ -85,14 +85,14 @@ module _ (refusing : Bool) (D : Declared) where
 
   -- the formula, at its first byte
   pub left-formula : (r : Reader) →
-      (formula refusing D maxNesting [] >>= λ F. give (formulaTokens F)) r ≡ leftHere refusing D (dueFormula maxNesting []) [] [] r
-  unfolding leftHere parse
-  left-formula r = let x = parse refusing D (dueFormula maxNesting []) r in sym (then_same left-none x ∙ then-give x)
+      (formula refusing D max_nesting [] >>= λ F. give (formula_tokens F)) r ≡ left_here refusing D (due_formula max_nesting []) [] [] r
+  unfolding left_here parse
+  left-formula r = let x = parse refusing D (due_formula max_nesting []) r in sym (then_same left-none x ∙ then-give x)
 
   -- ---- two lists of what is due
 
   pub left-++ : (ds es : List Due) (ts : List Token) (r : Reader) → left refusing D (ds ++ es) ts r ≡ (left refusing D ds ts >>= left refusing D es) r
-  unfolding leftHere
+  unfolding left_here
   left-++ [] es ts r = rw left-none
   left-++ (d ∷ ds) es ts r =
       left-cons d (ds ++ es) ts r ∙
@@ -101,10 +101,10 @@ module _ (refusing : Bool) (D : Declared) where
       then_same (λ xs r''. left-++ ds es (ts ++ xs) r'') (parse refusing D d r') ∙
       sym (then-assoc (λ xs. left refusing D ds (ts ++ xs)) (left refusing D es) (parse refusing D d r')))
       (mark space r) ∙
-      sym (then-assoc (λ u. leftHere refusing D d ds ts) (left refusing D es) (mark space r)) ∙
+      sym (then-assoc (λ u. left_here refusing D d ds ts) (left refusing D es) (mark space r)) ∙
       ap (and_then (left refusing D es)) (sym (left-cons d ds ts r))
 
   pub left-front : (ds : List Due) (ts us : List Token) (r : Reader) →
       left refusing D ds (ts ++ us) r ≡ (left refusing D ds us >>= λ xs. give (ts ++ xs)) r
   unfolding left
-  left-front ds ts us r = sym (regroup ts us (parseAll refusing D ds r))
+  left-front ds ts us r = sym (regroup ts us (parse_all refusing D ds r))

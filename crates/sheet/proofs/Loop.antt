@@ -7,21 +7,21 @@ use mathlib.Core.Path.{◌≡◌, refl, sym, ap, ◌∙◌}
 use mathlib.Core.List.{List, [], ◌∷◌}
 use lib.ListN.{length, set}
 use lib.Seq.{drop-drop}
-use Rattle.specification.specs.Bytes.{space, classNumber}
+use Rattle.specification.specs.Bytes.{space, class_number}
 use Rattle.specification.specs.Parser.{refused}
 use Rattle.specification.specs.Lines.{Declared}
 use Rattle.specification.specs.Formula.{Locals}
 use Rattle.text.specs.Class.{class_at}
 use Rattle.text.proofs.Laws.Class.{class-next, class-not-next, class-inside}
-use Rattle.tables.specs.Layout.{maxTokens, maxNesting, maxDues, pathAt}
+use Rattle.tables.specs.Layout.{max_tokens, max_nesting, max_dues, path_at}
 use Rattle.sheet.specs.declared.Token.{Token}
 use Rattle.sheet.specs.declared.formula.Limits.{Limits}
-use Rattle.sheet.specs.Reader.{readerAt}
-use Rattle.sheet.specs.Sorts.{formulaSort}
-use Rattle.sheet.specs.Dues.{Due, dueFormula, left, leftHere}
-use Rattle.sheet.specs.Tables.{Words, laidTokens}
+use Rattle.sheet.specs.Reader.{reader_at}
+use Rattle.sheet.specs.Sorts.{formula_sort}
+use Rattle.sheet.specs.Dues.{Due, due_formula, left, left_here}
+use Rattle.sheet.specs.Tables.{Words, laid_tokens}
 use Rattle.sheet.specs.Stack.{Bits, Kept, entry, entered, Stacked, Beside}
-use Rattle.sheet.specs.FormulaLine.{Small, Sized, Known, Begin, refusingAt, whole, Through}
+use Rattle.sheet.specs.FormulaLine.{Small, Sized, Known, Begin, refusing_at, whole, Through}
 use Rattle.sheet.proofs.Left.{left-none, left-space, left-no-space}
 use Rattle.sheet.proofs.Bounds.{Fits, fits-start, fits-length}
 use Rattle.sheet.proofs.Bits.{bits_none}
@@ -41,8 +41,8 @@ module _ (b : Begin) (w₀ w : Words) (n count bound at word : ℕ) where
     pub read : List Token
     pub depth : n ≡ suc (length dues)
     pub number : b.tokens + length read ≡ count
-    pub low : n ≤ maxDues
-    pub few : count ≤ maxTokens
+    pub low : n ≤ max_dues
+    pub few : count ≤ max_tokens
     pub within : at ≤ length b.bytes
     pub long : length w ≡ length w₀
     pub set : Bits bound locals
@@ -50,8 +50,8 @@ module _ (b : Begin) (w₀ w : Words) (n count bound at word : ℕ) where
     pub stack : Stacked w (due ∷ dues)
     pub first : Kept w count word due
     pub later : Plains dues
-    pub table : Beside (laidTokens b.tokens read w₀) w
-    pub rest : (D : Declared) → Known b.limits w₀ D → whole b D ≡ leftHere (refusingAt b) D due dues read (readerAt b.bytes at count locals)
+    pub table : Beside (laid_tokens b.tokens read w₀) w
+    pub rest : (D : Declared) → Known b.limits w₀ D → whole b D ≡ left_here (refusing_at b) D due dues read (reader_at b.bytes at count locals)
 
   -- behind a token
   pub record Taken : Type 0 where
@@ -60,24 +60,24 @@ module _ (b : Begin) (w₀ w : Words) (n count bound at word : ℕ) where
     pub read : List Token
     pub depth : n ≡ length dues
     pub number : b.tokens + length read ≡ count
-    pub few : count ≤ maxTokens
+    pub few : count ≤ max_tokens
     pub within : at ≤ length b.bytes
     pub long : length w ≡ length w₀
     pub set : Bits bound locals
     pub fits : Fits dues
     pub stack : Stacked w dues
     pub tops : Tops w count word dues
-    pub table : Beside (laidTokens b.tokens read w₀) w
-    pub rest : (D : Declared) → Known b.limits w₀ D → whole b D ≡ left (refusingAt b) D dues read (readerAt b.bytes at count locals)
+    pub table : Beside (laid_tokens b.tokens read w₀) w
+    pub rest : (D : Declared) → Known b.limits w₀ D → whole b D ≡ left (refusing_at b) D dues read (reader_at b.bytes at count locals)
 
 -- ---- the start
 
-pub reading-start : (b : Begin) (w : Words) (m : ℕ) → Bits m b.bound → b.from ≤ length b.bytes → b.tokens ≤ maxTokens → pathAt ≤ length w →
-    Reading b (entered w 0 (entry formulaSort maxNesting 0)) (entered w 0 (entry formulaSort maxNesting 0)) 1 b.tokens m b.from b.from
-unfolding laidTokens Stacked Plains
+pub reading-start : (b : Begin) (w : Words) (m : ℕ) → Bits m b.bound → b.from ≤ length b.bytes → b.tokens ≤ max_tokens → path_at ≤ length w →
+    Reading b (entered w 0 (entry formula_sort max_nesting 0)) (entered w 0 (entry formula_sort max_nesting 0)) 1 b.tokens m b.from b.from
+unfolding laid_tokens Stacked Plains
 reading-start b w m set h few k = record {
   locals = b.bound;
-  due = dueFormula maxNesting [];
+  due = due_formula max_nesting [];
   dues = [];
   read = [];
   depth = refl;
@@ -88,7 +88,7 @@ reading-start b w m set h few k = record {
   long = refl;
   set = set;
   fits = fits-start;
-  stack = stacked-put w (dueFormula maxNesting []) [] 0 (entry formulaSort maxNesting 0) refl (omega arith) (record { sort = refl; room = refl; scope = bits_none }) tt;
+  stack = stacked-put w (due_formula max_nesting []) [] 0 (entry formula_sort max_nesting 0) refl (omega arith) (record { sort = refl; room = refl; scope = bits_none }) tt;
   first = tt;
   later = tt;
   table = beside-self _;
@@ -107,8 +107,8 @@ module _ {b : Begin} {w₀ w : Words} {n count bound e word : ℕ} (i : Taken b 
     within = i.within;
     set = i.set;
     words = i.table;
-    all = λ D g. i.rest D g ∙ ap (λ ds. left (refusingAt b) D ds i.read (readerAt b.bytes e count i.locals))
-        (none i.dues (sym i.depth ∙ z)) ∙ left-none (refusingAt b) D i.read _;
+    all = λ D g. i.rest D g ∙ ap (λ ds. left (refusing_at b) D ds i.read (reader_at b.bytes e count i.locals))
+        (none i.dues (sym i.depth ∙ z)) ∙ left-none (refusing_at b) D i.read _;
   }
     where
       none : (ds : List Due) → length ds ≡ 0 → ds ≡ []
@@ -117,19 +117,19 @@ module _ {b : Begin} {w₀ w : Words} {n count bound e word : ℕ} (i : Taken b 
 
   module _ (h : n ≡ 0 → ⊥) where
     pub taken-stops : (class_at b.bytes e ≡ 3 → ⊥) → (D : Declared) → Known b.limits w₀ D → whole b D ≡ refused 5 e
-    unfolding classNumber
+    unfolding class_number
     taken-stops c D g = i.rest D g ∙ by i.dues i.depth
       where
-        by : (ds : List Due) → n ≡ length ds → left (refusingAt b) D ds i.read (readerAt b.bytes e count i.locals) ≡ refused 5 e
+        by : (ds : List Due) → n ≡ length ds → left (refusing_at b) D ds i.read (reader_at b.bytes e count i.locals) ≡ refused 5 e
         by [] q = absurd (h q)
-        by (d ∷ ds) q = left-no-space (refusingAt b) D d ds i.read (readerAt b.bytes e count i.locals) (class-not-next b.bytes e space c)
+        by (d ∷ ds) q = left-no-space (refusing_at b) D d ds i.read (reader_at b.bytes e count i.locals) (class-not-next b.bytes e space c)
 
     pub taken_next : class_at b.bytes e ≡ 3 → Reading b w₀ w n count bound (e + 1) word
-    unfolding classNumber Tops
+    unfolding class_number Tops
     taken_next c = by i.dues i.depth i.fits i.stack i.tops i.rest
       where
         by : (ds : List Due) → n ≡ length ds → Fits ds → Stacked w ds → Tops w count word ds →
-            ((D : Declared) → Known b.limits w₀ D → whole b D ≡ left (refusingAt b) D ds i.read (readerAt b.bytes e count i.locals)) →
+            ((D : Declared) → Known b.limits w₀ D → whole b D ≡ left (refusing_at b) D ds i.read (reader_at b.bytes e count i.locals)) →
             Reading b w₀ w n count bound (e + 1) word
         by [] q f k o r = absurd (h q)
         by (d ∷ ds) q f k o r = record {
@@ -149,21 +149,21 @@ module _ {b : Begin} {w₀ w : Words} {n count bound e word : ℕ} (i : Taken b 
           first = o.0;
           later = o.1;
           table = i.table;
-          rest = λ D g. r D g ∙ left-space (refusingAt b) D d ds i.read (readerAt b.bytes e count i.locals)
+          rest = λ D g. r D g ∙ left-space (refusing_at b) D d ds i.read (reader_at b.bytes e count i.locals)
               (class-next b.bytes e space c) ∙ rw drop-drop;
         }
 
 -- the words before the first entry was put
-pub known_start : {l : Limits} {D : Declared} (w w₀ : Words) → w₀ ≡ entered w 0 (entry formulaSort maxNesting 0) → Known l w D → Known l w₀ D
-known_start w w₀ q g = known_same w w₀ (λ j a c. rw q ((beside-put w 0 (entry formulaSort maxNesting 0) (omega arith)).below j c)) g
+pub known_start : {l : Limits} {D : Declared} (w w₀ : Words) → w₀ ≡ entered w 0 (entry formula_sort max_nesting 0) → Known l w D → Known l w₀ D
+known_start w w₀ q g = known_same w w₀ (λ j a c. rw q ((beside-put w 0 (entry formula_sort max_nesting 0) (omega arith)).below j c)) g
 
-pub sized-start : {l : Limits} (w w₀ : Words) → w₀ ≡ entered w 0 (entry formulaSort maxNesting 0) → Small l → Sized l w → Sized l w₀
-sized-start w w₀ q s h = sized_same w w₀ (λ j a c. rw q ((beside-put w 0 (entry formulaSort maxNesting 0) (omega arith)).below j c)) s h
+pub sized-start : {l : Limits} (w w₀ : Words) → w₀ ≡ entered w 0 (entry formula_sort max_nesting 0) → Small l → Sized l w → Sized l w₀
+sized-start w w₀ q s h = sized_same w w₀ (λ j a c. rw q ((beside-put w 0 (entry formula_sort max_nesting 0) (omega arith)).below j c)) s h
 
-pub through-start : {b : Begin} {w₀ w w' : Words} {n e m : ℕ} → w₀ ≡ entered w 0 (entry formulaSort maxNesting 0) → pathAt ≤ length w →
+pub through-start : {b : Begin} {w₀ w w' : Words} {n e m : ℕ} → w₀ ≡ entered w 0 (entry formula_sort max_nesting 0) → path_at ≤ length w →
     Through b w₀ w' n e m → Through b w w' n e m
 through-start {b} {w = w} q h p =
-    let put = beside-put w 0 (entry formulaSort maxNesting 0) (omega arith) in
+    let put = beside-put w 0 (entry formula_sort max_nesting 0) (omega arith) in
     record {
       tokens = p.tokens;
       locals = p.locals;

@@ -9,7 +9,7 @@ use lib.IntN.{ℤ}
 use lib.ListN.{length, take, drop, length-drop}
 use lib.Seq.{drop-drop, length-take-le}
 use borrow.Author.Tests.{leb-true, leb-false, le-leb, lt-leb}
-use Rattle.specification.specs.Bytes.{Bytes, Class, pick, between, inNumber, run, begins}
+use Rattle.specification.specs.Bytes.{Bytes, Class, pick, between, in_number, run, begins}
 use Rattle.specification.specs.Number.{natural, integer, in32}
 use Rattle.specification.specs.Parser.{Reader, Read, refused, found, present, require, and_then, give, taken}
 use Rattle.specification.specs.Lines.{index, count, value}
@@ -24,26 +24,26 @@ use Rattle.sheet.specs.declared.lines.Index.{Index}
 use Rattle.sheet.specs.declared.lines.Index.TheVariants as indexed
 use Rattle.sheet.specs.declared.lines.Count.{Count}
 use Rattle.sheet.specs.Reader.{line_at}
-use Rattle.sheet.specs.Answers.{numberTo, heldIndex, indexRead, countRead}
-use Rattle.sheet.proofs.Keys.{exactly-yes, exactly-no, closedWith}
+use Rattle.sheet.specs.Answers.{number_to, held_index, index_read, count_read}
+use Rattle.sheet.proofs.Keys.{exactly-yes, exactly-no, closed_with}
 
 -- ---- numerals
 
-pub numeral-is : (s v : Bytes) (at e : ℕ) → v ≡ drop at s → e ≡ 0 + length (run inNumber (drop 0 v)) → take e v ≡ run inNumber (drop at s)
+pub numeral-is : (s v : Bytes) (at e : ℕ) → v ≡ drop at s → e ≡ 0 + length (run in_number (drop 0 v)) → take e v ≡ run in_number (drop at s)
 numeral-is s v at e is ends =
-    let l : e ≡ length (run inNumber v) = omega arith in
-    ap (λ (n : ℕ). take n v) l ∙ run-first inNumber v ∙ ap (run inNumber) is
+    let l : e ≡ length (run in_number v) = omega arith in
+    ap (λ (n : ℕ). take n v) l ∙ run-first in_number v ∙ ap (run in_number) is
 
-pub numeral-inside : (v : Bytes) (e : ℕ) → e ≡ 0 + length (run inNumber (drop 0 v)) → e ≡ length (take e v)
-numeral-inside v e ends = sym (length-take-le e v (omega (arith, run-le inNumber v)))
+pub numeral-inside : (v : Bytes) (e : ℕ) → e ≡ 0 + length (run in_number (drop 0 v)) → e ≡ length (take e v)
+numeral-inside v e ends = sym (length-take-le e v (omega (arith, run-le in_number v)))
 
 -- ---- numbers, with d the run of digits and minus signs at the place
 
-module _ (s : Bytes) (at : ℕ) (d : Bytes) (is : d ≡ run inNumber (drop at s)) where
+module _ (s : Bytes) (at : ℕ) (d : Bytes) (is : d ≡ run in_number (drop at s)) where
   pub numeral-le : length d ≤ length s - at
-  numeral-le = omega (arith, ap length is, run-le inNumber (drop at s), length-drop at s)
+  numeral-le = omega (arith, ap length is, run-le in_number (drop at s), length-drop at s)
 
-  taken_is : taken inNumber (line_at s at) ≡ found d (line_at s (at + length d))
+  taken_is : taken in_number (line_at s at) ≡ found d (line_at s (at + length d))
   unfolding taken
   taken_is = rw (is, drop-drop)
 
@@ -51,18 +51,18 @@ module _ (s : Bytes) (at : ℕ) (d : Bytes) (is : d ≡ run inNumber (drop at s)
   unfolding index
   index-taken = rw taken_is
 
-  pub index-bad : decimal.Malformed ≡ capped (natural d) → refused 4 at ≡ heldIndex (index (line_at s at))
+  pub index-bad : decimal.Malformed ≡ capped (natural d) → refused 4 at ≡ held_index (index (line_at s at))
   index-bad e = rw index-taken (go (natural d) e)
     where
-      go : (o : Option ℕ) → decimal.Malformed ≡ capped o → refused 4 at ≡ heldIndex (present 4 at o (line_at s (at + length d)))
+      go : (o : Option ℕ) → decimal.Malformed ≡ capped o → refused 4 at ≡ held_index (present 4 at o (line_at s (at + length d)))
       go none e = refl
       go (some k) e = contradiction cc
 
   pub index_is : (n m : ℕ) → m ≡ min n 4294967295 → decimal.Is n ≡ capped (natural d)
-      → found m (line_at s (at + length d)) ≡ heldIndex (index (line_at s at))
+      → found m (line_at s (at + length d)) ≡ held_index (index (line_at s at))
   index_is n m held e = rw index-taken (go (natural d) e)
     where
-      go : (o : Option ℕ) → decimal.Is n ≡ capped o → found m (line_at s (at + length d)) ≡ heldIndex (present 4 at o (line_at s (at + length d)))
+      go : (o : Option ℕ) → decimal.Is n ≡ capped o → found m (line_at s (at + length d)) ≡ held_index (present 4 at o (line_at s (at + length d)))
       go none e = contradiction cc
       go (some k) e =
           let l : n ≡ min k 4294967296 = cc in
@@ -105,7 +105,7 @@ abbrev limited : ℕ → ℕ → ℕ → Read ℕ → Read ℕ
 limited lo hi at r = and_then (λ n. require (between lo hi n) 4 at (give n)) r
 
 module _ (s : Bytes) (at lo hi : ℕ) (few : hi < 4294967295) where
-  count_held : count lo hi (line_at s at) ≡ limited lo hi at (heldIndex (index (line_at s at)))
+  count_held : count lo hi (line_at s at) ≡ limited lo hi at (held_index (index (line_at s at)))
   unfolding count
   count_held = go (index (line_at s at))
     where
@@ -119,13 +119,13 @@ module _ (s : Bytes) (at lo hi : ℕ) (few : hi < 4294967295) where
           let l : hi < m = leb-false m hi e in
           rw (e, lt-leb (min m 4294967295) hi (omega arith), and-false (leb lo m), and-false (leb lo (min m 4294967295)))
 
-      go : (x : Read ℕ) → limited lo hi at x ≡ limited lo hi at (heldIndex x)
+      go : (x : Read ℕ) → limited lo hi at x ≡ limited lo hi at (held_index x)
       go (refused k p) = refl
       go (found m r) = by-limit m r (leb m hi) refl
 
   -- of what the index is told to be
-  module _ (x : Index) (is : indexRead s x ≡ heldIndex (index (line_at s at))) where
-    count-read : (y : Index) → x ≡ y → limited lo hi at (indexRead s y) ≡ count lo hi (line_at s at)
+  module _ (x : Index) (is : index_read s x ≡ held_index (index (line_at s at))) where
+    count-read : (y : Index) → x ≡ y → limited lo hi at (index_read s y) ≡ count lo hi (line_at s at)
     count-read y told = rw (sym told, is, count_held)
 
     pub count-refused : (k p : ℕ) → x ≡ indexed.Refused k p → refused k p ≡ count lo hi (line_at s at)
@@ -144,10 +144,10 @@ module _ (s : Bytes) (at lo hi : ℕ) (few : hi < 4294967295) where
 -- ---- a key and a number, up to a byte of the class
 
 module _ (s key : Bytes) (at lo hi : ℕ) (c : Class) where
-  pub line-no : begins key (drop at s) ≡ false → refused 3 at ≡ numberTo key lo hi c (line_at s at)
+  pub line-no : begins key (drop at s) ≡ false → refused 3 at ≡ number_to key lo hi c (line_at s at)
   line-no h = sym (exactly-no s at key 3 _ h)
 
   -- of what the count is told to be
-  pub line-yes : begins key (drop at s) ≡ true → (x y : Count) → countRead s x ≡ count lo hi (line_at s (at + length key)) → x ≡ y
-      → closedWith c (countRead s y) ≡ numberTo key lo hi c (line_at s at)
-  line-yes h x y is told = ap (closedWith c) (ap (countRead s) (sym told) ∙ is) ∙ sym (exactly-yes s at key 3 _ h)
+  pub line-yes : begins key (drop at s) ≡ true → (x y : Count) → count_read s x ≡ count lo hi (line_at s (at + length key)) → x ≡ y
+      → closed_with c (count_read s y) ≡ number_to key lo hi c (line_at s at)
+  line-yes h x y is told = ap (closed_with c) (ap (count_read s) (sym told) ∙ is) ∙ sym (exactly-yes s at key 3 _ h)

@@ -6,13 +6,13 @@ use mathlib.Core.Bool.{Bool, not, ◌&&◌}
 use mathlib.Core.List.{◌∷◌, ◌++◌}
 use lib.ListN.{length, length-append}
 use Rattle.specification.specs.Parser.{Reader, Parser, give, ◌>>=◌, ◌>>◌}
-use Rattle.specification.specs.Lines.{Declared, procedureOf}
+use Rattle.specification.specs.Lines.{Declared, procedure_of}
 use Rattle.specification.specs.Ast.{Term, Formula, and, or, imp, eq, compare, some, all}
-use Rattle.specification.specs.Words.{FormulaWord, trueWord, andWord, orWord, impWord, notWord, eqWord, exWord, someWord, allWord, call_word, relWord, Word, formulaWord, termWord, numberWord, unknown, word_of}
-use Rattle.specification.specs.Formula.{Token, operand, Locals, binder, procedure, term, emptyRange, nonEmpty, formulaOf, formulaWith, formula}
+use Rattle.specification.specs.Words.{FormulaWord, true_word, and_word, or_word, imp_word, not_word, eq_word, ex_word, some_word, all_word, call_word, rel_word, Word, formula_word, term_word, number_word, unknown, word_of}
+use Rattle.specification.specs.Formula.{Token, operand, Locals, binder, procedure, term, empty_range, non_empty, formula_of, formula_with, formula}
 use Rattle.specification.proofs.Laws.Parser.{Post, refusal, holds, bind-post, require-post}
-use Rattle.sheet.specs.Codes.{termTokens, formulaTokens}
-use Rattle.sheet.specs.Numbered.{termSize, formulaSize, Numbered}
+use Rattle.sheet.specs.Codes.{term_tokens, formula_tokens}
+use Rattle.sheet.specs.Numbered.{term_size, formula_size, Numbered}
 use Rattle.sheet.proofs.Counted.{Counted, Counting, operand-counts, token-counts, term-operand-counts, arguments-count, local-operand-counts, number-operand-counts}
 
 -- counted from a number that is equal
@@ -20,11 +20,11 @@ pub renumbered : {m n : ℕ} (F : Formula) → m ≡ n → Numbered m F → Numb
 renumbered F e h = subst (λ i. Numbered i F) e h
 
 abbrev pub FormulaFrom : ℕ → Formula → Reader → Type 0
-FormulaFrom = Counting formulaSize Numbered
+FormulaFrom = Counting formula_size Numbered
 
 -- a range that is not empty is no token
-nonEmpty-counts : (refusing : Bool) (p : ℕ) (a b : Term) (r : Reader) → Post (λ u r'. r'.tokens ≡ r.tokens) (nonEmpty refusing p a b r)
-nonEmpty-counts refusing p a b r = require-post (not (refusing && emptyRange a b)) 17 p (give tt) r tt λ e. holds refl
+non_empty-counts : (refusing : Bool) (p : ℕ) (a b : Term) (r : Reader) → Post (λ u r'. r'.tokens ≡ r.tokens) (non_empty refusing p a b r)
+non_empty-counts refusing p a b r = require-post (not (refusing && empty_range a b)) 17 p (give tt) r tt λ e. holds refl
 
 -- ---- each word
 
@@ -43,73 +43,73 @@ module _ (refusing : Bool) (D : Declared) (k : ℕ) (ih : (S : Locals) (r : Read
   K r = procedure D k r
 
   formula-operand-counts : (S : Locals) (r : Reader) → Post (FormulaFrom r.tokens) (operand (F S) r)
-  formula-operand-counts S = operand-counts formulaSize Numbered (F S) (ih S)
+  formula-operand-counts S = operand-counts formula_size Numbered (F S) (ih S)
 
   two-formulas : (make : Formula → Formula → Formula) →
-      ((f g : Formula) → Numbered (suc n) f → Numbered (suc n + formulaSize f) g → Numbered n (make f g)) →
-      ((f g : Formula) → formulaSize (make f g) ≡ suc (length (formulaTokens f ++ formulaTokens g))) →
+      ((f g : Formula) → Numbered (suc n) f → Numbered (suc n + formula_size f) g → Numbered n (make f g)) →
+      ((f g : Formula) → formula_size (make f g) ≡ suc (length (formula_tokens f ++ formula_tokens g))) →
       Post (FormulaFrom n) ((operand (F S) >>= λ f. operand (F S) >>= λ g. give (make f g)) r)
   two-formulas make put size =
       bind-post (formula-operand-counts S r) λ f r₁ h₁.
       bind-post (formula-operand-counts S r₁) λ g r₂ h₂.
       holds (
         put f g (renumbered f (omega arith) h₁.0) (renumbered g (omega arith) h₂.0),
-        record { tokens = omega (arith, size f g, length-append (formulaTokens f) (formulaTokens g)); few = h₂.1.few },
+        record { tokens = omega (arith, size f g, length-append (formula_tokens f) (formula_tokens g)); few = h₂.1.few },
       )
 
   two-terms : (make : Term → Term → Formula) → ((s t : Term) → Numbered n (make s t)) →
-      ((s t : Term) → formulaSize (make s t) ≡ suc (length (termTokens s ++ termTokens t))) →
+      ((s t : Term) → formula_size (make s t) ≡ suc (length (term_tokens s ++ term_tokens t))) →
       Post (FormulaFrom n) ((operand T >>= λ s. operand T >>= λ t. give (make s t)) r)
   two-terms make put size =
       bind-post (term-operand-counts D S k r) λ s r₁ h₁.
       bind-post (term-operand-counts D S k r₁) λ t r₂ h₂.
-      holds (put s t, record { tokens = omega (arith, size s t, length-append (termTokens s) (termTokens t)); few = h₂.1.few })
+      holds (put s t, record { tokens = omega (arith, size s t, length-append (term_tokens s) (term_tokens t)); few = h₂.1.few })
 
   quantified : (p : ℕ) (make : ℕ → Term → Term → Formula → Formula) →
-      ((l : ℕ) (a b : Term) (f : Formula) → Numbered (suc (suc n) + termSize a + termSize b) f → Numbered n (make l a b f)) →
+      ((l : ℕ) (a b : Term) (f : Formula) → Numbered (suc (suc n) + term_size a + term_size b) f → Numbered n (make l a b f)) →
       ((l : ℕ) (a b : Term) (f : Formula) →
-      formulaSize (make l a b f) ≡ suc (suc (length (termTokens a ++ (termTokens b ++ formulaTokens f))))) →
-      Post (FormulaFrom n) ((operand L >>= λ l. operand T >>= λ a. operand T >>= λ b. nonEmpty refusing p a b >>
+      formula_size (make l a b f) ≡ suc (suc (length (term_tokens a ++ (term_tokens b ++ formula_tokens f))))) →
+      Post (FormulaFrom n) ((operand L >>= λ l. operand T >>= λ a. operand T >>= λ b. non_empty refusing p a b >>
       (operand (F (l ∷ S)) >>= λ f. give (make l a b f))) r)
   quantified p make put size =
       bind-post (local-operand-counts D k r) λ l r₁ h₁.
       bind-post (term-operand-counts D S k r₁) λ a r₂ h₂.
       bind-post (term-operand-counts D S k r₂) λ b r₃ h₃.
-      bind-post (nonEmpty-counts refusing p a b r₃) λ u r₄ e.
+      bind-post (non_empty-counts refusing p a b r₃) λ u r₄ e.
       bind-post (formula-operand-counts (l ∷ S) r₄) λ f r₅ h₅.
-      let whole = length-append (termTokens a) (termTokens b ++ formulaTokens f) in
-      let part = length-append (termTokens b) (formulaTokens f) in
+      let whole = length-append (term_tokens a) (term_tokens b ++ formula_tokens f) in
+      let part = length-append (term_tokens b) (formula_tokens f) in
       holds (
         put l a b f (renumbered f (omega arith) h₅.0),
         record { tokens = omega (arith, size l a b f, whole, part); few = h₅.1.few },
       )
 
-  formula-of : (p m : ℕ) (w : FormulaWord) → m ≡ n → Post (FormulaFrom n) (formulaOf refusing D F T L K S p m w r)
-  unfolding Numbered formulaTokens
-  formula-of p m trueWord e = holds (tt, c)
-  formula-of p m andWord e = two-formulas and (λ f g x y. (x, y)) (λ f g. refl)
-  formula-of p m orWord e = two-formulas or (λ f g x y. (x, y)) (λ f g. refl)
-  formula-of p m impWord e = two-formulas (imp m) (λ f g x y. (e, x, y)) (λ f g. refl)
-  formula-of p m notWord e =
+  formula-of : (p m : ℕ) (w : FormulaWord) → m ≡ n → Post (FormulaFrom n) (formula_of refusing D F T L K S p m w r)
+  unfolding Numbered formula_tokens
+  formula-of p m true_word e = holds (tt, c)
+  formula-of p m and_word e = two-formulas and (λ f g x y. (x, y)) (λ f g. refl)
+  formula-of p m or_word e = two-formulas or (λ f g x y. (x, y)) (λ f g. refl)
+  formula-of p m imp_word e = two-formulas (imp m) (λ f g x y. (e, x, y)) (λ f g. refl)
+  formula-of p m not_word e =
       bind-post (formula-operand-counts S r) λ f r₁ h₁.
       holds ((e, renumbered f (omega arith) h₁.0), record { tokens = omega arith; few = h₁.1.few })
-  formula-of p m eqWord e = two-terms (eq m) (λ s t. e) (λ s t. refl)
-  formula-of p m (relWord c) e = two-terms (compare m c) (λ s t. e) (λ s t. refl)
-  formula-of p m exWord e =
+  formula-of p m eq_word e = two-terms (eq m) (λ s t. e) (λ s t. refl)
+  formula-of p m (rel_word c) e = two-terms (compare m c) (λ s t. e) (λ s t. refl)
+  formula-of p m ex_word e =
       bind-post (local-operand-counts D k r) λ l r₁ h₁.
       bind-post (formula-operand-counts (l ∷ S) r₁) λ f r₂ h₂.
       holds (renumbered f (omega arith) h₂.0, record { tokens = omega arith; few = h₂.1.few })
-  formula-of p m someWord e = quantified p (some m) (λ l a b f x. (e, x)) (λ l a b f. refl)
-  formula-of p m allWord e = quantified p (all m) (λ l a b f x. (e, x)) (λ l a b f. refl)
+  formula-of p m some_word e = quantified p (some m) (λ l a b f x. (e, x)) (λ l a b f. refl)
+  formula-of p m all_word e = quantified p (all m) (λ l a b f x. (e, x)) (λ l a b f. refl)
   formula-of p m call_word e =
       bind-post (number-operand-counts D k r) λ J r₁ h₁.
-      bind-post (arguments-count D k S (procedureOf D J).parameters r₁ h₁.1.few) λ ts r₂ h₂.
+      bind-post (arguments-count D k S (procedure_of D J).parameters r₁ h₁.1.few) λ ts r₂ h₂.
       holds (tt, record { tokens = omega (arith, h₁.1.tokens, h₂.1.tokens); few = h₂.1.few })
 
-  formula-with : (t : Token) (w : Word) → t.number ≡ n → Post (FormulaFrom n) (formulaWith refusing D F T L K S t w r)
-  formula-with t (formulaWord w) e = formula-of t.place t.number w e
-  formula-with t (termWord w) e = refusal tt
-  formula-with t (numberWord n) e = refusal tt
+  formula-with : (t : Token) (w : Word) → t.number ≡ n → Post (FormulaFrom n) (formula_with refusing D F T L K S t w r)
+  formula-with t (formula_word w) e = formula-of t.place t.number w e
+  formula-with t (term_word w) e = refusal tt
+  formula-with t (number_word n) e = refusal tt
   formula-with t unknown e = refusal tt
 
 -- ---- the formula

@@ -13,9 +13,9 @@ use lib.ListN.{length, get_or, drop}
 use lib.Seq.{drop-cons, drop-length}
 use borrow.Author.Tests.{eq-eqb, ne_eqb, eqb-true, eqb-false, lt-ltb, le-ltb}
 use Rattle.specification.specs.Bytes.{Bytes, bytes, pick, same}
-use Rattle.specification.specs.Words.{call_word, formulaWord, Entry, ◌means◌, commonWords, olderDivision, firstRounding, division, own_words, words}
-use Rattle.sheet.specs.Codes.{tokenOf}
-use Rattle.sheet.specs.Packed.{packed, entryCode, codeBy, code_in}
+use Rattle.specification.specs.Words.{call_word, formula_word, Entry, ◌means◌, common_words, older_division, first_rounding, division, own_words, words}
+use Rattle.sheet.specs.Codes.{token_of}
+use Rattle.sheet.specs.Packed.{packed, entry_code, code_by, code_in}
 
 -- ---- two words
 
@@ -93,7 +93,7 @@ small [] = true
 small (b ∷ bs) = ltb b 256 && small bs
 
 pub sound : Entry → Bool
-sound e = leb (length e.text) 4 && (small e.text && (ltb 0 (entryCode e) && eqb (tokenOf (just e.word)).operand 0))
+sound e = leb (length e.text) 4 && (small e.text && (ltb 0 (entry_code e) && eqb (token_of (just e.word)).operand 0))
 
 unfoldable pub brief : List Entry → Bool
 brief [] = true
@@ -116,16 +116,16 @@ small_at (x ∷ xs) t (suc i) = small_at xs (second (ltb x 256) (small xs) t) i
 pub record Sound (e : Entry) : Type 0 where
   pub short : length e.text ≤ 4
   pub bytes : Small e.text
-  pub some : 0 < entryCode e
-  pub plain : (tokenOf (just e.word)).operand ≡ 0
+  pub some : 0 < entry_code e
+  pub plain : (token_of (just e.word)).operand ≡ 0
 
 pub sound-of : (e : Entry) → T (sound e) → Sound e
 unfolding sound
 sound-of e t =
     let a = leb (length e.text) 4 in
     let b = small e.text in
-    let d = ltb 0 (entryCode e) in
-    let z = eqb (tokenOf (just e.word)).operand 0 in
+    let d = ltb 0 (entry_code e) in
+    let z = eqb (token_of (just e.word)).operand 0 in
     record {
       short = leb→le _ _ (first a (b && (d && z)) t);
       bytes = small_at e.text (first b (d && z) (second a (b && (d && z)) t));
@@ -141,8 +141,8 @@ long (e ∷ es) t b h =
     rw (differs t e.text (λ q. omega (arith, l.short))) (long es t (second (sound e) (brief es) b) h)
 
 -- looked up by its number
-by_number : (es : List Entry) (t : Bytes) → T (brief es) → Small t → code_in t es ≡ codeBy (packed t) es
-unfolding code_in codeBy brief
+by_number : (es : List Entry) (t : Bytes) → T (brief es) → Small t → code_in t es ≡ code_by (packed t) es
+unfolding code_in code_by brief
 by_number [] t b s = refl
 by_number (e ∷ es) t b s =
     let l = sound-of e (first (sound e) (brief es) b) in
@@ -150,10 +150,10 @@ by_number (e ∷ es) t b s =
 
 module _ (edition : ℕ) where
   pub all-brief : T (brief (words edition))
-  unfolding brief sound small commonWords olderDivision division own_words words tokenOf
-  all-brief = by (eqb edition 1) (ltb edition firstRounding)
+  unfolding brief sound small common_words older_division division own_words words token_of
+  all-brief = by (eqb edition 1) (ltb edition first_rounding)
     where
-      by : (b c : Bool) → T (brief (commonWords ++ pick b olderDivision (bytes "call" means formulaWord call_word ∷ pick c olderDivision division)))
+      by : (b c : Bool) → T (brief (common_words ++ pick b older_division (bytes "call" means formula_word call_word ∷ pick c older_division division)))
       by true c = tt
       by false true = tt
       by false false = tt
@@ -161,17 +161,17 @@ module _ (edition : ℕ) where
   pub code-long : (t : Bytes) → 4 < length t → code_in t (words edition) ≡ 0
   code-long t h = long (words edition) t all-brief h
 
-  pub code-packed : (t : Bytes) → Small t → code_in t (words edition) ≡ codeBy (packed t) (words edition)
+  pub code-packed : (t : Bytes) → Small t → code_in t (words edition) ≡ code_by (packed t) (words edition)
   code-packed t s = by_number (words edition) t all-brief s
 
 -- which set it is
-pub first-words : (edition k : ℕ) → edition ≡ 1 → codeBy k (words 1) ≡ codeBy k (words edition)
+pub first-words : (edition k : ℕ) → edition ≡ 1 → code_by k (words 1) ≡ code_by k (words edition)
 first-words edition k e = rw e
 
-pub second-words : (edition k : ℕ) → (edition ≡ 1 → ⊥) → edition < firstRounding → codeBy k (words 2) ≡ codeBy k (words edition)
+pub second-words : (edition k : ℕ) → (edition ≡ 1 → ⊥) → edition < first_rounding → code_by k (words 2) ≡ code_by k (words edition)
 unfolding words own_words
-second-words edition k n h = rw (ne_eqb edition 1 n, lt-ltb edition firstRounding h)
+second-words edition k n h = rw (ne_eqb edition 1 n, lt-ltb edition first_rounding h)
 
-pub third-words : (edition k : ℕ) → (edition ≡ 1 → ⊥) → firstRounding ≤ edition → codeBy k (words 3) ≡ codeBy k (words edition)
+pub third-words : (edition k : ℕ) → (edition ≡ 1 → ⊥) → first_rounding ≤ edition → code_by k (words 3) ≡ code_by k (words edition)
 unfolding words own_words
-third-words edition k n h = rw (ne_eqb edition 1 n, le-ltb edition firstRounding h)
+third-words edition k n h = rw (ne_eqb edition 1 n, le-ltb edition first_rounding h)

@@ -13,52 +13,52 @@ use Rattle.specification.specs.Lines.{count, Declared}
 use Rattle.specification.specs.Given.{Item}
 use Rattle.specification.specs.Ast.{Formula, Procedure}
 use Rattle.specification.specs.Formula.{formula}
-use Rattle.specification.specs.Sheet.{withParameters, withProcedures, procedureLine, procedureLines, mostProcedures, Sheet, sheet}
+use Rattle.specification.specs.Sheet.{with_parameters, with_procedures, procedure_line, procedure_lines, most_procedures, Sheet, sheet}
 use Rattle.specification.proofs.Laws.Contradiction.{contradiction}
 use Rattle.specification.proofs.Laws.Parser.{Post, holds, of-found, bind-post, after, and-true}
 use Rattle.specification.proofs.Laws.ReadLines.{count_post}
-use Rattle.tables.specs.Layout.{maxNesting, maxProcs}
+use Rattle.tables.specs.Layout.{max_nesting, max_procs}
 use Rattle.sheet.specs.declared.lines.Count.{Count}
 use Rattle.sheet.specs.declared.lines.Count.TheVariants as counts
 use Rattle.sheet.specs.declared.formula.Limits.{Limits}
 use Rattle.sheet.specs.declared.formula.Reached.{Reached}
 use Rattle.sheet.specs.declared.whole.Progress.{Progress}
 use Rattle.sheet.specs.declared.whole.Progress.TheVariants as progress
-use Rattle.sheet.specs.Reader.{readerAt, line_at}
+use Rattle.sheet.specs.Reader.{reader_at, line_at}
 use Rattle.sheet.specs.Tables.{Words}
-use Rattle.sheet.specs.Answers.{numberTo, Inside, countRead}
-use Rattle.sheet.specs.FormulaLine.{lineFormula, refusesIn}
-use Rattle.sheet.specs.Rest.{fromFormula, fromProcedures, oneMore, fromBody}
-use Rattle.sheet.specs.Whole.{Filled, Went, Goes, Leads, leftLines, follows, Following, Begun, Nearer, leftOver}
-use Rattle.sheet.proofs.Alike.{laterRead, number-alike}
+use Rattle.sheet.specs.Answers.{number_to, Inside, count_read}
+use Rattle.sheet.specs.FormulaLine.{line_formula, refuses_in}
+use Rattle.sheet.specs.Rest.{from_formula, from_procedures, one_more, from_body}
+use Rattle.sheet.specs.Whole.{Filled, Went, Goes, Leads, left_lines, follows, Following, Begun, Nearer, left_over}
+use Rattle.sheet.proofs.Alike.{later_read, number-alike}
 
 -- ---- whether a line follows
 
-pub few-procedures : (edition : ℕ) → mostProcedures edition ≤ maxProcs
+pub few-procedures : (edition : ℕ) → most_procedures edition ≤ max_procs
 few-procedures edition = by (eqb edition 1)
   where
-    by : (b : Bool) → pick b 0 16 ≤ maxProcs
+    by : (b : Bool) → pick b 0 16 ≤ max_procs
     by true = omega arith
     by false = omega arith
 
 -- none follows
 no_lines : (refusing : Bool) (k : ℕ) (D : Declared) (r : Reader) → begins (bytes "p") r.rest ≡ false →
-    procedureLines refusing k D r ≡ found D.procedures r
-unfolding procedureLines
+    procedure_lines refusing k D r ≡ found D.procedures r
+unfolding procedure_lines
 no_lines refusing zero D r e = refl
 no_lines refusing (suc k) D r e = rw e
 
-none_left : (refusing : Bool) (D : Declared) (r : Reader) → procedureLines refusing 0 D r ≡ found D.procedures r
-unfolding procedureLines
+none_left : (refusing : Bool) (D : Declared) (r : Reader) → procedure_lines refusing 0 D r ≡ found D.procedures r
+unfolding procedure_lines
 none_left refusing D r = refl
 
 module _ (s : Bytes) (n : ℕ) (w : Words) where
-  filled-all : (d : Limits) (x : Reached) → follows s (progress.Read d x) ≡ false → Filled (leftLines d) s n d x w → Filled 0 s n d x w
+  filled-all : (d : Limits) (x : Reached) → follows s (progress.Read d x) ≡ false → Filled (left_lines d) s n d x w → Filled 0 s n d x w
   filled-all d x e h = record {
     declared = D;
     items = h.items;
     locals = h.locals;
-    rest = h.rest ∙ ap (and_then on) (over (ltb d.procedures (mostProcedures d.edition)) refl (e) ∙ sym (none_left (refusesIn d) D r));
+    rest = h.rest ∙ ap (and_then on) (over (ltb d.procedures (most_procedures d.edition)) refl (e) ∙ sym (none_left (refuses_in d) D r));
     counts = h.counts;
     plain = h.plain;
     small = h.small;
@@ -74,17 +74,17 @@ module _ (s : Bytes) (n : ℕ) (w : Words) where
       D = h.declared
 
       r : Reader
-      r = readerAt s x.at x.tokens h.locals
+      r = reader_at s x.at x.tokens h.locals
 
       on : List Procedure → Parser Sheet
-      on Ps = fromFormula (refusesIn d) (withProcedures Ps D) h.items
+      on Ps = from_formula (refuses_in d) (with_procedures Ps D) h.items
 
-      over : (b : Bool) → ltb d.procedures (mostProcedures d.edition) ≡ b → (b && begins (bytes "p") (drop x.at s)) ≡ false →
-          procedureLines (refusesIn d) (leftLines d) D r ≡ found D.procedures r
-      over true q f = no_lines (refusesIn d) (leftLines d) D r f
+      over : (b : Bool) → ltb d.procedures (most_procedures d.edition) ≡ b → (b && begins (bytes "p") (drop x.at s)) ≡ false →
+          procedure_lines (refuses_in d) (left_lines d) D r ≡ found D.procedures r
+      over true q f = no_lines (refuses_in d) (left_lines d) D r f
       over false q f =
-          let z : leftLines d ≡ 0 = omega (arith, ltb-false d.procedures (mostProcedures d.edition) q) in
-          ap (λ k. procedureLines (refusesIn d) k D r) z ∙ none_left (refusesIn d) D r
+          let z : left_lines d ≡ 0 = omega (arith, ltb-false d.procedures (most_procedures d.edition) q) in
+          ap (λ k. procedure_lines (refuses_in d) k D r) z ∙ none_left (refuses_in d) D r
 
   pub no_more : (strict : Bool) (p : Progress) → follows s p ≡ false → Went strict 5 s n p w → Went strict 6 s n p w
   no_more strict (progress.Refused k q) e h = h
@@ -96,29 +96,29 @@ module _ (s : Bytes) (p : Progress) where
   follows-not k q e = sym (ap (follows s) e)
 
   module _ (d : Limits) (x : Reached) (e : p ≡ progress.Read d x) where
-    pub follows-none : mostProcedures d.edition ≤ d.procedures → false ≡ follows s p
-    follows-none h = sym (ap (follows s) e ∙ rw (le-ltb d.procedures (mostProcedures d.edition) h))
+    pub follows-none : most_procedures d.edition ≤ d.procedures → false ≡ follows s p
+    follows-none h = sym (ap (follows s) e ∙ rw (le-ltb d.procedures (most_procedures d.edition) h))
 
-    pub follows-some : d.procedures < mostProcedures d.edition → {b : Bool} → b ≡ begins (bytes "p") (drop x.at s) → b ≡ follows s p
-    follows-some h q = q ∙ sym (ap (follows s) e ∙ rw (lt-ltb d.procedures (mostProcedures d.edition) h))
+    pub follows-some : d.procedures < most_procedures d.edition → {b : Bool} → b ≡ begins (bytes "p") (drop x.at s) → b ≡ follows s p
+    follows-some h q = q ∙ sym (ap (follows s) e ∙ rw (lt-ltb d.procedures (most_procedures d.edition) h))
 
 -- one line more after it
 module _ (s : Bytes) (n : ℕ) (w : Words) (p : Progress) (h : (follows s p ≡ true) × Goes 5 s n p w) where
   -- where one follows, something was read
-  pub next-refused : (k q : ℕ) → p ≡ progress.Refused k q → (leftOver (progress.Refused k q) < leftOver p) × Leads 5 s n p (progress.Refused k q) w
+  pub next-refused : (k q : ℕ) → p ≡ progress.Refused k q → (left_over (progress.Refused k q) < left_over p) × Leads 5 s n p (progress.Refused k q) w
   next-refused k q e = let z : false ≡ true = sym (ap (follows s) e) ∙ h.0 in contradiction cc
 
   module _ (d : Limits) (x : Reached) (e : p ≡ progress.Read d x) where
     pub next-requires : Following s n d x w
     next-requires = (sym (ap (follows s) e) ∙ h.0, subst (λ q. Goes 5 s n q w) e h.1)
 
-    pub next-read : (r : Progress) → Nearer d r → leftOver r < leftOver p
-    next-read r z = subst (λ q. leftOver r < leftOver q) (sym e) (by r z)
+    pub next-read : (r : Progress) → Nearer d r → left_over r < left_over p
+    next-read r z = subst (λ q. left_over r < left_over q) (sym e) (by r z)
       where
-        more : d.procedures < mostProcedures d.edition
-        more = ltb-true d.procedures (mostProcedures d.edition) (and-true _ _ next-requires.0).0
+        more : d.procedures < most_procedures d.edition
+        more = ltb-true d.procedures (most_procedures d.edition) (and-true _ _ next-requires.0).0
 
-        by : (r : Progress) → Nearer d r → leftOver r < leftOver (progress.Read d x)
+        by : (r : Progress) → Nearer d r → left_over r < left_over (progress.Read d x)
         by (progress.Refused k q) z = omega arith
         by (progress.Read l y) z = omega (arith, more, few-procedures d.edition)
 
@@ -128,16 +128,16 @@ module _ (refusing : Bool) (k : ℕ) (D : Declared) (is : List Item) (r : Reader
   abbrev made : ℕ → Formula → Procedure
   made m F = record { parameters = m; formula = F }
 
-  line-parts : procedureLine refusing D r ≡
-      and_then (λ m. lineFormula refusing (withParameters m D) >>= λ F. give (made m F)) (numberTo (bytes "proc=") 0 8 colon r)
-  unfolding procedureLine lineFormula
+  line-parts : procedure_line refusing D r ≡
+      and_then (λ m. line_formula refusing (with_parameters m D) >>= λ F. give (made m F)) (number_to (bytes "proc=") 0 8 colon r)
+  unfolding procedure_line line_formula
   line-parts = by_key (key (bytes "proc=") r)
     where
       rest : ℕ → Parser Procedure
-      rest m = formula refusing (withParameters m D) maxNesting [] >>= λ F. mark feed >> give (made m F)
+      rest m = formula refusing (with_parameters m D) max_nesting [] >>= λ F. mark feed >> give (made m F)
 
       split : ℕ → Parser Procedure
-      split m = (formula refusing (withParameters m D) maxNesting [] >>= λ F. mark feed >> give F) >>= λ F. give (made m F)
+      split m = (formula refusing (with_parameters m D) max_nesting [] >>= λ F. mark feed >> give F) >>= λ F. give (made m F)
 
       by-feed : (m : ℕ) (F : Formula) (x : Read (Unit {0})) → and_then (λ u. give (made m F)) x ≡ and_then (λ G. give (made m G)) (and_then (λ u. give F) x)
       by-feed m F (refused n p) = refl
@@ -150,7 +150,7 @@ module _ (refusing : Bool) (k : ℕ) (D : Declared) (is : List Item) (r : Reader
 
       by-colon : (m : ℕ) (x : Read (Unit {0})) → and_then (λ u. rest m) x ≡ and_then split (and_then (λ u. give m) x)
       by-colon m (refused n p) = refl
-      by-colon m (found u r) = by-formula m (formula refusing (withParameters m D) maxNesting [] r)
+      by-colon m (found u r) = by-formula m (formula refusing (with_parameters m D) max_nesting [] r)
 
       by_count : (x : Read ℕ) → and_then (λ m. mark colon >> rest m) x ≡ and_then split (and_then (λ m. mark colon >> give m) x)
       by_count (refused n p) = refl
@@ -162,61 +162,61 @@ module _ (refusing : Bool) (k : ℕ) (D : Declared) (is : List Item) (r : Reader
       by_key (found u r) = by_count (count 0 8 r)
 
   body-sheet : begins (bytes "p") r.rest ≡ true →
-      fromProcedures refusing (suc k) D is r ≡ and_then (λ m. fromBody refusing k D is m) (numberTo (bytes "proc=") 0 8 colon r)
-  unfolding procedureLines
+      from_procedures refusing (suc k) D is r ≡ and_then (λ m. from_body refusing k D is m) (number_to (bytes "proc=") 0 8 colon r)
+  unfolding procedure_lines
   body-sheet e =
-      rw (e, line-parts) (by_number (numberTo (bytes "proc=") 0 8 colon r))
+      rw (e, line-parts) (by_number (number_to (bytes "proc=") 0 8 colon r))
     where
       on : List Procedure → Parser Sheet
-      on Ps = fromFormula refusing (withProcedures Ps D) is
+      on Ps = from_formula refusing (with_procedures Ps D) is
 
       lines : Procedure → Parser (List Procedure)
-      lines P = procedureLines refusing k (withProcedures (D.procedures ++ (P ∷ [])) D)
+      lines P = procedure_lines refusing k (with_procedures (D.procedures ++ (P ∷ [])) D)
 
       by-body : (m : ℕ) (x : Read Formula) →
-          and_then on (and_then lines (and_then (λ F. give (made m F)) x)) ≡ and_then (λ F. fromProcedures refusing k (oneMore D m F) is) x
+          and_then on (and_then lines (and_then (λ F. give (made m F)) x)) ≡ and_then (λ F. from_procedures refusing k (one_more D m F) is) x
       by-body m (refused n p) = refl
       by-body m (found F r) = refl
 
       by_number : (x : Read ℕ) →
-          and_then on (and_then lines (and_then (λ m. lineFormula refusing (withParameters m D) >>= λ F. give (made m F)) x)) ≡
-          and_then (λ m. fromBody refusing k D is m) x
+          and_then on (and_then lines (and_then (λ m. line_formula refusing (with_parameters m D) >>= λ F. give (made m F)) x)) ≡
+          and_then (λ m. from_body refusing k D is m) x
       by_number (refused n p) = refl
-      by_number (found m r) = by-body m (lineFormula refusing (withParameters m D) r)
+      by_number (found m r) = by-body m (line_formula refusing (with_parameters m D) r)
 
-number-within : (k : Bytes) (lo hi : ℕ) (c : Class) (r : Reader) → Post (λ n r'. n ≤ hi) (numberTo k lo hi c r)
+number-within : (k : Bytes) (lo hi : ℕ) (c : Class) (r : Reader) → Post (λ n r'. n ≤ hi) (number_to k lo hi c r)
 number-within k lo hi c r =
     after (key k r) λ u r₁.
     bind-post (count_post lo hi r₁) λ n r₂ h.
     after (mark c r₂) λ u r₃. holds h.1
 
 module _ (s : Bytes) (n : ℕ) (d : Limits) (x : Reached) (w : Words) (h : Following s n d x w) (c : Count)
-    (told : countRead s c ≡ numberTo (bytes "proc=") 0 8 colon (line_at s x.at)) where
+    (told : count_read s c ≡ number_to (bytes "proc=") 0 8 colon (line_at s x.at)) where
   abbrev D : Declared
   D = h.1.declared
 
   abbrev here : Reader
-  here = readerAt s x.at x.tokens h.1.locals
+  here = reader_at s x.at x.tokens h.1.locals
 
-  known_more : (d.procedures < mostProcedures d.edition) × (begins (bytes "p") (drop x.at s) ≡ true)
+  known_more : (d.procedures < most_procedures d.edition) × (begins (bytes "p") (drop x.at s) ≡ true)
   known_more = let (a, b) = and-true _ _ h.0 in (ltb-true _ _ a, b)
 
   -- the rest of the sheet from the number on
   headed : sheet d.strict (line_at s 0) ≡
-      and_then (λ m. fromBody (refusesIn d) (pred (leftLines d)) D h.1.items m) (laterRead x.tokens h.1.locals (countRead s c))
+      and_then (λ m. from_body (refuses_in d) (pred (left_lines d)) D h.1.items m) (later_read x.tokens h.1.locals (count_read s c))
   headed =
-      let e : leftLines d ≡ suc (pred (leftLines d)) = omega (arith, known_more.0) in
-      h.1.rest ∙ ap (λ k. fromProcedures (refusesIn d) k D h.1.items here) e ∙
-      body-sheet (refusesIn d) (pred (leftLines d)) D h.1.items here known_more.1 ∙
-      ap (and_then (λ m. fromBody (refusesIn d) (pred (leftLines d)) D h.1.items m))
-      (number-alike x.tokens h.1.locals (bytes "proc=") 0 8 colon (line_at s x.at) ∙ ap (laterRead x.tokens h.1.locals) (sym told))
+      let e : left_lines d ≡ suc (pred (left_lines d)) = omega (arith, known_more.0) in
+      h.1.rest ∙ ap (λ k. from_procedures (refuses_in d) k D h.1.items here) e ∙
+      body-sheet (refuses_in d) (pred (left_lines d)) D h.1.items here known_more.1 ∙
+      ap (and_then (λ m. from_body (refuses_in d) (pred (left_lines d)) D h.1.items m))
+      (number-alike x.tokens h.1.locals (bytes "proc=") 0 8 colon (line_at s x.at) ∙ ap (later_read x.tokens h.1.locals) (sym told))
 
   pub head-refused : (k p : ℕ) → c ≡ counts.Refused k p → Nearer d (progress.Refused k p) × Went d.strict 5 s n (progress.Refused k p) w
   head-refused k p q = (
     tt,
     (
-      headed ∙ ap (λ y. and_then (λ m. fromBody (refusesIn d) (pred (leftLines d)) D h.1.items m)
-          (laterRead x.tokens h.1.locals (countRead s y))) q,
+      headed ∙ ap (λ y. and_then (λ m. from_body (refuses_in d) (pred (left_lines d)) D h.1.items m)
+          (later_read x.tokens h.1.locals (count_read s y))) q,
       h.1.long,
     ),
   )
@@ -225,10 +225,10 @@ module _ (s : Bytes) (n : ℕ) (d : Limits) (x : Reached) (w : Words) (h : Follo
   head-found m from q i = record {
     more = known_more.0;
     filled = h.1;
-    parameters = of-found (number-within (bytes "proc=") 0 8 colon (line_at s x.at)) (sym told ∙ ap (countRead s) q);
+    parameters = of-found (number-within (bytes "proc=") 0 8 colon (line_at s x.at)) (sym told ∙ ap (count_read s) q);
     within = inside;
-    rest = headed ∙ ap (λ y. and_then (λ m. fromBody (refusesIn d) (pred (leftLines d)) D h.1.items m)
-        (laterRead x.tokens h.1.locals (countRead s y))) q;
+    rest = headed ∙ ap (λ y. and_then (λ m. from_body (refuses_in d) (pred (left_lines d)) D h.1.items m)
+        (later_read x.tokens h.1.locals (count_read s y))) q;
   }
     where
       inside : from ≤ length s

@@ -7,25 +7,25 @@ use mathlib.Core.Bool.{Bool, true, false}
 use mathlib.Core.List.{List, [], ◌∷◌, ◌++◌}
 use lib.ListN.{length, get_or, set, take, drop, length-set, length-append}
 use lib.Seq.{drop-drop, get_or-set_same, get_or-set_other}
-use Rattle.specification.specs.Bytes.{inToken, run}
+use Rattle.specification.specs.Bytes.{in_token, run}
 use Rattle.specification.specs.Parser.{Reader, refused}
 use Rattle.specification.specs.Lines.{Declared}
 use Rattle.specification.proofs.Laws.Contradiction.{contradiction}
 use Rattle.text.proofs.Laws.Run.{end-le, end-part}
-use Rattle.tables.specs.Layout.{maxTokens, maxLocals, maxDues, tokenSlot, duesAt, pathAt, operand_at}
+use Rattle.tables.specs.Layout.{max_tokens, max_locals, max_dues, token_slot, dues_at, path_at, operand_at}
 use Rattle.sheet.specs.declared.Token.{Token}
 use Rattle.sheet.specs.declared.stack.Entry.{Entry}
-use Rattle.sheet.specs.Reader.{readerAt}
-use Rattle.sheet.specs.Sorts.{upperSort, procedureSort, operandsOf}
-use Rattle.sheet.specs.Dues.{Due, dueFormula, dueTerm, dueProcedure, dueEx, dueRange, dueBounds, dueUpper}
-use Rattle.sheet.specs.Turn.{room, empties, wordPlace, opens, binds, word_for, tokenIn, tokenAt, faultAt, behind}
-use Rattle.sheet.specs.Tables.{Words, laidTokens}
-use Rattle.sheet.specs.Stack.{sortOf, Means, Kept, Coded, entry_at, Stacked, Opened}
-use Rattle.sheet.specs.FormulaLine.{Small, Sized, Known, Spells, Refuses, Binds, Begin, refusingAt, whole}
+use Rattle.sheet.specs.Reader.{reader_at}
+use Rattle.sheet.specs.Sorts.{upper_sort, procedure_sort, operands_of}
+use Rattle.sheet.specs.Dues.{Due, due_formula, due_term, due_procedure, due_ex, due_range, due_bounds, due_upper}
+use Rattle.sheet.specs.Turn.{room, empties, word_place, opens, binds, word_for, token_in, token_at, fault_at, behind}
+use Rattle.sheet.specs.Tables.{Words, laid_tokens}
+use Rattle.sheet.specs.Stack.{sort_of, Means, Kept, Coded, entry_at, Stacked, Opened}
+use Rattle.sheet.specs.FormulaLine.{Small, Sized, Known, Spells, Refuses, Binds, Begin, refusing_at, whole}
 use Rattle.sheet.proofs.Turn.{turn-refused, turn-empty, turn-taken}
 use Rattle.sheet.proofs.Bounds.{weights, Fits, fits-turn, fits-length}
 use Rattle.sheet.proofs.Opened.{opens-length}
-use Rattle.sheet.proofs.RangeDues.{Tops, wordAfter, tops-turn}
+use Rattle.sheet.proofs.RangeDues.{Tops, word_after, tops-turn}
 use Rattle.sheet.proofs.Entries.{stacked-same, beside-then}
 use Rattle.sheet.proofs.Beside.{stored, beside-stored, tokens-more}
 use Rattle.sheet.proofs.Faults.{fault-counted, suits-coded, Stands, stands}
@@ -34,52 +34,52 @@ use Rattle.sheet.proofs.Procs.{SameProcs, sized_same, known_same, same-tokens}
 use Rattle.sheet.proofs.Loop.{Reading, Taken}
 
 -- room for three more entries where nesting may go deeper
-three : (ds : List Due) → weights ds + 3 ≤ maxDues → Fits ds → length ds + 3 ≤ maxDues
+three : (ds : List Due) → weights ds + 3 ≤ max_dues → Fits ds → length ds + 3 ≤ max_dues
 unfolding Fits weights
-three ds h f = let x = dueTerm 0 [] in omega (arith, fits-length (x ∷ x ∷ x ∷ ds) (omega arith, (omega arith, (omega arith, f))))
+three ds h f = let x = due_term 0 [] in omega (arith, fits-length (x ∷ x ∷ x ∷ ds) (omega arith, (omega arith, (omega arith, f))))
 
-fits-three : (d : Due) (ds : List Due) → 1 ≤ room d → Fits (d ∷ ds) → length ds + 3 ≤ maxDues
+fits-three : (d : Due) (ds : List Due) → 1 ≤ room d → Fits (d ∷ ds) → length ds + 3 ≤ max_dues
 unfolding Fits weights
-fits-three (dueFormula k S) ds h f = three ds (omega arith) f.1
-fits-three (dueTerm k S) ds h f = three ds (omega arith) f.1
-fits-three (dueProcedure k S) ds h f = three ds (omega arith) f.1
-fits-three (dueEx k S) ds h f = three ds (omega arith) f.1
-fits-three (dueRange k S p) ds h f = three ds (omega arith) f.1
-fits-three (dueBounds k S p) ds h f = three ds (omega arith) f.1
-fits-three (dueUpper k S p x) ds h f = three ds (omega arith) f.1
+fits-three (due_formula k S) ds h f = three ds (omega arith) f.1
+fits-three (due_term k S) ds h f = three ds (omega arith) f.1
+fits-three (due_procedure k S) ds h f = three ds (omega arith) f.1
+fits-three (due_ex k S) ds h f = three ds (omega arith) f.1
+fits-three (due_range k S p) ds h f = three ds (omega arith) f.1
+fits-three (due_bounds k S p) ds h f = three ds (omega arith) f.1
+fits-three (due_upper k S p x) ds h f = three ds (omega arith) f.1
 
 stacked-rest : (w : Words) (d : Due) (ds : List Due) → Stacked w (d ∷ ds) → Stacked w ds
 unfolding Stacked
 stacked-rest w d ds s = s.1
 
 -- where an upper bound is due after a constant, that was read, and the place of the quantifier's word is known
-upper-before : (w : Words) (n word : ℕ) (d : Due) → sortOf d ≡ upperSort → Kept w n word d → 0 < n
-upper-before w n word (dueFormula k S) e h = absurd (omega arith)
-upper-before w n word (dueTerm k S) e h = absurd (omega arith)
-upper-before w n word (dueProcedure k S) e h = absurd (omega arith)
-upper-before w n word (dueEx k S) e h = absurd (omega arith)
-upper-before w n word (dueRange k S p) e h = absurd (omega arith)
-upper-before w n word (dueBounds k S p) e h = absurd (omega arith)
-upper-before w n word (dueUpper k S p x) e h = h.1
+upper-before : (w : Words) (n word : ℕ) (d : Due) → sort_of d ≡ upper_sort → Kept w n word d → 0 < n
+upper-before w n word (due_formula k S) e h = absurd (omega arith)
+upper-before w n word (due_term k S) e h = absurd (omega arith)
+upper-before w n word (due_procedure k S) e h = absurd (omega arith)
+upper-before w n word (due_ex k S) e h = absurd (omega arith)
+upper-before w n word (due_range k S p) e h = absurd (omega arith)
+upper-before w n word (due_bounds k S p) e h = absurd (omega arith)
+upper-before w n word (due_upper k S p x) e h = h.1
 
-empties-place : (w : Words) (n word : ℕ) (refusing : Bool) (t : Token) (d : Due) → Kept w n word d → empties refusing d t ≡ true → wordPlace d ≡ word
-empties-place w n word refusing t (dueFormula k S) h e = contradiction cc
-empties-place w n word refusing t (dueTerm k S) h e = contradiction cc
-empties-place w n word refusing t (dueProcedure k S) h e = contradiction cc
-empties-place w n word refusing t (dueEx k S) h e = contradiction cc
-empties-place w n word refusing t (dueRange k S p) h e = contradiction cc
-empties-place w n word refusing t (dueBounds k S p) h e = contradiction cc
-empties-place w n word refusing t (dueUpper k S p x) h e = h.0
+empties-place : (w : Words) (n word : ℕ) (refusing : Bool) (t : Token) (d : Due) → Kept w n word d → empties refusing d t ≡ true → word_place d ≡ word
+empties-place w n word refusing t (due_formula k S) h e = contradiction cc
+empties-place w n word refusing t (due_term k S) h e = contradiction cc
+empties-place w n word refusing t (due_procedure k S) h e = contradiction cc
+empties-place w n word refusing t (due_ex k S) h e = contradiction cc
+empties-place w n word refusing t (due_range k S p) h e = contradiction cc
+empties-place w n word refusing t (due_bounds k S p) h e = contradiction cc
+empties-place w n word refusing t (due_upper k S p x) h e = h.0
 
 -- what a token shows that may stand after so many others, with n entries on the stack
 pub record May (e : Entry) (t : Token) (n count : ℕ) : Type 0 where
   pub room : 0 < e.room
-  pub low : n - 1 + 3 ≤ maxDues
-  pub number : count < maxTokens
-  pub index : procedureSort < e.sort → t.operand < maxLocals
-  pub operands : e.sort ≤ procedureSort → n - 1 + (operandsOf t.code).count ≤ maxDues
+  pub low : n - 1 + 3 ≤ max_dues
+  pub number : count < max_tokens
+  pub index : procedure_sort < e.sort → t.operand < max_locals
+  pub operands : e.sort ≤ procedure_sort → n - 1 + (operands_of t.code).count ≤ max_dues
   pub coded : Coded e t.code
-  pub before : e.sort ≡ upperSort → 0 < count
+  pub before : e.sort ≡ upper_sort → 0 < count
 
 -- the procedures' words stay
 module _ {b : Begin} {w₀ w : Words} {n count bound at word : ℕ} (i : Reading b w₀ w n count bound at word) where
@@ -91,7 +91,7 @@ module _ {b : Begin} {w₀ w : Words} {n count bound at word : ℕ} (i : Reading
 
 -- the token at a place, with k its refusal
 module _ {b : Begin} {w₀ w : Words} {n count bound at word : ℕ} (i : Reading b w₀ w n count bound at word)
-    (small : Small b.limits) (wide : pathAt ≤ length w₀) (e : ℕ) (is : e ≡ at + length (run inToken (drop at b.bytes)))
+    (small : Small b.limits) (wide : path_at ≤ length w₀) (e : ℕ) (is : e ≡ at + length (run in_token (drop at b.bytes)))
     (en : Entry) (top : en ≡ entry_at w (n - 1)) (t : Token) (spelt : Spells (take (e - at) (drop at b.bytes)) en.sort b.limits w t)
     (k : ℕ) (judged : Refuses b.limits en bound count t k) where
   means : Means en i.due
@@ -99,25 +99,25 @@ module _ {b : Begin} {w₀ w : Words} {n count bound at word : ℕ} (i : Reading
   means = let q : n - 1 ≡ length i.dues = omega (arith, i.depth) in rw (top, q) i.stack.0
 
   abbrev refusing : Bool
-  refusing = refusingAt b
+  refusing = refusing_at b
 
   abbrev here : Reader
-  here = readerAt b.bytes at count i.locals
+  here = reader_at b.bytes at count i.locals
 
-  token-here : (D : Declared) → Known b.limits w₀ D → tokenAt D i.due here ≡ t
-  unfolding tokenAt
+  token-here : (D : Declared) → Known b.limits w₀ D → token_at D i.due here ≡ t
+  unfolding token_at
   token-here D g =
-      ap (λ bs. tokenIn D i.due (word_for D i.due bs)) (sym (end-part inToken b.bytes at e is)) ∙
+      ap (λ bs. token_in D i.due (word_for D i.due bs)) (sym (end-part in_token b.bytes at e is)) ∙
       sym (spelt D i.due (known_same w₀ w (same-procs i) g) means.sort)
 
-  fault-here : (D : Declared) → Known b.limits w₀ D → faultAt D i.due here ≡ k
-  unfolding faultAt
+  fault-here : (D : Declared) → Known b.limits w₀ D → fault_at D i.due here ≡ k
+  unfolding fault_at
   fault-here D g = rw (token-here D g, fault-counted g.counts i.due i.locals t) (sym (judged i.due i.locals means i.set))
 
   pub turn-stops : (k ≡ 0 → ⊥) → (D : Declared) → Known b.limits w₀ D → whole b D ≡ refused k at
   turn-stops h D g = by k h (fault-here D g)
     where
-      by : (k : ℕ) → (k ≡ 0 → ⊥) → faultAt D i.due here ≡ k → whole b D ≡ refused k at
+      by : (k : ℕ) → (k ≡ 0 → ⊥) → fault_at D i.due here ≡ k → whole b D ≡ refused k at
       by zero h q = absurd (h refl)
       by (suc m) h q = i.rest D g ∙ turn-refused refusing D g.counts.limited i.due i.dues i.read here m q
 
@@ -144,7 +144,7 @@ module _ {b : Begin} {w₀ w : Words} {n count bound at word : ℕ} (i : Reading
 
     -- the token makes a range empty, or not
     module _ (empty : Bool) (tells : (d : Due) (p : ℕ) → Means en d → Kept w count p d → empty ≡ empties refusing d t) where
-      told : (D : Declared) → Known b.limits w₀ D → empties refusing i.due (tokenAt D i.due here) ≡ empty
+      told : (D : Declared) → Known b.limits w₀ D → empties refusing i.due (token_at D i.due here) ≡ empty
       told D g = ap (empties refusing i.due) (token-here D g) ∙ sym (tells i.due word means i.first)
 
       pub turn-empties : empty ≡ true → (D : Declared) → Known b.limits w₀ D → whole b D ≡ refused 17 word
@@ -152,18 +152,18 @@ module _ {b : Begin} {w₀ w : Words} {n count bound at word : ℕ} (i : Reading
           i.rest D g ∙ turn-empty refusing D g.counts.limited i.due i.dues i.read here (fault-here D g ∙ z) (told D g ∙ q) ∙
           ap (refused 17) (empties-place w count word refusing t i.due i.first (sym (tells i.due word means i.first) ∙ q))
 
-    behind-here : (D : Declared) → Known b.limits w₀ D → behind D i.due here ≡ readerAt b.bytes e (count + 1) (binds i.due t i.locals)
+    behind-here : (D : Declared) → Known b.limits w₀ D → behind D i.due here ≡ reader_at b.bytes e (count + 1) (binds i.due t i.locals)
     behind-here D g = rw (token-here D g, is, drop-drop, add-one)
 
     module _ (empty : Bool) (tells : (d : Due) (p : ℕ) → Means en d → Kept w count p d → empty ≡ empties refusing d t) (full : empty ≡ false)
         (w₁ w₂ : Words) (n' bound' word' : ℕ) (put : w₁ ≡ stored w count t) (opened : Opened w₁ w₂ (n - 1) en t n') (bounds : Binds en t bound bound')
-        (words : word' ≡ wordAfter en.sort at word) where
+        (words : word' ≡ word_after en.sort at word) where
       last : operand_at w₂ (count + 1 - 1) ≡ t.operand
       last =
           let q : count + 1 - 1 ≡ count = omega arith in
           rw q
-          (opened.beside.below (tokenSlot count + 1) (omega (arith, standing.number)) ∙
-          rw put (get_or-set_same (set w (tokenSlot count) t.code) (tokenSlot count + 1) t.operand 0
+          (opened.beside.below (token_slot count + 1) (omega (arith, standing.number)) ∙
+          rw put (get_or-set_same (set w (token_slot count) t.code) (token_slot count + 1) t.operand 0
           (rw length-set (omega (arith, standing.number, i.long)))))
 
       pub turn-stands : Taken b w₀ w₂ n' (count + 1) bound' e word'
@@ -171,9 +171,9 @@ module _ {b : Begin} {w₀ w : Words} {n count bound at word : ℕ} (i : Reading
           let d = i.due in
           let ds = i.dues in
           let q : length ds ≡ n - 1 = omega (arith, i.depth) in
-          let c : count < maxTokens = standing.number in
-          let wide' : pathAt ≤ length w = omega (arith, i.long) in
-          let laid : tokenSlot count + 1 < length (laidTokens b.tokens i.read w₀) = rw tokens-length (omega arith) in
+          let c : count < max_tokens = standing.number in
+          let wide' : path_at ≤ length w = omega (arith, i.long) in
+          let laid : token_slot count + 1 < length (laid_tokens b.tokens i.read w₀) = rw tokens-length (omega arith) in
           record {
             locals = binds d t i.locals;
             dues = opens at d t ++ ds;
@@ -181,13 +181,13 @@ module _ {b : Begin} {w₀ w : Words} {n count bound at word : ℕ} (i : Reading
             depth = opened.count at d ds means q;
             number = omega (arith, length-append i.read (t ∷ []), i.number);
             few = omega arith;
-            within = end-le inToken b.bytes at e is i.within;
+            within = end-le in_token b.bytes at e is i.within;
             long = opened.beside.long ∙ rw put (simp length-set i.long);
             set = bounds d i.locals means i.set;
             fits = fits-turn at d ds t standing.suits standing.room i.fits;
             stack = opened.stack at d ds means q (rw put
                 (stacked-same w (stored w count t) ds (λ j a b. other j (omega arith)) (stacked-rest w d ds i.stack)));
-            tops = subst (λ p. Tops w₂ (count + 1) p (opens at d t ++ ds)) (ap (λ s. wordAfter s at word) (sym means.sort) ∙ sym words)
+            tops = subst (λ p. Tops w₂ (count + 1) p (opens at d t ++ ds)) (ap (λ s. word_after s at word) (sym means.sort) ∙ sym words)
                 (tops-turn w w₂ count (count + 1) word at t (omega arith) last d ds standing.suits i.first i.later);
             table = rw (tokens-more i.read b.tokens t w₀, i.number) (beside-then (rw put (beside-stored count t laid i.table)) opened.beside);
             rest = λ D g.
@@ -195,7 +195,7 @@ module _ {b : Begin} {w₀ w : Words} {n count bound at word : ℕ} (i : Reading
                 rw (behind-here D g, token-here D g);
           }
         where
-          other : (j : ℕ) → duesAt ≤ j → get_or (stored w count t) j 0 ≡ get_or w j 0
+          other : (j : ℕ) → dues_at ≤ j → get_or (stored w count t) j 0 ≡ get_or w j 0
           other j a =
-              get_or-set_other (set w (tokenSlot count) t.code) (tokenSlot count + 1) j t.operand 0 (λ r. omega (arith, standing.number)) ∙
-              get_or-set_other w (tokenSlot count) j t.code 0 (λ r. omega (arith, standing.number))
+              get_or-set_other (set w (token_slot count) t.code) (token_slot count + 1) j t.operand 0 (λ r. omega (arith, standing.number)) ∙
+              get_or-set_other w (token_slot count) j t.code 0 (λ r. omega (arith, standing.number))

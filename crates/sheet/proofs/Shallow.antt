@@ -11,13 +11,13 @@ use borrow.Author.Tests.{ltb-true}
 use Rattle.specification.specs.Bytes.{space}
 use Rattle.specification.specs.Parser.{Reader, Parser, give, ◌>>=◌, ◌>>◌, mark}
 use Rattle.specification.specs.Lists.{Each}
-use Rattle.specification.specs.Lines.{Declared, procedureOf}
+use Rattle.specification.specs.Lines.{Declared, procedure_of}
 use Rattle.specification.specs.Ast.{Term, Formula, and, or, imp, eq, compare, some, all as every}
-use Rattle.specification.specs.Words.{FormulaWord, trueWord, andWord, orWord, impWord, notWord, eqWord, exWord, someWord, allWord, call_word, relWord, TermWord, constantWord, scalarWord, localWord, arrayWord, parameterWord, opWord, Word, formulaWord, termWord, numberWord, unknown, word_of, number_of}
-use Rattle.specification.specs.Formula.{Token, token, operand, Locals, has, binderOf, binderWith, binder, procedureWith, procedure, termOf, termWith, term, arguments, nonEmpty, formulaOf, formulaWith, formula}
+use Rattle.specification.specs.Words.{FormulaWord, true_word, and_word, or_word, imp_word, not_word, eq_word, ex_word, some_word, all_word, call_word, rel_word, TermWord, constant_word, scalar_word, local_word, array_word, parameter_word, op_word, Word, formula_word, term_word, number_word, unknown, word_of, number_of}
+use Rattle.specification.specs.Formula.{Token, token, operand, Locals, has, binder_of, binder_with, binder, procedure_with, procedure, term_of, term_with, term, arguments, non_empty, formula_of, formula_with, formula}
 use Rattle.specification.proofs.Laws.Parser.{Post, refusal, holds, bind-post, after, require-post, pick_post}
 use Rattle.specification.proofs.Laws.Lists.{each_map}
-use Rattle.tables.specs.Layout.{maxNesting, maxLocals, maxParameters}
+use Rattle.tables.specs.Layout.{max_nesting, max_locals, max_parameters}
 use Rattle.sheet.specs.Held.{height, Shallow}
 
 module _ {A : Type 0} {P : A → Reader → Type 0} (p : Parser A) (h : (r : Reader) → Post P (p r)) where
@@ -31,25 +31,25 @@ module _ (D : Declared) where
   Low k t r = height t ≤ k
 
   module _ (k : ℕ) (S : Locals) (p : Parser Term) (h : (r : Reader) → Post (Low k) (p r)) where
-    term_of : (q : ℕ) (w : TermWord) (r : Reader) → Post (Low (suc k)) (termOf D p S q w r)
+    term-of : (q : ℕ) (w : TermWord) (r : Reader) → Post (Low (suc k)) (term_of D p S q w r)
     unfolding height
-    term_of q (constantWord z) r = let h : 1 ≤ suc k = omega arith in holds h
-    term_of q (scalarWord n) r = let h : 1 ≤ suc k = omega arith in require-post (ltb n D.scalars) _ _ _ _ tt λ e. holds h
-    term_of q (localWord l) r =
+    term-of q (constant_word z) r = let h : 1 ≤ suc k = omega arith in holds h
+    term-of q (scalar_word n) r = let h : 1 ≤ suc k = omega arith in require-post (ltb n D.scalars) _ _ _ _ tt λ e. holds h
+    term-of q (local_word l) r =
         let h : 1 ≤ suc k = omega arith in
         require-post (ltb l D.locals) _ _ _ _ tt λ d. require-post (has l S) _ _ _ _ tt λ e. holds h
-    term_of q (parameterWord n) r = let h : 1 ≤ suc k = omega arith in require-post (ltb n D.parameters) _ _ _ _ tt λ e. holds h
-    term_of q (arrayWord a) r =
+    term-of q (parameter_word n) r = let h : 1 ≤ suc k = omega arith in require-post (ltb n D.parameters) _ _ _ _ tt λ e. holds h
+    term-of q (array_word a) r =
         require-post (ltb a (length D.arrays)) _ _ _ _ tt λ e.
         bind-post (operand-post p h r) λ i r₁ h₁. let e : suc (height i) ≤ suc k = omega (arith, h₁) in holds e
-    term_of q (opWord o) r =
+    term-of q (op_word o) r =
         bind-post (operand-post p h r) λ s r₁ h₁.
         bind-post (operand-post p h r₁) λ t r₂ h₂. let e : suc (max (height s) (height t)) ≤ suc k = omega (arith, h₁, h₂) in holds e
 
-    term-with : (t : Token) (w : Word) (r : Reader) → Post (Low (suc k)) (termWith D p S t w r)
-    term-with t (termWord w) r = term_of t.place w r
-    term-with t (formulaWord w) r = refusal tt
-    term-with t (numberWord n) r = refusal tt
+    term-with : (t : Token) (w : Word) (r : Reader) → Post (Low (suc k)) (term_with D p S t w r)
+    term-with t (term_word w) r = term-of t.place w r
+    term-with t (formula_word w) r = refusal tt
+    term-with t (number_word n) r = refusal tt
     term-with t unknown r = refusal tt
 
   term-low : (k : ℕ) (S : Locals) (r : Reader) → Post (Low k) (term D k S r)
@@ -64,20 +64,20 @@ module _ (D : Declared) where
   abbrev Small : ℕ → Reader → Type 0
   Small l r = l < D.locals
 
-  binder-of : (p : ℕ) (w : TermWord) (r : Reader) → Post Small (binderOf D p w r)
-  binder-of p (localWord l) r =
+  binder-of : (p : ℕ) (w : TermWord) (r : Reader) → Post Small (binder_of D p w r)
+  binder-of p (local_word l) r =
       require-post (ltb l D.locals) _ _ _ _ tt λ e.
       pick_post (has l r.bound) _ _ (λ b. refusal tt) (λ b. holds (ltb-true l D.locals e))
-  binder-of p (constantWord z) r = refusal tt
-  binder-of p (scalarWord n) r = refusal tt
-  binder-of p (arrayWord a) r = refusal tt
-  binder-of p (parameterWord n) r = refusal tt
-  binder-of p (opWord o) r = refusal tt
+  binder-of p (constant_word z) r = refusal tt
+  binder-of p (scalar_word n) r = refusal tt
+  binder-of p (array_word a) r = refusal tt
+  binder-of p (parameter_word n) r = refusal tt
+  binder-of p (op_word o) r = refusal tt
 
-  binder-with : (t : Token) (w : Word) (r : Reader) → Post Small (binderWith D t w r)
-  binder-with t (termWord w) r = binder-of t.place w r
-  binder-with t (formulaWord w) r = refusal tt
-  binder-with t (numberWord n) r = refusal tt
+  binder-with : (t : Token) (w : Word) (r : Reader) → Post Small (binder_with D t w r)
+  binder-with t (term_word w) r = binder-of t.place w r
+  binder-with t (formula_word w) r = refusal tt
+  binder-with t (number_word n) r = refusal tt
   binder-with t unknown r = refusal tt
 
   binder-small : (k : ℕ) (r : Reader) → Post Small (binder D k r)
@@ -101,10 +101,10 @@ module _ (D : Declared) where
   abbrev Earlier : ℕ → Reader → Type 0
   Earlier K r = K < length D.procedures
 
-  procedure-with : (t : Token) (w : Word) (r : Reader) → Post Earlier (procedureWith D t w r)
-  procedure-with t (numberWord K) r = require-post (ltb K (length D.procedures)) _ _ _ _ tt λ e. holds (ltb-true K _ e)
-  procedure-with t (formulaWord w) r = refusal tt
-  procedure-with t (termWord w) r = refusal tt
+  procedure-with : (t : Token) (w : Word) (r : Reader) → Post Earlier (procedure_with D t w r)
+  procedure-with t (number_word K) r = require-post (ltb K (length D.procedures)) _ _ _ _ tt λ e. holds (ltb-true K _ e)
+  procedure-with t (formula_word w) r = refusal tt
+  procedure-with t (term_word w) r = refusal tt
   procedure-with t unknown r = refusal tt
 
   procedure-earlier : (k : ℕ) (r : Reader) → Post Earlier (procedure D k r)
@@ -118,8 +118,8 @@ module _ (D : Declared) where
     abbrev Flat : Formula → Reader → Type 0
     Flat F r = Shallow m F
 
-  module _ (refusing : Bool) (m : ℕ) (all : length D.procedures ≤ m) (each : (K : ℕ) → (procedureOf D K).parameters ≤ maxParameters)
-      (few : D.locals ≤ maxLocals) (k : ℕ) (deep : k ≤ maxNesting) (ih : (S : Locals) (r : Reader) → Post (Flat m) (formula refusing D k S r))
+  module _ (refusing : Bool) (m : ℕ) (all : length D.procedures ≤ m) (each : (K : ℕ) → (procedure_of D K).parameters ≤ max_parameters)
+      (few : D.locals ≤ max_locals) (k : ℕ) (deep : k ≤ max_nesting) (ih : (S : Locals) (r : Reader) → Post (Flat m) (formula refusing D k S r))
       (S : Locals) where
     abbrev sub : Locals → Parser Formula
     sub S' r = formula refusing D k S' r
@@ -139,51 +139,51 @@ module _ (D : Declared) where
         bind-post (operand-post (sub S) (ih S) r) λ f r₁ h₁.
         bind-post (operand-post (sub S) (ih S) r₁) λ h r₂ h₂. holds (ok f h h₁ h₂)
 
-    two-terms : (g : Term → Term → Formula) → ((s t : Term) → height s ≤ maxNesting → height t ≤ maxNesting → Shallow m (g s t)) → (r : Reader) →
+    two-terms : (g : Term → Term → Formula) → ((s t : Term) → height s ≤ max_nesting → height t ≤ max_nesting → Shallow m (g s t)) → (r : Reader) →
         Post (Flat m) ((operand side >>= λ s. operand side >>= λ t. give (g s t)) r)
     two-terms g ok r =
         bind-post (operand-post side (term-low k S) r) λ s r₁ h₁.
         bind-post (operand-post side (term-low k S) r₁) λ t r₂ h₂. holds (ok s t (omega (arith, h₁)) (omega (arith, h₂)))
 
     quantified : (p : ℕ) (g : ℕ → Term → Term → Formula → Formula) →
-        ((l : ℕ) (a b : Term) (F : Formula) → height a ≤ maxNesting → height b ≤ maxNesting → l < maxLocals → Shallow m F → Shallow m (g l a b F)) → (r : Reader) →
-        Post (Flat m) ((operand local >>= λ l. operand side >>= λ a. operand side >>= λ b. nonEmpty refusing p a b >>
+        ((l : ℕ) (a b : Term) (F : Formula) → height a ≤ max_nesting → height b ≤ max_nesting → l < max_locals → Shallow m F → Shallow m (g l a b F)) → (r : Reader) →
+        Post (Flat m) ((operand local >>= λ l. operand side >>= λ a. operand side >>= λ b. non_empty refusing p a b >>
         (operand (sub (l ∷ S)) >>= λ f. give (g l a b f))) r)
     quantified p g ok r =
         bind-post (operand-post local (binder-small k) r) λ l r₁ h₁.
         bind-post (operand-post side (term-low k S) r₁) λ a r₂ h₂.
         bind-post (operand-post side (term-low k S) r₂) λ b r₃ h₃.
-        after (nonEmpty refusing p a b r₃) λ u r₄.
+        after (non_empty refusing p a b r₃) λ u r₄.
         bind-post (operand-post (sub (l ∷ S)) (ih (l ∷ S)) r₄) λ f r₅ h₅.
         holds (ok l a b f (omega (arith, h₂)) (omega (arith, h₃)) (omega (arith, h₁)) h₅)
 
-    formula-of : (p n : ℕ) (w : FormulaWord) (r : Reader) → Post (Flat m) (formulaOf refusing D sub side local number S p n w r)
-    formula-of p n trueWord r = holds tt
-    formula-of p n andWord r = two-formulas and (λ F G a b. (a, b)) r
-    formula-of p n orWord r = two-formulas or (λ F G a b. (a, b)) r
-    formula-of p n impWord r = two-formulas (imp n) (λ F G a b. (a, b)) r
-    formula-of p n notWord r = bind-post (operand-post (sub S) (ih S) r) λ f r₁ h. holds h
-    formula-of p n eqWord r = two-terms (eq n) (λ s t a b. (a, b)) r
-    formula-of p n (relWord c) r = two-terms (compare n c) (λ s t a b. (a, b)) r
-    formula-of p n exWord r =
+    formula-of : (p n : ℕ) (w : FormulaWord) (r : Reader) → Post (Flat m) (formula_of refusing D sub side local number S p n w r)
+    formula-of p n true_word r = holds tt
+    formula-of p n and_word r = two-formulas and (λ F G a b. (a, b)) r
+    formula-of p n or_word r = two-formulas or (λ F G a b. (a, b)) r
+    formula-of p n imp_word r = two-formulas (imp n) (λ F G a b. (a, b)) r
+    formula-of p n not_word r = bind-post (operand-post (sub S) (ih S) r) λ f r₁ h. holds h
+    formula-of p n eq_word r = two-terms (eq n) (λ s t a b. (a, b)) r
+    formula-of p n (rel_word c) r = two-terms (compare n c) (λ s t a b. (a, b)) r
+    formula-of p n ex_word r =
         bind-post (operand-post local (binder-small k) r) λ l r₁ h₁.
         bind-post (operand-post (sub (l ∷ S)) (ih (l ∷ S)) r₁) λ f r₂ h₂. holds (omega (arith, h₁), h₂)
-    formula-of p n someWord r = quantified p (some n) (λ l a b F x y z h. (x, y, z, h)) r
-    formula-of p n allWord r = quantified p (every n) (λ l a b F x y z h. (x, y, z, h)) r
+    formula-of p n some_word r = quantified p (some n) (λ l a b F x y z h. (x, y, z, h)) r
+    formula-of p n all_word r = quantified p (every n) (λ l a b F x y z h. (x, y, z, h)) r
     formula-of p n call_word r =
         bind-post (operand-post number (procedure-earlier k) r) λ K r₁ h₁.
-        bind-post (arguments-low k S (procedureOf D K).parameters r₁) λ ts r₂ h₂.
+        bind-post (arguments-low k S (procedure_of D K).parameters r₁) λ ts r₂ h₂.
         holds (omega (arith, h₁), omega (arith, h₂.0, each K), each_map (λ t h. omega (arith, h)) ts h₂.1)
 
-    formula-with : (t : Token) (w : Word) (r : Reader) → Post (Flat m) (formulaWith refusing D sub side local number S t w r)
-    formula-with t (formulaWord w) r = formula-of t.place t.number w r
-    formula-with t (termWord w) r = refusal tt
-    formula-with t (numberWord n) r = refusal tt
+    formula-with : (t : Token) (w : Word) (r : Reader) → Post (Flat m) (formula_with refusing D sub side local number S t w r)
+    formula-with t (formula_word w) r = formula-of t.place t.number w r
+    formula-with t (term_word w) r = refusal tt
+    formula-with t (number_word n) r = refusal tt
     formula-with t unknown r = refusal tt
 
-  pub formula-shallow : (refusing : Bool) (m : ℕ) → length D.procedures ≤ m → ((K : ℕ) → (procedureOf D K).parameters ≤ maxParameters) →
-      D.locals ≤ maxLocals →
-      (k : ℕ) → k ≤ maxNesting → (S : Locals) (r : Reader) → Post (Flat m) (formula refusing D k S r)
+  pub formula-shallow : (refusing : Bool) (m : ℕ) → length D.procedures ≤ m → ((K : ℕ) → (procedure_of D K).parameters ≤ max_parameters) →
+      D.locals ≤ max_locals →
+      (k : ℕ) → k ≤ max_nesting → (S : Locals) (r : Reader) → Post (Flat m) (formula refusing D k S r)
   unfolding formula
   formula-shallow refusing m all each few zero deep S r = refusal tt
   formula-shallow refusing m all each few (suc k) deep S r =

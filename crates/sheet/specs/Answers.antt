@@ -10,15 +10,15 @@ use Rattle.sheet.specs.declared.lines.Count.{Count}
 use Rattle.sheet.specs.declared.lines.Index.TheVariants as index
 use Rattle.sheet.specs.declared.lines.Integer.TheVariants as integer
 use Rattle.sheet.specs.declared.lines.Count.TheVariants as count
-use Rattle.sheet.specs.Codes.{indexWord}
+use Rattle.sheet.specs.Codes.{index_word}
 use Rattle.sheet.specs.Reader.{line_at}
 
 -- ---- numbers
 
 -- a key, a number within limits, and a byte of the class: with a line feed a line with one number, with a colon a procedure's line up to its
 -- formula
-abbrev pub numberTo : Bytes → ℕ → ℕ → Class → Parser ℕ
-numberTo k lo hi c = key k >> (count lo hi >>= λ n. mark c >> give n)
+abbrev pub number_to : Bytes → ℕ → ℕ → Class → Parser ℕ
+number_to k lo hi c = key k >> (count lo hi >>= λ n. mark c >> give n)
 
 -- what was read, made into another thing
 abbrev pub mapped : {A B : Type 0} → (A → B) → Read A → Read B
@@ -26,22 +26,22 @@ mapped f (refused k p) = refused k p
 mapped f (found a r) = found (f a) r
 
 -- an index that is too large for a word is not declared, so the largest word stands for it
-abbrev pub heldIndex : Read ℕ → Read ℕ
-heldIndex r = mapped indexWord r
+abbrev pub held_index : Read ℕ → Read ℕ
+held_index r = mapped index_word r
 
-abbrev pub indexRead : Bytes → Index → Read ℕ
-indexRead s (index.Refused k p) = refused k p
-indexRead s (index.Is n e) = found n (line_at s e)
+abbrev pub index_read : Bytes → Index → Read ℕ
+index_read s (index.Refused k p) = refused k p
+index_read s (index.Is n e) = found n (line_at s e)
 
-abbrev pub integerRead : Bytes → Integer → Read ℤ
-integerRead s (integer.Refused k p) = refused k p
-integerRead s (integer.Is w e) = found (signed w) (line_at s e)
+abbrev pub integer_read : Bytes → Integer → Read ℤ
+integer_read s (integer.Refused k p) = refused k p
+integer_read s (integer.Is w e) = found (signed w) (line_at s e)
 
 -- what was read lies within the sheet
 abbrev pub Inside : Bytes → Count → Type 0
 Inside s (count.Refused k p) = Unit {0}
 Inside s (count.Is n e) = e ≤ length s
 
-abbrev pub countRead : Bytes → Count → Read ℕ
-countRead s (count.Refused k p) = refused k p
-countRead s (count.Is n e) = found n (line_at s e)
+abbrev pub count_read : Bytes → Count → Read ℕ
+count_read s (count.Refused k p) = refused k p
+count_read s (count.Is n e) = found n (line_at s e)

@@ -7,9 +7,9 @@ use Rattle.sheet.specs.Tables.{Words, after}
 use Rattle.sheet.specs.Held.{code_at, operand_at, end_at}
 
 -- n tokens, from the i-th on
-unfoldable pub tokensIn : Words → ℕ → ℕ → List Token
-tokensIn w i zero = []
-tokensIn w i (suc n) = token (code_at w i) (operand_at w i) ∷ tokensIn w (suc i) n
+unfoldable pub tokens_in : Words → ℕ → ℕ → List Token
+tokens_in w i zero = []
+tokens_in w i (suc n) = token (code_at w i) (operand_at w i) ∷ tokens_in w (suc i) n
 
 -- the number of the token after the subtree of token i
 unfoldable pub end_in : List Token → ℕ → ℕ
@@ -17,8 +17,8 @@ end_in ts i = length ts - length (after (drop i ts) 1)
 
 -- the ends of the n tokens after the i-th are in the table
 abbrev pub EndsAfter : Words → ℕ → ℕ → Type 0
-EndsAfter w n i = (j : ℕ) → i < j → j < n → end_at w j ≡ end_in (tokensIn w 0 n) j
+EndsAfter w n i = (j : ℕ) → i < j → j < n → end_at w j ≡ end_in (tokens_in w 0 n) j
 
 -- the end of token e's subtree from the table, n where there is no such token
-abbrev pub endFrom : Words → ℕ → ℕ → ℕ
-endFrom w n e = pick (ltb e n) (end_at w e) n
+abbrev pub end_from : Words → ℕ → ℕ → ℕ
+end_from w n e = pick (ltb e n) (end_at w e) n

@@ -3,11 +3,11 @@
 use Rattle.std.specs.Prelude.{ℕ, ◌+◌, ◌≤◌, ◌<◌, ◌≡◌, Bool, List, [], ◌++◌, length, replicate, eqb, ltb}
 use Rattle.specification.specs.Bytes.{Bytes, bytes, pick, feed}
 use Rattle.specification.specs.Parser.{Reader, Read, refused, found, Parser, give, ◌>>=◌, ◌>>◌, mark, key, finish}
-use Rattle.specification.specs.Lines.{Declared, procedureOf}
+use Rattle.specification.specs.Lines.{Declared, procedure_of}
 use Rattle.specification.specs.Ast.{truth, Formula}
 use Rattle.specification.specs.Formula.{Locals, formula}
 use Rattle.specification.specs.Sheet.{refuses}
-use Rattle.tables.specs.Layout.{maxTokens, maxScalars, maxLocals, maxArrays, maxNesting, maxProcs, maxParameters, parametersAt}
+use Rattle.tables.specs.Layout.{max_tokens, max_scalars, max_locals, max_arrays, max_nesting, max_procs, max_parameters, parameters_at}
 use Rattle.sheet.specs.declared.Token.{Token}
 use Rattle.sheet.specs.declared.stack.Entry.{Entry}
 use Rattle.sheet.specs.declared.formula.Limits.{Limits}
@@ -15,38 +15,38 @@ use Rattle.sheet.specs.declared.formula.Parsed.{Parsed}
 use Rattle.sheet.specs.declared.formula.Parsed.TheVariants as parsed
 use Rattle.sheet.specs.declared.formula.Scanned.{Scanned}
 use Rattle.sheet.specs.declared.formula.Scanned.TheVariants as scanned
-use Rattle.sheet.specs.Codes.{formulaTokens}
-use Rattle.sheet.specs.Reader.{readerAt}
-use Rattle.sheet.specs.Dues.{Due, dueFormula, leftHere}
-use Rattle.sheet.specs.Turn.{Limited, room, faultOf, binds, word_for, tokenIn}
-use Rattle.sheet.specs.Tables.{Words, laidTokens, laidEnds}
-use Rattle.sheet.specs.Ends.{tokensIn}
-use Rattle.sheet.specs.Stack.{Bits, sortOf, Means, Beside}
+use Rattle.sheet.specs.Codes.{formula_tokens}
+use Rattle.sheet.specs.Reader.{reader_at}
+use Rattle.sheet.specs.Dues.{Due, due_formula, left_here}
+use Rattle.sheet.specs.Turn.{Limited, room, fault_of, binds, word_for, token_in}
+use Rattle.sheet.specs.Tables.{Words, laid_tokens, laid_ends}
+use Rattle.sheet.specs.Ends.{tokens_in}
+use Rattle.sheet.specs.Stack.{Bits, sort_of, Means, Beside}
 
 -- a formula and the line feed after it
-unfoldable pub lineFormula : Bool → Declared → Parser Formula
-lineFormula refusing D = formula refusing D maxNesting [] >>= λ F. mark feed >> give F
+unfoldable pub line_formula : Bool → Declared → Parser Formula
+line_formula refusing D = formula refusing D max_nesting [] >>= λ F. mark feed >> give F
 
 -- the sheet from the formula's line on
-unfoldable pub formulaRest : Bool → Declared → Parser Formula
-formulaRest refusing D = key (bytes "formula=") >> (lineFormula refusing D >>= λ F. finish >> give F)
+unfoldable pub formula_rest : Bool → Declared → Parser Formula
+formula_rest refusing D = key (bytes "formula=") >> (line_formula refusing D >>= λ F. finish >> give F)
 
 -- ---- what is declared, by its numbers
 
 -- whether empty ranges are refused
-abbrev pub refusesIn : Limits → Bool
-refusesIn d = refuses d.strict d.edition
+abbrev pub refuses_in : Limits → Bool
+refuses_in d = refuses d.strict d.edition
 
 -- within the documents' limits
 pub record Small (d : Limits) : Type 0 where
-  pub scalars : d.scalars ≤ maxScalars
-  pub locals : d.locals ≤ maxLocals
-  pub arrays : d.arrays ≤ maxArrays
-  pub procedures : d.procedures ≤ maxProcs
+  pub scalars : d.scalars ≤ max_scalars
+  pub locals : d.locals ≤ max_locals
+  pub arrays : d.arrays ≤ max_arrays
+  pub procedures : d.procedures ≤ max_procs
 
 -- no procedure in the words has more than eight parameters
 abbrev pub Sized : Limits → Words → Type 0
-Sized d w = (K : ℕ) → K < d.procedures → parametersAt w K ≤ maxParameters
+Sized d w = (K : ℕ) → K < d.procedures → parameters_at w K ≤ max_parameters
 
 -- the numbers are those of what is declared
 pub record Counts (d : Limits) (D : Declared) : Type 0 where
@@ -61,7 +61,7 @@ pub record Counts (d : Limits) (D : Declared) : Type 0 where
 -- and the words have each procedure's number of parameters
 pub record Known (d : Limits) (w : Words) (D : Declared) : Type 0 where
   pub counts : Counts d D
-  pub supplied : (K : ℕ) → K < d.procedures → parametersAt w K ≡ (procedureOf D K).parameters
+  pub supplied : (K : ℕ) → K < d.procedures → parameters_at w K ≡ (procedure_of D K).parameters
 
 -- a declaration with these numbers: a token's refusal depends on no more
 abbrev pub counted : Limits → Declared
@@ -79,15 +79,15 @@ counted d = record {
 
 -- t is the token that the bytes spell where something of this sort is due
 abbrev pub Spells : Bytes → ℕ → Limits → Words → Token → Type 0
-Spells bs sort l w t = (D : Declared) (d : Due) → Known l w D → sort ≡ sortOf d → t ≡ tokenIn D d (word_for D d bs)
+Spells bs sort l w t = (D : Declared) (d : Due) → Known l w D → sort ≡ sort_of d → t ≡ token_in D d (word_for D d bs)
 
 -- its refusal where d is due: 9 where it nests too deep or is the 1,025th, then its own
-abbrev pub refusalOf : Limits → Due → Locals → ℕ → Token → ℕ
-refusalOf l d B n t = pick (eqb (room d) 0) 9 (pick (ltb n maxTokens) (faultOf (counted l) d B t) 9)
+abbrev pub refusal_of : Limits → Due → Locals → ℕ → Token → ℕ
+refusal_of l d B n t = pick (eqb (room d) 0) 9 (pick (ltb n max_tokens) (fault_of (counted l) d B t) 9)
 
 -- k is its refusal where the entry is due, and the set of locals have a binder
 abbrev pub Refuses : Limits → Entry → ℕ → ℕ → Token → ℕ → Type 0
-Refuses l e m n t k = (d : Due) (B : Locals) → Means e d → Bits m B → k ≡ refusalOf l d B n t
+Refuses l e m n t k = (d : Due) (B : Locals) → Means e d → Bits m B → k ≡ refusal_of l d B n t
 
 -- m' are the locals that have a binder after it
 abbrev pub Binds : Entry → Token → ℕ → ℕ → Type 0
@@ -108,27 +108,27 @@ abbrev pub begin : Bytes → Limits → ℕ → ℕ → Locals → Begin
 begin s l p n B = record { bytes = s; limits = l; from = p; tokens = n; bound = B }
 
 -- whether empty ranges are refused there
-abbrev pub refusingAt : Begin → Bool
-refusingAt b = refusesIn b.limits
+abbrev pub refusing_at : Begin → Bool
+refusing_at b = refuses_in b.limits
 
 -- the reader there
-abbrev pub atBegin : Begin → Reader
-atBegin b = readerAt b.bytes b.from b.tokens b.bound
+abbrev pub at_begin : Begin → Reader
+at_begin b = reader_at b.bytes b.from b.tokens b.bound
 
 -- the reading of the formula from there on
 abbrev pub whole : Begin → Declared → Read (List Token)
-whole b D = leftHere (refusingAt b) D (dueFormula maxNesting []) [] [] (atBegin b)
+whole b D = left_here (refusing_at b) D (due_formula max_nesting []) [] [] (at_begin b)
 
 -- it was read up to the place e: n tokens were read then, and the set m of locals have a binder
 pub record Through (b : Begin) (w w' : Words) (n e m : ℕ) : Type 0 where
   pub tokens : List Token
   pub locals : Locals
   pub count : b.tokens + length tokens ≡ n
-  pub few : n ≤ maxTokens
+  pub few : n ≤ max_tokens
   pub within : e ≤ length b.bytes
   pub set : Bits m locals
-  pub words : Beside (laidTokens b.tokens tokens w) w'
-  pub all : (D : Declared) → Known b.limits w D → whole b D ≡ found tokens (readerAt b.bytes e n locals)
+  pub words : Beside (laid_tokens b.tokens tokens w) w'
+  pub all : (D : Declared) → Known b.limits w D → whole b D ≡ found tokens (reader_at b.bytes e n locals)
 
 abbrev pub Scans : Begin → Words → Words → Scanned → Type 0
 Scans b w w' (scanned.Refused k p) = (length w' ≡ length w) × ((D : Declared) → Known b.limits w D → whole b D ≡ refused k p)
@@ -140,33 +140,33 @@ Scans b w w' (scanned.Read n e m) = Through b w w' n e m
 pub record Closed (b : Begin) (D : Declared) (w w' : Words) (n e m : ℕ) : Type 0 where
   pub formula : Formula
   pub locals : Locals
-  pub is : lineFormula (refusingAt b) D (atBegin b) ≡ found formula (readerAt b.bytes e n locals)
-  pub count : b.tokens + length (formulaTokens formula) ≡ n
-  pub few : n ≤ maxTokens
+  pub is : line_formula (refusing_at b) D (at_begin b) ≡ found formula (reader_at b.bytes e n locals)
+  pub count : b.tokens + length (formula_tokens formula) ≡ n
+  pub few : n ≤ max_tokens
   pub within : e ≤ length b.bytes
   pub set : Bits m locals
-  pub words : Beside (laidTokens b.tokens (formulaTokens formula) w) w'
+  pub words : Beside (laid_tokens b.tokens (formula_tokens formula) w) w'
 
 -- no token and no byte was read beyond the last
 abbrev pub Within : Bytes → Scanned → Type 0
 Within s (scanned.Refused k p) = Unit {0}
-Within s (scanned.Read n e m) = (n ≤ maxTokens) × (e ≤ length s)
+Within s (scanned.Read n e m) = (n ≤ max_tokens) × (e ≤ length s)
 
 abbrev pub Closes : Begin → Declared → Words → Words → Scanned → Type 0
-Closes b D w w' (scanned.Refused k p) = (lineFormula (refusingAt b) D (atBegin b) ≡ refused k p) × (length w' ≡ length w)
+Closes b D w w' (scanned.Refused k p) = (line_formula (refusing_at b) D (at_begin b) ≡ refused k p) × (length w' ≡ length w)
 Closes b D w w' (scanned.Read n e m) = Closed b D w w' n e m
 
 -- the formula's line was read, and the table has n tokens: those before it, and its own
 pub record Laid (b : Begin) (D : Declared) (w w' : Words) (n : ℕ) : Type 0 where
   pub formula : Formula
   pub after : Reader
-  pub is : formulaRest (refusingAt b) D (atBegin b) ≡ found formula after
-  pub count : b.tokens + length (formulaTokens formula) ≡ n
-  pub few : n ≤ maxTokens
+  pub is : formula_rest (refusing_at b) D (at_begin b) ≡ found formula after
+  pub count : b.tokens + length (formula_tokens formula) ≡ n
+  pub few : n ≤ max_tokens
   pub long : length w' ≡ length w
   pub words :
-      Beside (laidEnds 0 (tokensIn w 0 b.tokens ++ formulaTokens formula) (laidTokens b.tokens (formulaTokens formula) w)) w'
+      Beside (laid_ends 0 (tokens_in w 0 b.tokens ++ formula_tokens formula) (laid_tokens b.tokens (formula_tokens formula) w)) w'
 
 abbrev pub LineRead : Begin → Declared → Words → Words → Parsed → Type 0
-LineRead b D w w' (parsed.Refused k p) = (formulaRest (refusingAt b) D (atBegin b) ≡ refused k p) × (length w' ≡ length w)
+LineRead b D w w' (parsed.Refused k p) = (formula_rest (refusing_at b) D (at_begin b) ≡ refused k p) × (length w' ≡ length w)
 LineRead b D w w' (parsed.Read n) = Laid b D w w' n

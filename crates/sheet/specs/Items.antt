@@ -4,9 +4,9 @@ use Rattle.std.specs.Prelude.{ℕ, ◌+◌, ◌≤◌, ◌<◌, ◌≡◌, List,
 use Rattle.specification.specs.Bytes.{Bytes, pick, feed, colon, point}
 use Rattle.specification.specs.Parser.{Read, refused, found, Parser, give, refuse, require, next, mark, ◌>>=◌, ◌>>◌}
 use Rattle.specification.specs.Lines.{index, value, Declared, cells, CellName, scalar, element}
-use Rattle.specification.specs.Given.{Item, items, givenLine}
+use Rattle.specification.specs.Given.{Item, items, given_line}
 use Rattle.values.specs.Word.{biased, signed}
-use Rattle.tables.specs.Layout.{maxArrays, maxCells, first_at, value_at}
+use Rattle.tables.specs.Layout.{max_arrays, max_cells, first_at, value_at}
 use Rattle.tables.specs.Ranges.{allows}
 use Rattle.sheet.specs.declared.given.Name.{Name}
 use Rattle.sheet.specs.declared.given.Name.TheVariants as names
@@ -16,38 +16,38 @@ use Rattle.sheet.specs.declared.given.Entry.{Entry}
 use Rattle.sheet.specs.declared.given.Entry.TheVariants as entry
 use Rattle.sheet.specs.declared.given.Given.{Given}
 use Rattle.sheet.specs.declared.given.Given.TheVariants as given
-use Rattle.sheet.specs.Codes.{indexWord}
+use Rattle.sheet.specs.Codes.{index_word}
 use Rattle.sheet.specs.Reader.{line_at}
-use Rattle.sheet.specs.Tables.{Words, mark_of, laidGiven}
+use Rattle.sheet.specs.Tables.{Words, mark_of, laid_given}
 use Rattle.sheet.specs.Held.{ArraysAt, RangesAt}
-use Rattle.sheet.specs.Answers.{mapped, heldIndex}
+use Rattle.sheet.specs.Answers.{mapped, held_index}
 
 -- ---- names
 
-abbrev pub heldName : CellName → CellName
-heldName (scalar n) = scalar (indexWord n)
-heldName (element a i) = element (indexWord a) (indexWord i)
+abbrev pub held_name : CellName → CellName
+held_name (scalar n) = scalar (index_word n)
+held_name (element a i) = element (index_word a) (index_word i)
 
-abbrev pub heldNames : Read CellName → Read CellName
-heldNames r = mapped heldName r
+abbrev pub held_names : Read CellName → Read CellName
+held_names r = mapped held_name r
 
 -- the element of an array, after the array's index
-unfoldable pub elementAfter : ℕ → Parser CellName
-elementAfter a = mark point >> λ r. mapped (λ i. element a i) (heldIndex (index r))
+unfoldable pub element_after : ℕ → Parser CellName
+element_after a = mark point >> λ r. mapped (λ i. element a i) (held_index (index r))
 
-abbrev pub nameRead : Bytes → Name → Read CellName
-nameRead s (names.Refused k p) = refused k p
-nameRead s (names.Scalar n e) = found (scalar n) (line_at s e)
-nameRead s (names.Element a i e) = found (element a i) (line_at s e)
+abbrev pub name_read : Bytes → Name → Read CellName
+name_read s (names.Refused k p) = refused k p
+name_read s (names.Scalar n e) = found (scalar n) (line_at s e)
+name_read s (names.Element a i e) = found (element a i) (line_at s e)
 
 -- ---- cells
 
-unfoldable pub scalarIn : ℕ → ℕ → Cell
-scalarIn scalars n = pick (ltb n scalars) (cell.Is n) cell.Undeclared
+unfoldable pub scalar_in : ℕ → ℕ → Cell
+scalar_in scalars n = pick (ltb n scalars) (cell.Is n) cell.Undeclared
 
 -- by the first cells in the words
-unfoldable pub elementIn : ℕ → Words → ℕ → ℕ → Cell
-elementIn arrays w a i =
+unfoldable pub element_in : ℕ → Words → ℕ → ℕ → Cell
+element_in arrays w a i =
     pick (ltb a arrays)
     (pick (ltb (first_at w a + i) (first_at w (a + 1))) (cell.Is (first_at w a + i)) cell.Undeclared)
     cell.Undeclared
@@ -60,7 +60,7 @@ item_of c z = record { cell = c; value = z }
 -- a cell within the limit
 abbrev pub Below : Cell → Type 0
 Below cell.Undeclared = Unit {0}
-Below (cell.Is c) = c < maxCells
+Below (cell.Is c) = c < max_cells
 
 -- 7 at the item's place, then 10, then 13 by the cell's mark
 abbrev pub judged : ℕ → ℕ → Words → Cell → ℤ → Parser Item
@@ -68,20 +68,20 @@ judged p floor w cell.Undeclared z = refuse 7 p
 judged p floor w (cell.Is c) z = require (leb floor c) 10 p (require (allows w (value_at w c) (biased z)) 13 p (give (item_of c z)))
 
 -- the rest of an item after its name
-unfoldable pub afterName : ℕ → ℕ → Words → Cell → Parser Item
-afterName p floor w c = mark colon >> (value >>= judged p floor w c)
+unfoldable pub after_name : ℕ → ℕ → Words → Cell → Parser Item
+after_name p floor w c = mark colon >> (value >>= judged p floor w c)
 
-abbrev pub entryRead : Bytes → Entry → Read Item
-entryRead s (entry.Refused k p) = refused k p
-entryRead s (entry.Is c z e) = found (item_of c (signed z)) (line_at s e)
+abbrev pub entry_read : Bytes → Entry → Read Item
+entry_read s (entry.Refused k p) = refused k p
+entry_read s (entry.Is c z e) = found (item_of c (signed z)) (line_at s e)
 
 -- ---- the words have the arrays of a sheet
 
 pub record Declares (D : Declared) (scalars arrays : ℕ) (w : Words) : Type 0 where
   pub scalar : D.scalars ≡ scalars
   pub many : length D.arrays ≡ arrays
-  pub few : arrays ≤ maxArrays
-  pub small : cells D ≤ maxCells
+  pub few : arrays ≤ max_arrays
+  pub small : cells D ≤ max_cells
   pub held : ArraysAt w D
 
 pub record Arranged (scalars arrays : ℕ) (w : Words) : Type 0 where
@@ -101,23 +101,23 @@ pub record Furnished (scalars arrays : ℕ) (w : Words) : Type 0 where
 -- ---- the line's answer
 
 -- the words after the items that were read
-abbrev pub laidItems : Words → Read (List Item) → Read Words
-laidItems w r = mapped (λ is. laidGiven is w) r
+abbrev pub laid_items : Words → Read (List Item) → Read Words
+laid_items w r = mapped (λ is. laid_given is w) r
 
-abbrev pub givenRead : Bytes → Given → Words → Read Words
-givenRead s (given.Refused k p) w = refused k p
-givenRead s (given.Read e) w = found w (line_at s e)
+abbrev pub given_read : Bytes → Given → Words → Read Words
+given_read s (given.Refused k p) w = refused k p
+given_read s (given.Read e) w = found w (line_at s e)
 
 -- the line's value: empty, or items
-abbrev pub givenValue : Declared → Parser (List Item)
-givenValue D r = pick (next feed r.rest) (give []) (items D maxCells 0) r
+abbrev pub given_value : Declared → Parser (List Item)
+given_value D r = pick (next feed r.rest) (give []) (items D max_cells 0) r
 
 -- the items that were read, which lie in the words w'
 pub record GivenFound (D : Declared) (s : Bytes) (at : ℕ) (w w' : Words) (e : ℕ) : Type 0 where
   pub items : List Item
-  pub read : givenLine D (line_at s at) ≡ found items (line_at s e)
-  pub laid : w' ≡ laidGiven items w
+  pub read : given_line D (line_at s at) ≡ found items (line_at s e)
+  pub laid : w' ≡ laid_given items w
 
 abbrev pub GivenDone : Declared → Bytes → ℕ → Words → Words → Given → Type 0
-GivenDone D s at w w' (given.Refused k p) = (givenLine D (line_at s at) ≡ refused k p) × (length w' ≡ length w)
+GivenDone D s at w w' (given.Refused k p) = (given_line D (line_at s at) ≡ refused k p) × (length w' ≡ length w)
 GivenDone D s at w w' (given.Read e) = GivenFound D s at w w' e

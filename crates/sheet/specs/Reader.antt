@@ -5,9 +5,9 @@ use Rattle.specification.specs.Parser.{Reader}
 use Rattle.specification.specs.Formula.{Locals}
 
 -- after so many tokens, with these locals bound
-abbrev pub readerAt : Bytes → ℕ → ℕ → Locals → Reader
-readerAt s at n B = record { place = at; rest = drop at s; tokens = n; bound = B }
+abbrev pub reader_at : Bytes → ℕ → ℕ → Locals → Reader
+reader_at s at n B = record { place = at; rest = drop at s; tokens = n; bound = B }
 
 -- in the first five lines
 abbrev pub line_at : Bytes → ℕ → Reader
-line_at s at = readerAt s at 0 []
+line_at s at = reader_at s at 0 []

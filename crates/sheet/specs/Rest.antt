@@ -3,58 +3,58 @@
 use Rattle.std.specs.Prelude.{ℕ, zero, suc, ◌+◌, Bool, List, [], ◌∷◌, ◌++◌, length, eqb}
 use Rattle.specification.specs.Bytes.{bytes, feed, pick}
 use Rattle.specification.specs.Parser.{Parser, and_then, give, ◌>>=◌, ◌>>◌, mark, key, finish}
-use Rattle.specification.specs.Lines.{line, Range, Declared, arraysLine, rangesLine}
-use Rattle.specification.specs.Given.{Item, givenLine}
+use Rattle.specification.specs.Lines.{line, Range, Declared, arrays_line, ranges_line}
+use Rattle.specification.specs.Given.{Item, given_line}
 use Rattle.specification.specs.Ast.{Formula}
 use Rattle.specification.specs.Formula.{formula}
-use Rattle.specification.specs.Sheet.{withParameters, withProcedures, procedureLines, mostProcedures, Sheet, beginning, refuses}
-use Rattle.tables.specs.Layout.{maxScalars, maxLocals, maxNesting}
+use Rattle.specification.specs.Sheet.{with_parameters, with_procedures, procedure_lines, most_procedures, Sheet, beginning, refuses}
+use Rattle.tables.specs.Layout.{max_scalars, max_locals, max_nesting}
 use Rattle.sheet.specs.declared.formula.Limits.{Limits}
-use Rattle.sheet.specs.FormulaLine.{lineFormula, formulaRest}
+use Rattle.sheet.specs.FormulaLine.{line_formula, formula_rest}
 
-abbrev pub sheetOf : Declared → List Item → Formula → Sheet
-sheetOf D is F = record { declared = D; given = is; formula = F }
+abbrev pub sheet_of : Declared → List Item → Formula → Sheet
+sheet_of D is F = record { declared = D; given = is; formula = F }
 
 -- from the formula on
-abbrev pub fromFormula : Bool → Declared → List Item → Parser Sheet
-fromFormula refusing D is r = and_then (λ F. give (sheetOf D is F)) (formulaRest refusing D r)
+abbrev pub from_formula : Bool → Declared → List Item → Parser Sheet
+from_formula refusing D is r = and_then (λ F. give (sheet_of D is F)) (formula_rest refusing D r)
 
 -- from the lines of procedures on, of which up to k may follow
-abbrev pub fromProcedures : Bool → ℕ → Declared → List Item → Parser Sheet
-fromProcedures refusing k D is = procedureLines refusing k D >>= λ Ps. fromFormula refusing (withProcedures Ps D) is
+abbrev pub from_procedures : Bool → ℕ → Declared → List Item → Parser Sheet
+from_procedures refusing k D is = procedure_lines refusing k D >>= λ Ps. from_formula refusing (with_procedures Ps D) is
 
 -- from the formula of a procedure on, which has m parameters
-abbrev pub oneMore : Declared → ℕ → Formula → Declared
-oneMore D m F = withProcedures (D.procedures ++ (record { parameters = m; formula = F } ∷ [])) D
+abbrev pub one_more : Declared → ℕ → Formula → Declared
+one_more D m F = with_procedures (D.procedures ++ (record { parameters = m; formula = F } ∷ [])) D
 
-abbrev pub fromBody : Bool → ℕ → Declared → List Item → ℕ → Parser Sheet
-fromBody refusing k D is m = lineFormula refusing (withParameters m D) >>= λ F. fromProcedures refusing k (oneMore D m F) is
+abbrev pub from_body : Bool → ℕ → Declared → List Item → ℕ → Parser Sheet
+from_body refusing k D is m = line_formula refusing (with_parameters m D) >>= λ F. from_procedures refusing k (one_more D m F) is
 
 -- from the given values on
-unfoldable pub fromGiven : Bool → Declared → Parser Sheet
-fromGiven strict D =
-    givenLine D >>= λ given.
-    procedureLines (refuses strict D.edition) (mostProcedures D.edition) D >>= λ Ps.
-    (let E = withProcedures Ps D in
-    key (bytes "formula=") >> (formula (refuses strict D.edition) E maxNesting [] >>= λ F. mark feed >> (finish >> give (sheetOf E given F))))
+unfoldable pub from_given : Bool → Declared → Parser Sheet
+from_given strict D =
+    given_line D >>= λ given.
+    procedure_lines (refuses strict D.edition) (most_procedures D.edition) D >>= λ Ps.
+    (let E = with_procedures Ps D in
+    key (bytes "formula=") >> (formula (refuses strict D.edition) E max_nesting [] >>= λ F. mark feed >> (finish >> give (sheet_of E given F))))
 
 -- from the ranges on
 abbrev pub declaring : Limits → List ℕ → List Range → Declared
 declaring d ns rs = beginning d.edition d.scalars d.locals ns rs
 
-abbrev pub fromRanges : Limits → List ℕ → Parser Sheet
-fromRanges d ns = rangesLine d.edition (d.scalars + length ns) >>= λ rs. fromGiven d.strict (declaring d ns rs)
+abbrev pub from_ranges : Limits → List ℕ → Parser Sheet
+from_ranges d ns = ranges_line d.edition (d.scalars + length ns) >>= λ rs. from_given d.strict (declaring d ns rs)
 
 -- from the arrays on
-abbrev pub fromArrays : Limits → Parser Sheet
-fromArrays d = arraysLine d.scalars >>= fromRanges d
+abbrev pub from_arrays : Limits → Parser Sheet
+from_arrays d = arrays_line d.scalars >>= from_ranges d
 
 -- the line with one number that comes k-th, and what is declared with it
 abbrev pub number_of : ℕ → Parser ℕ
 number_of k =
     pick (eqb k 0) (line (bytes "edition=") 1 3)
-    (pick (eqb k 1) (line (bytes "scalars=") 0 maxScalars)
-    (line (bytes "locals=") 0 maxLocals))
+    (pick (eqb k 1) (line (bytes "scalars=") 0 max_scalars)
+    (line (bytes "locals=") 0 max_locals))
 
 abbrev pub limits : Bool → ℕ → ℕ → ℕ → ℕ → ℕ → ℕ → Limits
 limits b e v l a p m = record { strict = b; edition = e; scalars = v; locals = l; arrays = a; procedures = p; parameters = m }
@@ -65,18 +65,18 @@ with_number k d n =
     (pick (eqb k 1) (limits d.strict d.edition n d.locals d.arrays d.procedures d.parameters)
     (limits d.strict d.edition d.scalars n d.arrays d.procedures d.parameters))
 
-abbrev pub fromLocals : Limits → Parser Sheet
-fromLocals d = number_of 2 >>= λ n. fromArrays (with_number 2 d n)
+abbrev pub from_locals : Limits → Parser Sheet
+from_locals d = number_of 2 >>= λ n. from_arrays (with_number 2 d n)
 
-abbrev pub fromScalars : Limits → Parser Sheet
-fromScalars d = number_of 1 >>= λ n. fromLocals (with_number 1 d n)
+abbrev pub from_scalars : Limits → Parser Sheet
+from_scalars d = number_of 1 >>= λ n. from_locals (with_number 1 d n)
 
-abbrev pub fromEdition : Limits → Parser Sheet
-fromEdition d = number_of 0 >>= λ n. fromScalars (with_number 0 d n)
+abbrev pub from_edition : Limits → Parser Sheet
+from_edition d = number_of 0 >>= λ n. from_scalars (with_number 0 d n)
 
 -- after k of the first three lines
-abbrev pub afterNumbers : ℕ → Limits → Parser Sheet
-afterNumbers zero d = fromEdition d
-afterNumbers (suc zero) d = fromScalars d
-afterNumbers (suc (suc zero)) d = fromLocals d
-afterNumbers (suc (suc (suc k))) d = fromArrays d
+abbrev pub after_numbers : ℕ → Limits → Parser Sheet
+after_numbers zero d = from_edition d
+after_numbers (suc zero) d = from_scalars d
+after_numbers (suc (suc zero)) d = from_locals d
+after_numbers (suc (suc (suc k))) d = from_arrays d

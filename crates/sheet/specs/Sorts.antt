@@ -2,36 +2,36 @@
 -- many stand in the table. src/sorts.rt has the same numbers for the code. Assumes nothing.
 use Rattle.std.specs.Prelude.{ℕ, ◌-◌, eqb, leb}
 use Rattle.specification.specs.Bytes.{pick, between}
-use Rattle.tables.specs.Codes.{andCode, impCode, notCode, eqCode, geCode, exCode, someCode, allCode, callCode, firstOperation, lastOperation, arrayCode, procedureCode}
+use Rattle.tables.specs.Codes.{and_code, imp_code, not_code, eq_code, ge_code, ex_code, some_code, all_code, call_code, first_operation, last_operation, array_code, procedure_code}
 use Rattle.sheet.specs.declared.sorts.Operands.{Operands}
 
 -- ---- sorts
 
-abbrev pub formulaSort : ℕ
-formulaSort = 0
+abbrev pub formula_sort : ℕ
+formula_sort = 0
 
-abbrev pub termSort : ℕ
-termSort = 1
+abbrev pub term_sort : ℕ
+term_sort = 1
 
 -- the upper bound after a lower one that is a constant
-abbrev pub upperSort : ℕ
-upperSort = 2
+abbrev pub upper_sort : ℕ
+upper_sort = 2
 
 -- both bounds
-abbrev pub boundsSort : ℕ
-boundsSort = 3
+abbrev pub bounds_sort : ℕ
+bounds_sort = 3
 
 -- a procedure's number
-abbrev pub procedureSort : ℕ
-procedureSort = 4
+abbrev pub procedure_sort : ℕ
+procedure_sort = 4
 
 -- the local of `ex`
-abbrev pub exSort : ℕ
-exSort = 5
+abbrev pub ex_sort : ℕ
+ex_sort = 5
 
 -- the local of `some` or `all`
-abbrev pub rangeSort : ℕ
-rangeSort = 6
+abbrev pub range_sort : ℕ
+range_sort = 6
 
 -- ---- operands
 
@@ -40,25 +40,25 @@ operands s n = record { sort = s; count = n }
 
 -- the operands of a word are of one sort; a binder has its local, and a call its procedure's number, and the others become due when that is
 -- read
-unfoldable pub wordOperands : ℕ → Operands
-wordOperands c =
-    pick (eqb c notCode) (operands formulaSort 1)
-    (pick (between andCode impCode c) (operands formulaSort 2)
-    (pick (between eqCode geCode c) (operands termSort 2)
-    (pick (eqb c exCode) (operands exSort 1)
-    (pick (between someCode allCode c) (operands rangeSort 1)
-    (pick (between firstOperation lastOperation c) (operands termSort 2)
-    (pick (eqb c arrayCode) (operands termSort 1)
-    (pick (eqb c callCode) (operands procedureSort 1) (operands formulaSort 0))))))))
+unfoldable pub word_operands : ℕ → Operands
+word_operands c =
+    pick (eqb c not_code) (operands formula_sort 1)
+    (pick (between and_code imp_code c) (operands formula_sort 2)
+    (pick (between eq_code ge_code c) (operands term_sort 2)
+    (pick (eqb c ex_code) (operands ex_sort 1)
+    (pick (between some_code all_code c) (operands range_sort 1)
+    (pick (between first_operation last_operation c) (operands term_sort 2)
+    (pick (eqb c array_code) (operands term_sort 1)
+    (pick (eqb c call_code) (operands procedure_sort 1) (operands formula_sort 0))))))))
 
 -- those of a procedure's number are the arguments: its code tells how many
-unfoldable pub operandsOf : ℕ → Operands
-operandsOf c = pick (leb procedureCode c) (operands termSort (c - procedureCode)) (wordOperands c)
+unfoldable pub operands_of : ℕ → Operands
+operands_of c = pick (leb procedure_code c) (operands term_sort (c - procedure_code)) (word_operands c)
 
 -- how many stand in the table: after the local of `ex` its formula, after that of `some` or `all` two bounds and the formula; the arguments
 -- of a call are operands of the procedure's number
 abbrev pub in_table : Operands → ℕ
-in_table o = pick (eqb o.sort exSort) 2 (pick (eqb o.sort rangeSort) 4 o.count)
+in_table o = pick (eqb o.sort ex_sort) 2 (pick (eqb o.sort range_sort) 4 o.count)
 
 unfoldable pub arity : ℕ → ℕ
-arity c = in_table (operandsOf c)
+arity c = in_table (operands_of c)

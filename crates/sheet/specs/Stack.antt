@@ -2,13 +2,13 @@
 -- Assumes nothing.
 use Rattle.std.specs.Prelude.{ℕ, ◌+◌, ◌-◌, ◌<◌, ◌≤◌, ◌≡◌, List, [], ◌∷◌, ◌++◌, length, get_or, set, replicate}
 use Rattle.specification.specs.Formula.{Locals, has}
-use Rattle.tables.specs.Layout.{maxLocals, dueSlot, duesAt, duesEnd, operand_at}
+use Rattle.tables.specs.Layout.{max_locals, due_slot, dues_at, dues_end, operand_at}
 use Rattle.tables.specs.Locals.{in_set}
-use Rattle.tables.specs.Codes.{procedureCode}
+use Rattle.tables.specs.Codes.{procedure_code}
 use Rattle.sheet.specs.declared.Token.{Token}
 use Rattle.sheet.specs.declared.stack.Entry.{Entry}
-use Rattle.sheet.specs.Sorts.{formulaSort, termSort, upperSort, boundsSort, procedureSort, exSort, rangeSort}
-use Rattle.sheet.specs.Dues.{Due, dueFormula, dueTerm, dueProcedure, dueEx, dueRange, dueBounds, dueUpper}
+use Rattle.sheet.specs.Sorts.{formula_sort, term_sort, upper_sort, bounds_sort, procedure_sort, ex_sort, range_sort}
+use Rattle.sheet.specs.Dues.{Due, due_formula, due_term, due_procedure, due_ex, due_range, due_bounds, due_upper}
 use Rattle.sheet.specs.Turn.{room, opens}
 use Rattle.sheet.specs.Tables.{Words}
 
@@ -16,43 +16,43 @@ use Rattle.sheet.specs.Tables.{Words}
 
 -- the set m stands for the list S
 pub record Bits (m : ℕ) (S : Locals) : Type 0 where
-  pub at : (l : ℕ) → l < maxLocals → in_set m l ≡ has l S
+  pub at : (l : ℕ) → l < max_locals → in_set m l ≡ has l S
 
 -- ---- entries
 
-abbrev pub sortOf : Due → ℕ
-sortOf (dueFormula k S) = formulaSort
-sortOf (dueTerm k S) = termSort
-sortOf (dueProcedure k S) = procedureSort
-sortOf (dueEx k S) = exSort
-sortOf (dueRange k S p) = rangeSort
-sortOf (dueBounds k S p) = boundsSort
-sortOf (dueUpper k S p x) = upperSort
+abbrev pub sort_of : Due → ℕ
+sort_of (due_formula k S) = formula_sort
+sort_of (due_term k S) = term_sort
+sort_of (due_procedure k S) = procedure_sort
+sort_of (due_ex k S) = ex_sort
+sort_of (due_range k S p) = range_sort
+sort_of (due_bounds k S p) = bounds_sort
+sort_of (due_upper k S p x) = upper_sort
 
 abbrev pub scope_of : Due → Locals
-scope_of (dueFormula k S) = S
-scope_of (dueTerm k S) = S
-scope_of (dueProcedure k S) = S
-scope_of (dueEx k S) = S
-scope_of (dueRange k S p) = S
-scope_of (dueBounds k S p) = S
-scope_of (dueUpper k S p x) = S
+scope_of (due_formula k S) = S
+scope_of (due_term k S) = S
+scope_of (due_procedure k S) = S
+scope_of (due_ex k S) = S
+scope_of (due_range k S p) = S
+scope_of (due_bounds k S p) = S
+scope_of (due_upper k S p x) = S
 
 -- the entry stands for what is due
 pub record Means (e : Entry) (d : Due) : Type 0 where
-  pub sort : e.sort ≡ sortOf d
+  pub sort : e.sort ≡ sort_of d
   pub room : e.room ≡ room d
   pub scope : Bits e.scope (scope_of d)
 
 -- what is known of it besides its entry, after n tokens: the place of the quantifier's word, and the lower bound as the last of them
 abbrev pub Kept : Words → ℕ → ℕ → Due → Type 0
-Kept w n word (dueFormula k S) = Unit {0}
-Kept w n word (dueTerm k S) = Unit {0}
-Kept w n word (dueProcedure k S) = Unit {0}
-Kept w n word (dueEx k S) = Unit {0}
-Kept w n word (dueRange k S p) = p ≡ word
-Kept w n word (dueBounds k S p) = p ≡ word
-Kept w n word (dueUpper k S p x) = (p ≡ word) × (0 < n) × (operand_at w (n - 1) ≡ x)
+Kept w n word (due_formula k S) = Unit {0}
+Kept w n word (due_term k S) = Unit {0}
+Kept w n word (due_procedure k S) = Unit {0}
+Kept w n word (due_ex k S) = Unit {0}
+Kept w n word (due_range k S p) = p ≡ word
+Kept w n word (due_bounds k S p) = p ≡ word
+Kept w n word (due_upper k S p x) = (p ≡ word) × (0 < n) × (operand_at w (n - 1) ≡ x)
 
 abbrev pub entry : ℕ → ℕ → ℕ → Entry
 entry s k m = record { sort = s; room = k; scope = m }
@@ -61,11 +61,11 @@ entry s k m = record { sort = s; room = k; scope = m }
 
 -- the i-th entry from the bottom
 abbrev pub entry_at : Words → ℕ → Entry
-entry_at w i = entry (get_or w (dueSlot i) 0) (get_or w (dueSlot i + 1) 0) (get_or w (dueSlot i + 2) 0)
+entry_at w i = entry (get_or w (due_slot i) 0) (get_or w (due_slot i + 1) 0) (get_or w (due_slot i + 2) 0)
 
 -- the words with an entry at i
 abbrev pub entered : Words → ℕ → Entry → Words
-entered w i e = set (set (set w (dueSlot i) e.sort) (dueSlot i + 1) e.room) (dueSlot i + 2) e.scope
+entered w i e = set (set (set w (due_slot i) e.sort) (due_slot i + 1) e.room) (due_slot i + 2) e.scope
 
 -- the stack holds what is due, the topmost first
 unfoldable pub Stacked : Words → List Due → Type 0
@@ -75,15 +75,15 @@ Stacked w (d ∷ ds) = Means (entry_at w (length ds)) d × Stacked w ds
 -- the words beside the stack are those of the first
 pub record Beside (w w' : Words) : Type 0 where
   pub long : length w' ≡ length w
-  pub below : (j : ℕ) → j < duesAt → get_or w' j 0 ≡ get_or w j 0
-  pub above : (j : ℕ) → duesEnd ≤ j → get_or w' j 0 ≡ get_or w j 0
+  pub below : (j : ℕ) → j < dues_at → get_or w' j 0 ≡ get_or w j 0
+  pub above : (j : ℕ) → dues_end ≤ j → get_or w' j 0 ≡ get_or w j 0
 
 -- ---- what a token makes due
 
 -- the code c is one of those that may stand where e is due: of a word, or of a procedure's number
 pub record Coded (e : Entry) (c : ℕ) : Type 0 where
-  pub word : e.sort ≤ boundsSort → c < procedureCode
-  pub number : e.sort ≡ procedureSort → procedureCode ≤ c
+  pub word : e.sort ≤ bounds_sort → c < procedure_code
+  pub number : e.sort ≡ procedure_sort → procedure_code ≤ c
 
 -- above n entries, w' has the entry e so many times
 pub record Repeated (w w' : Words) (n : ℕ) (e : Entry) (count : ℕ) : Type 0 where

@@ -3,84 +3,84 @@
 -- Assumes nothing.
 use Rattle.std.specs.Prelude.{ℕ, zero, suc, ◌+◌, ◌-◌, List, [], ◌∷◌, ◌++◌, length, set, replicate, ltb}
 use Rattle.specification.specs.Bytes.{pick}
-use Rattle.specification.specs.Lines.{Range, Declared, cells, first_of, length_of, rangeNumber}
+use Rattle.specification.specs.Lines.{Range, Declared, cells, first_of, length_of, range_number}
 use Rattle.specification.specs.Given.{Item}
 use Rattle.specification.specs.Ast.{Procedure}
 use Rattle.specification.specs.Sheet.{Sheet}
 use Rattle.values.specs.Word.{biased}
-use Rattle.tables.specs.Layout.{maxArrays, cellSlot, first_slot, procSlot, tokenSlot}
+use Rattle.tables.specs.Layout.{max_arrays, cell_slot, first_slot, proc_slot, token_slot}
 pub use Rattle.tables.specs.Layout.{Words}
-use Rattle.tables.specs.Ranges.{rangeSlot, unranged, rangeMark}
+use Rattle.tables.specs.Ranges.{range_slot, unranged, range_mark}
 use Rattle.sheet.specs.declared.Token.{Token}
-use Rattle.sheet.specs.Codes.{formulaTokens, proceduresTokens}
+use Rattle.sheet.specs.Codes.{formula_tokens, procedures_tokens}
 use Rattle.sheet.specs.Sorts.{arity}
 
 -- ---- arrays
 
 -- n first cells, from the a-th array's on; beyond the declared arrays it is the end of the cells
-unfoldable pub laidFirsts : Declared → ℕ → ℕ → Words → Words
-laidFirsts D a zero w = w
-laidFirsts D a (suc n) w = laidFirsts D (suc a) n (set w (first_slot a) (first_of D a))
+unfoldable pub laid_firsts : Declared → ℕ → ℕ → Words → Words
+laid_firsts D a zero w = w
+laid_firsts D a (suc n) w = laid_firsts D (suc a) n (set w (first_slot a) (first_of D a))
 
-unfoldable pub laidArrays : Declared → Words → Words
-laidArrays D w = laidFirsts D 0 (suc maxArrays) w
+unfoldable pub laid_arrays : Declared → Words → Words
+laid_arrays D w = laid_firsts D 0 (suc max_arrays) w
 
 -- ---- ranges
 
 -- the first cell of range k, and how many cells have it: a scalar, or the elements of an array
-unfoldable pub rangeFirst : Declared → ℕ → ℕ
-rangeFirst D k = pick (ltb k D.scalars) k (first_of D (k - D.scalars))
+unfoldable pub range_first : Declared → ℕ → ℕ
+range_first D k = pick (ltb k D.scalars) k (first_of D (k - D.scalars))
 
-unfoldable pub rangeWidth : Declared → ℕ → ℕ
-rangeWidth D k = pick (ltb k D.scalars) 1 (length_of D (k - D.scalars))
+unfoldable pub range_width : Declared → ℕ → ℕ
+range_width D k = pick (ltb k D.scalars) 1 (length_of D (k - D.scalars))
 
 -- n cells from the c-th on have this mark
-unfoldable pub laidMarks : ℕ → ℕ → ℕ → Words → Words
-laidMarks mark c zero w = w
-laidMarks mark c (suc n) w = laidMarks mark (suc c) n (set w (cellSlot c + 1) mark)
+unfoldable pub laid_marks : ℕ → ℕ → ℕ → Words → Words
+laid_marks mark c zero w = w
+laid_marks mark c (suc n) w = laid_marks mark (suc c) n (set w (cell_slot c + 1) mark)
 
 -- range k: the words of its ends, and the marks of its cells
-abbrev pub laidRange : Declared → ℕ → Range → Words → Words
-laidRange D k r w =
-    laidMarks (rangeMark k) (rangeFirst D k) (rangeWidth D k) (set (set w (rangeSlot k) (biased r.low)) (rangeSlot k + 1) (biased r.high))
+abbrev pub laid_range : Declared → ℕ → Range → Words → Words
+laid_range D k r w =
+    laid_marks (range_mark k) (range_first D k) (range_width D k) (set (set w (range_slot k) (biased r.low)) (range_slot k + 1) (biased r.high))
 
 -- from the k-th on
-unfoldable pub laidRanges : Declared → ℕ → List Range → Words → Words
-laidRanges D k [] w = w
-laidRanges D k (r ∷ rs) w = laidRanges D (suc k) rs (laidRange D k r w)
+unfoldable pub laid_ranges : Declared → ℕ → List Range → Words → Words
+laid_ranges D k [] w = w
+laid_ranges D k (r ∷ rs) w = laid_ranges D (suc k) rs (laid_range D k r w)
 
 -- the mark of a cell: that of its range, where the sheet has ranges
-abbrev pub markFrom : List Range → ℕ → ℕ
-markFrom [] k = unranged
-markFrom (r ∷ rs) k = rangeMark k
+abbrev pub mark_from : List Range → ℕ → ℕ
+mark_from [] k = unranged
+mark_from (r ∷ rs) k = range_mark k
 
 unfoldable pub mark_of : Declared → ℕ → ℕ
-mark_of D c = pick (ltb c (cells D)) (markFrom D.ranges (rangeNumber D c)) unranged
+mark_of D c = pick (ltb c (cells D)) (mark_from D.ranges (range_number D c)) unranged
 
 -- arrays and ranges
-abbrev pub laidCells : Declared → Words → Words
-laidCells D w = laidRanges D 0 D.ranges (laidArrays D w)
+abbrev pub laid_cells : Declared → Words → Words
+laid_cells D w = laid_ranges D 0 D.ranges (laid_arrays D w)
 
 -- ---- given values
 
-unfoldable pub laidGiven : List Item → Words → Words
-laidGiven [] w = w
-laidGiven (i ∷ is) w = laidGiven is (set (set w (cellSlot i.cell) 1) (cellSlot i.cell + 1) (biased i.value))
+unfoldable pub laid_given : List Item → Words → Words
+laid_given [] w = w
+laid_given (i ∷ is) w = laid_given is (set (set w (cell_slot i.cell) 1) (cell_slot i.cell + 1) (biased i.value))
 
 -- ---- procedures
 
 -- from the K-th on, whose first token is the i-th: the first token of its formula, and how many parameters it has
-unfoldable pub laidProcs : ℕ → ℕ → List Procedure → Words → Words
-laidProcs K i [] w = w
-laidProcs K i (P ∷ Ps) w =
-    laidProcs (suc K) (i + length (formulaTokens P.formula)) Ps (set (set w (procSlot K) i) (procSlot K + 1) P.parameters)
+unfoldable pub laid_procs : ℕ → ℕ → List Procedure → Words → Words
+laid_procs K i [] w = w
+laid_procs K i (P ∷ Ps) w =
+    laid_procs (suc K) (i + length (formula_tokens P.formula)) Ps (set (set w (proc_slot K) i) (proc_slot K + 1) P.parameters)
 
 -- ---- tokens
 
 -- codes and operands, from the i-th token on
-unfoldable pub laidTokens : ℕ → List Token → Words → Words
-laidTokens i [] w = w
-laidTokens i (t ∷ ts) w = laidTokens (suc i) ts (set (set w (tokenSlot i) t.code) (tokenSlot i + 1) t.operand)
+unfoldable pub laid_tokens : ℕ → List Token → Words → Words
+laid_tokens i [] w = w
+laid_tokens i (t ∷ ts) w = laid_tokens (suc i) ts (set (set w (token_slot i) t.code) (token_slot i + 1) t.operand)
 
 -- the tokens after n whole subtrees
 unfoldable pub after : List Token → ℕ → List Token
@@ -89,27 +89,27 @@ after (t ∷ ts) zero = t ∷ ts
 after (t ∷ ts) (suc n) = after ts (arity t.code + n)
 
 -- the end of its subtree for each token from the i-th on: the number of the token after it
-unfoldable pub laidEnds : ℕ → List Token → Words → Words
-laidEnds i [] w = w
-laidEnds i (t ∷ ts) w = laidEnds (suc i) ts (set w (tokenSlot i + 2) (suc i + length ts - length (after ts (arity t.code))))
+unfoldable pub laid_ends : ℕ → List Token → Words → Words
+laid_ends i [] w = w
+laid_ends i (t ∷ ts) w = laid_ends (suc i) ts (set w (token_slot i + 2) (suc i + length ts - length (after ts (arity t.code))))
 
 -- ---- the tables, over so many work words
 
 -- without tokens: of what is declared and the given items
-abbrev pub declaredTables : Declared → List Item → ℕ → Words
-declaredTables D is n = laidProcs 0 0 D.procedures (laidGiven is (laidCells D (replicate n 0)))
+abbrev pub declared_tables : Declared → List Item → ℕ → Words
+declared_tables D is n = laid_procs 0 0 D.procedures (laid_given is (laid_cells D (replicate n 0)))
 
 -- with a list of tokens
 abbrev pub tables_of : Declared → List Item → List Token → ℕ → Words
-tables_of D is ts n = laidEnds 0 ts (laidTokens 0 ts (declaredTables D is n))
+tables_of D is ts n = laid_ends 0 ts (laid_tokens 0 ts (declared_tables D is n))
 
 -- the tokens of a sheet: those of its procedures' lines, and then the formula's
-abbrev pub sheetTokens : Sheet → List Token
-sheetTokens s = proceduresTokens s.declared.procedures ++ formulaTokens s.formula
+abbrev pub sheet_tokens : Sheet → List Token
+sheet_tokens s = procedures_tokens s.declared.procedures ++ formula_tokens s.formula
 
 -- the first of the formula's
-abbrev pub formulaStart : Sheet → ℕ
-formulaStart s = length (proceduresTokens s.declared.procedures)
+abbrev pub formula_start : Sheet → ℕ
+formula_start s = length (procedures_tokens s.declared.procedures)
 
 unfoldable pub tables : Sheet → ℕ → Words
-tables s n = tables_of s.declared s.given (sheetTokens s) n
+tables s n = tables_of s.declared s.given (sheet_tokens s) n

@@ -6,28 +6,28 @@ use Rattle.specification.specs.Parser.{Reader, Read, refused, found}
 use Rattle.specification.specs.Lines.{Range, Declared}
 use Rattle.specification.specs.Given.{Item}
 use Rattle.specification.specs.Formula.{Locals}
-use Rattle.specification.specs.Sheet.{mostProcedures, Sheet, sheet}
-use Rattle.tables.specs.Layout.{maxTokens, maxScalars, maxLocals, maxProcs, maxParameters, pathAt}
+use Rattle.specification.specs.Sheet.{most_procedures, Sheet, sheet}
+use Rattle.tables.specs.Layout.{max_tokens, max_scalars, max_locals, max_procs, max_parameters, path_at}
 use Rattle.sheet.specs.declared.Reading.{Reading}
 use Rattle.sheet.specs.declared.Reading.TheVariants as reading
 use Rattle.sheet.specs.declared.formula.Limits.{Limits}
 use Rattle.sheet.specs.declared.formula.Reached.{Reached}
 use Rattle.sheet.specs.declared.whole.Progress.{Progress}
 use Rattle.sheet.specs.declared.whole.Progress.TheVariants as progress
-use Rattle.sheet.specs.Codes.{proceduresTokens}
-use Rattle.sheet.specs.Reader.{readerAt, line_at}
-use Rattle.sheet.specs.Tables.{Words, laidArrays, laidCells, laidTokens, declaredTables, sheetTokens, formulaStart, tables}
+use Rattle.sheet.specs.Codes.{procedures_tokens}
+use Rattle.sheet.specs.Reader.{reader_at, line_at}
+use Rattle.sheet.specs.Tables.{Words, laid_arrays, laid_cells, laid_tokens, declared_tables, sheet_tokens, formula_start, tables}
 use Rattle.sheet.specs.Stack.{Bits, Beside}
 use Rattle.sheet.specs.Items.{Declares, Vacant}
-use Rattle.sheet.specs.FormulaLine.{refusesIn, Small, Counts}
-use Rattle.sheet.specs.Rest.{fromProcedures, fromBody, fromGiven, fromRanges, declaring, number_of, limits, with_number, afterNumbers}
+use Rattle.sheet.specs.FormulaLine.{refuses_in, Small, Counts}
+use Rattle.sheet.specs.Rest.{from_procedures, from_body, from_given, from_ranges, declaring, number_of, limits, with_number, after_numbers}
 
 -- ---- what a sheet is read as
 
 -- a refusal's number and place, or how many scalars, arrays and tokens there are, and the formula's first token
 abbrev pub reading_of : Read Sheet → Reading
 reading_of (refused k p) = reading.Refused k p
-reading_of (found s r) = reading.Read s.declared.scalars (length s.declared.arrays) (length (sheetTokens s)) (formulaStart s)
+reading_of (found s r) = reading.Read s.declared.scalars (length s.declared.arrays) (length (sheet_tokens s)) (formula_start s)
 
 -- n work words after it: all zero, or the sheet's tables
 abbrev pub words_of : ℕ → Read Sheet → Words
@@ -56,53 +56,53 @@ NumberRead k s at d (progress.Read l x) = Numbered k s at d l x.at
 
 -- numbers of the first lines
 pub record Headed (k : ℕ) (s : Bytes) (n : ℕ) (d : Limits) (at : ℕ) (w : Words) : Type 0 where
-  pub rest : sheet d.strict (line_at s 0) ≡ afterNumbers k d (line_at s at)
-  pub scalars : d.scalars ≤ maxScalars
-  pub locals : d.locals ≤ maxLocals
+  pub rest : sheet d.strict (line_at s 0) ≡ after_numbers k d (line_at s at)
+  pub scalars : d.scalars ≤ max_scalars
+  pub locals : d.locals ≤ max_locals
   pub procedures : d.procedures ≡ 0
   pub parameters : d.parameters ≡ 0
   pub words : w ≡ replicate n 0
-  pub enough : pathAt ≤ n
+  pub enough : path_at ≤ n
 
 -- the arrays, of these lengths; what is declared with ranges as well has the same first cells
 pub record Arrayed (s : Bytes) (n : ℕ) (d : Limits) (at : ℕ) (w : Words) : Type 0 where
   pub lengths : List ℕ
-  pub rest : sheet d.strict (line_at s 0) ≡ fromRanges d lengths (line_at s at)
+  pub rest : sheet d.strict (line_at s 0) ≡ from_ranges d lengths (line_at s at)
   pub counts : (rs : List Range) → Counts d (declaring d lengths rs)
   pub small : Small d
   pub declares : (rs : List Range) → Declares (declaring d lengths rs) d.scalars d.arrays w
-  pub words : (rs : List Range) → w ≡ laidArrays (declaring d lengths rs) (replicate n 0)
+  pub words : (rs : List Range) → w ≡ laid_arrays (declaring d lengths rs) (replicate n 0)
   pub long : length w ≡ n
-  pub enough : pathAt ≤ n
+  pub enough : path_at ≤ n
 
 -- the ranges
 pub record Ranged (s : Bytes) (n : ℕ) (d : Limits) (at : ℕ) (w : Words) : Type 0 where
   pub declared : Declared
-  pub rest : sheet d.strict (line_at s 0) ≡ fromGiven d.strict declared (line_at s at)
+  pub rest : sheet d.strict (line_at s 0) ≡ from_given d.strict declared (line_at s at)
   pub none : declared.procedures ≡ []
   pub plain : declared.parameters ≡ 0
   pub counts : Counts d declared
   pub small : Small d
   pub vacant : Vacant declared d.scalars d.arrays 0 w
-  pub words : w ≡ laidCells declared (replicate n 0)
+  pub words : w ≡ laid_cells declared (replicate n 0)
   pub long : length w ≡ n
-  pub enough : pathAt ≤ n
+  pub enough : path_at ≤ n
 
 -- the given values and some procedures; up to k lines of procedures may follow
 pub record Filled (k : ℕ) (s : Bytes) (n : ℕ) (d : Limits) (x : Reached) (w : Words) : Type 0 where
   pub declared : Declared
   pub items : List Item
   pub locals : Locals
-  pub rest : sheet d.strict (line_at s 0) ≡ fromProcedures (refusesIn d) k declared items (readerAt s x.at x.tokens locals)
+  pub rest : sheet d.strict (line_at s 0) ≡ from_procedures (refuses_in d) k declared items (reader_at s x.at x.tokens locals)
   pub counts : Counts d declared
   pub plain : declared.parameters ≡ 0
   pub small : Small d
   pub set : Bits x.bound locals
-  pub tokens : length (proceduresTokens declared.procedures) ≡ x.tokens
-  pub few : x.tokens ≤ maxTokens
-  pub words : Beside (laidTokens 0 (proceduresTokens declared.procedures) (declaredTables declared items n)) w
+  pub tokens : length (procedures_tokens declared.procedures) ≡ x.tokens
+  pub few : x.tokens ≤ max_tokens
+  pub words : Beside (laid_tokens 0 (procedures_tokens declared.procedures) (declared_tables declared items n)) w
   pub long : length w ≡ n
-  pub enough : pathAt ≤ n
+  pub enough : path_at ≤ n
 
 -- the whole sheet; what was due while formulas were read still stands in the words
 pub record Tabled (s : Bytes) (n : ℕ) (d : Limits) (x : Reached) (w : Words) : Type 0 where
@@ -111,13 +111,13 @@ pub record Tabled (s : Bytes) (n : ℕ) (d : Limits) (x : Reached) (w : Words) :
   pub is : sheet d.strict (line_at s 0) ≡ found whole after
   pub scalars : whole.declared.scalars ≡ d.scalars
   pub arrays : length whole.declared.arrays ≡ d.arrays
-  pub tokens : length (sheetTokens whole) ≡ x.tokens
-  pub first : formulaStart whole ≡ x.first
+  pub tokens : length (sheet_tokens whole) ≡ x.tokens
+  pub first : formula_start whole ≡ x.first
   pub words : Beside (tables whole n) w
 
 -- how many lines of procedures may follow
-abbrev pub leftLines : Limits → ℕ
-leftLines d = mostProcedures d.edition - d.procedures
+abbrev pub left_lines : Limits → ℕ
+left_lines d = most_procedures d.edition - d.procedures
 
 -- what is known after k lines; the fourth stage is that of the arrays and their ranges, the fifth that of the given values and some procedures,
 -- the sixth that of all procedures
@@ -127,7 +127,7 @@ Stage (suc zero) s n d x w = Headed 1 s n d x.at w
 Stage (suc (suc zero)) s n d x w = Headed 2 s n d x.at w
 Stage (suc (suc (suc zero))) s n d x w = Headed 3 s n d x.at w
 Stage (suc (suc (suc (suc zero)))) s n d x w = Ranged s n d x.at w
-Stage (suc (suc (suc (suc (suc zero))))) s n d x w = Filled (leftLines d) s n d x w
+Stage (suc (suc (suc (suc (suc zero))))) s n d x w = Filled (left_lines d) s n d x w
 Stage (suc (suc (suc (suc (suc (suc zero)))))) s n d x w = Filled 0 s n d x w
 Stage (suc (suc (suc (suc (suc (suc (suc k))))))) s n d x w = Tabled s n d x w
 
@@ -158,25 +158,25 @@ unread strict = progress.Read (limits strict 0 0 0 0 0 0) (reached 0)
 -- whether one follows
 abbrev pub follows : Bytes → Progress → Bool
 follows s (progress.Refused e p) = false
-follows s (progress.Read d x) = ltb d.procedures (mostProcedures d.edition) && begins (bytes "p") (drop x.at s)
+follows s (progress.Read d x) = ltb d.procedures (most_procedures d.edition) && begins (bytes "p") (drop x.at s)
 
 abbrev pub Following : Bytes → ℕ → Limits → Reached → Words → Type 0
-Following s n d x w = (follows s (progress.Read d x) ≡ true) × Filled (leftLines d) s n d x w
+Following s n d x w = (follows s (progress.Read d x) ≡ true) × Filled (left_lines d) s n d x w
 
 -- up to its formula, which begins at a place; it has m parameters
 pub record Begun (s : Bytes) (n : ℕ) (d : Limits) (x : Reached) (m from : ℕ) (w : Words) : Type 0 where
-  pub more : d.procedures < mostProcedures d.edition
-  pub filled : Filled (leftLines d) s n d x w
-  pub parameters : m ≤ maxParameters
+  pub more : d.procedures < most_procedures d.edition
+  pub filled : Filled (left_lines d) s n d x w
+  pub parameters : m ≤ max_parameters
   pub within : from ≤ length s
   pub rest : sheet d.strict (line_at s 0) ≡
-      fromBody (refusesIn d) (pred (leftLines d)) filled.declared filled.items m (readerAt s from x.tokens filled.locals)
+      from_body (refuses_in d) (pred (left_lines d)) filled.declared filled.items m (reader_at s from x.tokens filled.locals)
 
 -- after it there is one procedure more
 abbrev pub Nearer : Limits → Progress → Type 0
 Nearer d (progress.Refused e p) = Unit {0}
 Nearer d (progress.Read l x) = l.procedures ≡ suc d.procedures
 
-abbrev pub leftOver : Progress → ℕ
-leftOver (progress.Refused e p) = 0
-leftOver (progress.Read d x) = suc (maxProcs - d.procedures)
+abbrev pub left_over : Progress → ℕ
+left_over (progress.Refused e p) = 0
+left_over (progress.Read d x) = suc (max_procs - d.procedures)

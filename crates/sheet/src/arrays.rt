@@ -1,10 +1,10 @@
 // The line of arrays: lengths with commas between. Each array's first cell goes into the work words as its length is read.
 ghost use Rattle.std.specs.Prelude.{◌≡◌, [], suc, ◌-◌, ◌≤◌, length};
 ghost use Rattle.specification.specs.Lines.{lengths};
-ghost use Rattle.tables.specs.Layout.{maxArrays, maxCells, maxScalars, pathAt};
+ghost use Rattle.tables.specs.Layout.{max_arrays, max_cells, max_scalars, path_at};
 ghost use Rattle.sheet.specs.Reader.{line_at};
 ghost use Rattle.sheet.specs.Answers.{mapped};
-ghost use Rattle.sheet.specs.Firsts.{laidOn, tabled, arraysValue, arraysRead, ArraysDone};
+ghost use Rattle.sheet.specs.Firsts.{laid_on, tabled, arrays_value, arrays_read, ArraysDone};
 
 use crate::lines::Count;
 use crate::{lines, refusals};
@@ -19,8 +19,8 @@ pub(crate) enum Arrays {
 
 // Puts the end of the cells behind the last array, and in the place of each array that is not declared.
 fn fill(w: &mut [u32], from: u32, end: u32)
-    requires { pathAt ≤ length w.old }
-    ensures { w.new ≡ laidOn (suc maxArrays - from) from end [] w.old }
+    requires { path_at ≤ length w.old }
+    ensures { w.new ≡ laid_on (suc max_arrays - from) from end [] w.old }
 {
     let mut a = from;
     while a <= tables::MAX_ARRAYS {
@@ -31,9 +31,9 @@ fn fill(w: &mut [u32], from: u32, end: u32)
 
 // Lengths from a place on, the first of which begins after the scalars.
 fn lengths(s: &[u8], from: usize, scalars: u32, w: &mut [u32]) -> Arrays
-    requires { (scalars ≤ maxCells) × (pathAt ≤ length w.old) }
-    ensures { arraysRead s.now result w.new
-        ≡ mapped (tabled 0 scalars w.old) (lengths maxArrays (maxCells - scalars) (line_at s.now from)) }
+    requires { (scalars ≤ max_cells) × (path_at ≤ length w.old) }
+    ensures { arrays_read s.now result w.new
+        ≡ mapped (tabled 0 scalars w.old) (lengths max_arrays (max_cells - scalars) (line_at s.now from)) }
 {
     let mut at = from;
     let mut n: u32 = 0;
@@ -60,9 +60,9 @@ fn lengths(s: &[u8], from: usize, scalars: u32, w: &mut [u32]) -> Arrays
 
 // The line's value: empty, or lengths.
 fn contents(s: &[u8], from: usize, scalars: u32, w: &mut [u32]) -> Arrays
-    requires { (scalars ≤ maxCells) × (pathAt ≤ length w.old) }
-    ensures { arraysRead s.now result w.new
-        ≡ mapped (tabled 0 scalars w.old) (arraysValue scalars (line_at s.now from)) }
+    requires { (scalars ≤ max_cells) × (path_at ≤ length w.old) }
+    ensures { arrays_read s.now result w.new
+        ≡ mapped (tabled 0 scalars w.old) (arrays_value scalars (line_at s.now from)) }
 {
     if text::class_at(text::value(s, from), 0) == text::FEED {
         fill(w, 0, scalars);
@@ -73,7 +73,7 @@ fn contents(s: &[u8], from: usize, scalars: u32, w: &mut [u32]) -> Arrays
 
 // The line of arrays, after so many scalars.
 pub(crate) fn arrays_line(s: &[u8], at: usize, scalars: u32, w: &mut [u32]) -> Arrays
-    requires { (scalars ≤ maxScalars) × (pathAt ≤ length w.old) }
+    requires { (scalars ≤ max_scalars) × (path_at ≤ length w.old) }
     ensures { ArraysDone s.now at scalars w.old w.new result }
 {
     let key = b"arrays=";

@@ -3,13 +3,13 @@ ghost use Rattle.std.specs.Prelude.{◌≡◌, ℕ, ◌≤◌, ◌<◌, length, 
 ghost use Rattle.specification.specs.Lines.{Declared};
 ghost use Rattle.specification.specs.Formula.{Locals};
 ghost use Rattle.specification.specs.Bytes.{pick, between};
-ghost use Rattle.tables.specs.Layout.{maxTokens, maxLocals, pathAt};
-ghost use Rattle.tables.specs.Codes.{procedureCode, lastCode};
-ghost use Rattle.sheet.specs.Sorts.{formulaSort, upperSort, procedureSort};
+ghost use Rattle.tables.specs.Layout.{max_tokens, max_locals, path_at};
+ghost use Rattle.tables.specs.Codes.{procedure_code, last_code};
+ghost use Rattle.sheet.specs.Sorts.{formula_sort, upper_sort, procedure_sort};
 ghost use Rattle.sheet.specs.Dues.{Due};
-ghost use Rattle.sheet.specs.Turn.{suits, declared, undeclared, placed, faultOf, empties};
-ghost use Rattle.sheet.specs.Stack.{Bits, sortOf, Means, Kept};
-ghost use Rattle.sheet.specs.FormulaLine.{refusesIn, Small, Sized, Known, counted, Spells, Refuses, Binds, begin, Scans, Within, Closes, LineRead};
+ghost use Rattle.sheet.specs.Turn.{suits, declared, undeclared, placed, fault_of, empties};
+ghost use Rattle.sheet.specs.Stack.{Bits, sort_of, Means, Kept};
+ghost use Rattle.sheet.specs.FormulaLine.{refuses_in, Small, Sized, Known, counted, Spells, Refuses, Binds, begin, Scans, Within, Closes, LineRead};
 
 use crate::stack::Entry;
 use crate::{Token, ends, refusals, sorts, stack, words};
@@ -57,7 +57,7 @@ pub(crate) enum Scanned {
 
 // The token that bytes spell where something of this sort is due. The code of a procedure's number tells how many parameters it has.
 fn spelt(t: &[u8], sort: u32, d: Limits, w: &[u32]) -> Token
-    requires { Small d × Sized d w.now × (pathAt ≤ length w.now) }
+    requires { Small d × Sized d w.now × (path_at ≤ length w.now) }
     ensures { Spells t.now sort d w.now result }
 {
     if sort != sorts::PROCEDURE {
@@ -78,7 +78,7 @@ fn spelt(t: &[u8], sort: u32, d: Limits, w: &[u32]) -> Token
 
 // Whether a code is that of a procedure's number.
 fn is_number(code: u32) -> bool
-    ensures { result ≡ between procedureCode lastCode code }
+    ensures { result ≡ between procedure_code last_code code }
 {
     if code < codes::PROCEDURE {
         return false;
@@ -88,7 +88,7 @@ fn is_number(code: u32) -> bool
 
 // Whether a code is of the sort that is due.
 fn suits(sort: u32, code: u32) -> bool
-    ensures { (d : Due) → sort ≡ sortOf d → result ≡ suits d code }
+    ensures { (d : Due) → sort ≡ sort_of d → result ≡ suits d code }
 {
     match sort {
         sorts::FORMULA => codes::is_formula(code),
@@ -127,7 +127,7 @@ fn undeclared(code: u32) -> u32
 
 // Whether a local as a term is in scope, or at its binder has no binder yet.
 fn in_place(e: Entry, bound: u32, l: u32) -> bool
-    requires { l < maxLocals }
+    requires { l < max_locals }
     ensures { (d : Due) (B : Locals) → Means e d → Bits bound B → result ≡ placed d B l }
 {
     let sort = e.sort;
@@ -141,8 +141,8 @@ fn in_place(e: Entry, bound: u32, l: u32) -> bool
 
 // The number of a token's refusal by its word, 0 where it may stand.
 fn fault(d: Limits, e: Entry, bound: u32, t: Token) -> u32
-    requires { d.locals ≤ maxLocals }
-    ensures { (du : Due) (B : Locals) → Means e du → Bits bound B → result ≡ faultOf (counted d) du B t }
+    requires { d.locals ≤ max_locals }
+    ensures { (du : Due) (B : Locals) → Means e du → Bits bound B → result ≡ fault_of (counted d) du B t }
 {
     if t.code == codes::BAD_CONSTANT {
         return refusals::NUMBER;
@@ -164,7 +164,7 @@ fn fault(d: Limits, e: Entry, bound: u32, t: Token) -> u32
 
 // The number of the refusal of a token after so many others, 0 where it may stand.
 fn refusal(d: Limits, e: Entry, bound: u32, count: u32, t: Token) -> u32
-    requires { d.locals ≤ maxLocals }
+    requires { d.locals ≤ max_locals }
     ensures { Refuses d e bound count t result }
 {
     if e.room == 0 {
@@ -178,7 +178,7 @@ fn refusal(d: Limits, e: Entry, bound: u32, count: u32, t: Token) -> u32
 
 // The locals that have a binder after a token.
 fn bound_after(e: Entry, t: Token, bound: u32) -> u32
-    requires { procedureSort < e.sort → t.operand < maxLocals }
+    requires { procedure_sort < e.sort → t.operand < max_locals }
     ensures { Binds e t bound result }
 {
     if e.sort <= sorts::PROCEDURE {
@@ -193,7 +193,7 @@ fn bound_after(e: Entry, t: Token, bound: u32) -> u32
 const FIRST_STRICT: u32 = 3;
 
 fn refuses(d: Limits) -> bool
-    ensures { result ≡ refusesIn d }
+    ensures { result ≡ refuses_in d }
 {
     if d.edition < FIRST_STRICT {
         return false;
@@ -203,7 +203,7 @@ fn refuses(d: Limits) -> bool
 
 // Whether a token after so many others is an upper bound below the lower one, which is the token before it, and this is refused.
 fn is_empty(refusing: bool, e: Entry, t: Token, count: u32, w: &[u32]) -> bool
-    requires { (count ≤ maxTokens) × (pathAt ≤ length w.now) × (e.sort ≡ upperSort → 0 < count) }
+    requires { (count ≤ max_tokens) × (path_at ≤ length w.now) × (e.sort ≡ upper_sort → 0 < count) }
     ensures { (d : Due) (p : ℕ) → Means e d → Kept w.now count p d → result ≡ empties refusing d t }
 {
     if e.sort != sorts::UPPER {
@@ -220,7 +220,7 @@ fn is_empty(refusing: bool, e: Entry, t: Token, count: u32, w: &[u32]) -> bool
 
 // The place of the last token where a formula was due, after one more.
 fn word_after(e: Entry, at: usize, word: usize) -> usize
-    ensures { result ≡ pick (eqb e.sort formulaSort) at word }
+    ensures { result ≡ pick (eqb e.sort formula_sort) at word }
 {
     if e.sort == sorts::FORMULA {
         return at;
@@ -232,7 +232,7 @@ fn word_after(e: Entry, at: usize, word: usize) -> usize
 
 // A formula's tokens from a place on, into the table behind those that stand there, where some locals have a binder already.
 fn scan(s: &[u8], from: usize, d: Limits, tokens: u32, binders: u32, w: &mut [u32]) -> Scanned
-    requires { (from ≤ length s.now) × Small d × (pathAt ≤ length w.old) × (tokens ≤ maxTokens) × Sized d w.old }
+    requires { (from ≤ length s.now) × Small d × (path_at ≤ length w.old) × (tokens ≤ max_tokens) × Sized d w.old }
     ensures { (B : Locals) → Bits binders B
         → Scans (begin s.now d from tokens B) w.old w.new result }
 {
@@ -280,7 +280,7 @@ pub(crate) fn to_feed(
     binders: u32,
     w: &mut [u32],
 ) -> Scanned
-    requires { (from ≤ length s.now) × Small d × (pathAt ≤ length w.old) × (tokens ≤ maxTokens) × Sized d w.old }
+    requires { (from ≤ length s.now) × Small d × (path_at ≤ length w.old) × (tokens ≤ max_tokens) × Sized d w.old }
     ensures { Within s.now result × ((B : Locals) → Bits binders B → (D : Declared) → Known d w.old D
         → Closes (begin s.now d from tokens B) D w.old w.new result) }
 {
@@ -297,7 +297,7 @@ pub(crate) fn to_feed(
 
 // The formula's line and the sheet's end: its tokens into the table, and then the ends of the subtrees of all.
 pub(crate) fn formula_line(s: &[u8], d: Limits, x: Reached, w: &mut [u32]) -> Parsed
-    requires { Small d × (pathAt ≤ length w.old) × (x.tokens ≤ maxTokens) × Sized d w.old }
+    requires { Small d × (path_at ≤ length w.old) × (x.tokens ≤ max_tokens) × Sized d w.old }
     ensures { (B : Locals) → Bits x.bound B → (D : Declared) → Known d w.old D
         → LineRead (begin s.now d x.at x.tokens B) D w.old w.new result }
 {

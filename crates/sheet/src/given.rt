@@ -1,10 +1,10 @@
 // The line of given values: items with commas between, in strictly rising cell order. Each goes into the work words as it is read.
 ghost use Rattle.std.specs.Prelude.{◌≡◌, ◌+◌, ◌<◌, ◌≤◌, length, set};
 ghost use Rattle.specification.specs.Lines.{Declared};
-ghost use Rattle.specification.specs.Given.{scalarName, elementName, name, item, items};
-ghost use Rattle.tables.specs.Layout.{maxArrays, maxCells, cellSlot, pathAt};
+ghost use Rattle.specification.specs.Given.{scalar_name, element_name, name, item, items};
+ghost use Rattle.tables.specs.Layout.{max_arrays, max_cells, cell_slot, path_at};
 ghost use Rattle.sheet.specs.Reader.{line_at};
-ghost use Rattle.sheet.specs.Items.{heldNames, elementAfter, nameRead, scalarIn, elementIn, Below, afterName, entryRead, Arranged, Vacant, Furnished, laidItems, givenRead, givenValue, GivenDone};
+ghost use Rattle.sheet.specs.Items.{held_names, element_after, name_read, scalar_in, element_in, Below, after_name, entry_read, Arranged, Vacant, Furnished, laid_items, given_read, given_value, GivenDone};
 
 use crate::lines::{Index, Integer};
 use crate::{lines, refusals};
@@ -42,7 +42,7 @@ enum Entry {
 // ---- names
 
 fn scalar_name(s: &[u8], at: usize) -> Name
-    ensures { nameRead s.now result ≡ heldNames (scalarName (line_at s.now at)) }
+    ensures { name_read s.now result ≡ held_names (scalar_name (line_at s.now at)) }
 {
     if !text::begins(s, at, b"v") {
         return Name::Refused(refusals::BYTE, at);
@@ -55,7 +55,7 @@ fn scalar_name(s: &[u8], at: usize) -> Name
 
 // The element of the array a, after its point.
 fn element_of(s: &[u8], a: u32, at: usize) -> Name
-    ensures { nameRead s.now result ≡ elementAfter a (line_at s.now at) }
+    ensures { name_read s.now result ≡ element_after a (line_at s.now at) }
 {
     if text::class_at(s, at) != text::POINT {
         return Name::Refused(refusals::BYTE, at);
@@ -67,7 +67,7 @@ fn element_of(s: &[u8], a: u32, at: usize) -> Name
 }
 
 fn element_name(s: &[u8], at: usize) -> Name
-    ensures { nameRead s.now result ≡ heldNames (elementName (line_at s.now at)) }
+    ensures { name_read s.now result ≡ held_names (element_name (line_at s.now at)) }
 {
     if !text::begins(s, at, b"a") {
         return Name::Refused(refusals::BYTE, at);
@@ -79,7 +79,7 @@ fn element_name(s: &[u8], at: usize) -> Name
 }
 
 fn name_at(s: &[u8], at: usize) -> Name
-    ensures { nameRead s.now result ≡ heldNames (name (line_at s.now at)) }
+    ensures { name_read s.now result ≡ held_names (name (line_at s.now at)) }
 {
     if text::begins(s, at, b"v") {
         return scalar_name(s, at);
@@ -90,7 +90,7 @@ fn name_at(s: &[u8], at: usize) -> Name
 // ---- cells
 
 fn scalar_cell(n: u32, scalars: u32) -> Cell
-    ensures { result ≡ scalarIn scalars n }
+    ensures { result ≡ scalar_in scalars n }
 {
     if scalars <= n {
         return Cell::Undeclared;
@@ -106,8 +106,8 @@ fn wide(x: u32) -> u64
 
 // An element's cell lies before the next array's first.
 fn element_cell(a: u32, i: u32, arrays: u32, w: &[u32]) -> Cell
-    requires { (arrays ≤ maxArrays) × (pathAt ≤ length w.now) }
-    ensures { result ≡ elementIn arrays w.now a i }
+    requires { (arrays ≤ max_arrays) × (path_at ≤ length w.now) }
+    ensures { result ≡ element_in arrays w.now a i }
 {
     if arrays <= a {
         return Cell::Undeclared;
@@ -123,8 +123,8 @@ fn element_cell(a: u32, i: u32, arrays: u32, w: &[u32]) -> Cell
 
 // An item whose name begins at one place and ends at another: its form is tested first, then its cell, the order, and its value.
 fn valued(s: &[u8], at: usize, e: usize, floor: u32, c: Cell, w: &[u32]) -> Entry
-    requires { (Below c) × (pathAt ≤ length w.now) }
-    ensures { entryRead s.now result ≡ afterName at floor w.now c (line_at s.now e) }
+    requires { (Below c) × (path_at ≤ length w.now) }
+    ensures { entry_read s.now result ≡ after_name at floor w.now c (line_at s.now e) }
 {
     if text::class_at(s, e) != text::COLON {
         return Entry::Refused(refusals::BYTE, e);
@@ -147,9 +147,9 @@ fn valued(s: &[u8], at: usize, e: usize, floor: u32, c: Cell, w: &[u32]) -> Entr
 }
 
 fn item_at(s: &[u8], at: usize, scalars: u32, arrays: u32, floor: u32, w: &[u32]) -> Entry
-    requires { (Arranged scalars arrays w.now) × (pathAt ≤ length w.now) }
+    requires { (Arranged scalars arrays w.now) × (path_at ≤ length w.now) }
     ensures { (D : Declared) → Vacant D scalars arrays floor w.now
-        → entryRead s.now result ≡ item D floor (line_at s.now at) }
+        → entry_read s.now result ≡ item D floor (line_at s.now at) }
 {
     match name_at(s, at) {
         Name::Refused(k, p) => Entry::Refused(k, p),
@@ -160,8 +160,8 @@ fn item_at(s: &[u8], at: usize, scalars: u32, arrays: u32, floor: u32, w: &[u32]
 
 // Marks a cell, and puts its value's word beside the mark.
 fn put(w: &mut [u32], cell: u32, word: u32)
-    requires { (cell < maxCells) × (pathAt ≤ length w.old) }
-    ensures { w.new ≡ set (set w.old (cellSlot cell) 1) (cellSlot cell + 1) word }
+    requires { (cell < max_cells) × (path_at ≤ length w.old) }
+    ensures { w.new ≡ set (set w.old (cell_slot cell) 1) (cell_slot cell + 1) word }
 {
     tables::set_slot(
         w,
@@ -175,9 +175,9 @@ fn put(w: &mut [u32], cell: u32, word: u32)
 
 // Items from a place on. Each has a cell above that of the one before, so they come to an end.
 fn items_at(s: &[u8], from: usize, scalars: u32, arrays: u32, w: &mut [u32]) -> Given
-    requires { (Furnished scalars arrays w.old) × (pathAt ≤ length w.old) }
+    requires { (Furnished scalars arrays w.old) × (path_at ≤ length w.old) }
     ensures { (D : Declared) → Vacant D scalars arrays 0 w.old
-        → givenRead s.now result w.new ≡ laidItems w.old (items D maxCells 0 (line_at s.now from)) }
+        → given_read s.now result w.new ≡ laid_items w.old (items D max_cells 0 (line_at s.now from)) }
 {
     let mut at = from;
     let mut floor: u32 = 0;
@@ -200,9 +200,9 @@ fn items_at(s: &[u8], from: usize, scalars: u32, arrays: u32, w: &mut [u32]) -> 
 
 // The line's value: empty, or items.
 fn contents(s: &[u8], from: usize, scalars: u32, arrays: u32, w: &mut [u32]) -> Given
-    requires { (Furnished scalars arrays w.old) × (pathAt ≤ length w.old) }
+    requires { (Furnished scalars arrays w.old) × (path_at ≤ length w.old) }
     ensures { (D : Declared) → Vacant D scalars arrays 0 w.old
-        → givenRead s.now result w.new ≡ laidItems w.old (givenValue D (line_at s.now from)) }
+        → given_read s.now result w.new ≡ laid_items w.old (given_value D (line_at s.now from)) }
 {
     if text::class_at(text::value(s, from), 0) == text::FEED {
         return Given::Read(from);
@@ -212,7 +212,7 @@ fn contents(s: &[u8], from: usize, scalars: u32, arrays: u32, w: &mut [u32]) -> 
 
 // The line of given values, where the words have the arrays of a sheet.
 pub(crate) fn given_line(s: &[u8], at: usize, scalars: u32, arrays: u32, w: &mut [u32]) -> Given
-    requires { (Furnished scalars arrays w.old) × (pathAt ≤ length w.old) }
+    requires { (Furnished scalars arrays w.old) × (path_at ≤ length w.old) }
     ensures { (D : Declared) → Vacant D scalars arrays 0 w.old
         → GivenDone D s.now at w.old w.new result }
 {

@@ -1,8 +1,8 @@
 // The reader: from the sheet's bytes to tables in the lent work words.
 ghost use Rattle.std.specs.Prelude.{◌≡◌, ◌≤◌, ◌<◌, length, replicate};
-ghost use Rattle.specification.specs.Sheet.{readWith};
+ghost use Rattle.specification.specs.Sheet.{read_with};
 ghost use Rattle.specification.specs.Moves.{read_only};
-ghost use Rattle.tables.specs.Layout.{pathAt};
+ghost use Rattle.tables.specs.Layout.{path_at};
 ghost use Rattle.sheet.specs.Whole.{reading_of, words_of, Zeroed};
 
 mod arrays;
@@ -71,9 +71,9 @@ pub fn clear(w: &mut [u32])
 // Reads a sheet: its tables stand in the work words, and nothing else; where it is refused they are all 0. Only strict reading refuses empty
 // ranges.
 pub fn read_sheet(s: &[u8], strict: bool, w: &mut [u32]) -> Reading
-    requires { pathAt ≤ length w.old }
-    ensures { (result ≡ reading_of (readWith strict s.now))
-        × (w.new ≡ words_of (length w.old) (readWith strict s.now)) }
+    requires { path_at ≤ length w.old }
+    ensures { (result ≡ reading_of (read_with strict s.now))
+        × (w.new ≡ words_of (length w.old) (read_with strict s.now)) }
 {
     clear(w);
     match whole::all_lines(s, strict, w) {
@@ -95,7 +95,7 @@ pub fn read_sheet(s: &[u8], strict: bool, w: &mut [u32]) -> Reading
 
 // The same, where only this edition is read: another is refused at the edition.
 pub fn read_only(s: &[u8], edition: u32, strict: bool, w: &mut [u32]) -> Reading
-    requires { (edition < 4294967295) × (pathAt ≤ length w.old) }
+    requires { (edition < 4294967295) × (path_at ≤ length w.old) }
     ensures { (result ≡ reading_of (read_only strict edition s.now))
         × (w.new ≡ words_of (length w.old) (read_only strict edition s.now)) }
 {

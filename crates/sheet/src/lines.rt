@@ -1,9 +1,9 @@
 // The lines with one number, and the readers of numbers that the lines before the formula's share.
 ghost use Rattle.std.specs.Prelude.{◌≡◌, ◌<◌, drop};
-ghost use Rattle.specification.specs.Bytes.{Class, classNumber, run, inNumber};
+ghost use Rattle.specification.specs.Bytes.{Class, class_number, run, in_number};
 ghost use Rattle.specification.specs.Lines.{index, count, value};
 ghost use Rattle.sheet.specs.Reader.{line_at};
-ghost use Rattle.sheet.specs.Answers.{numberTo, Inside, heldIndex, indexRead, integerRead, countRead};
+ghost use Rattle.sheet.specs.Answers.{number_to, Inside, held_index, index_read, integer_read, count_read};
 
 use crate::refusals;
 use text::{Decimal, Word};
@@ -36,7 +36,7 @@ const MOST: u64 = 4294967295;
 
 // The run of digits and minus signs at a place.
 fn numeral(s: &[u8], at: usize) -> &[u8]
-    ensures { result.now ≡ run inNumber (drop at s.now) }
+    ensures { result.now ≡ run in_number (drop at s.now) }
 {
     let v = text::value(s, at);
     let e = text::run_end(v, 0, text::NUMBER);
@@ -44,7 +44,7 @@ fn numeral(s: &[u8], at: usize) -> &[u8]
 }
 
 pub(crate) fn index_at(s: &[u8], at: usize) -> Index
-    ensures { indexRead s.now result ≡ heldIndex (index (line_at s.now at)) }
+    ensures { index_read s.now result ≡ held_index (index (line_at s.now at)) }
 {
     let d = numeral(s, at);
     match text::natural(d) {
@@ -59,7 +59,7 @@ pub(crate) fn index_at(s: &[u8], at: usize) -> Index
 }
 
 pub(crate) fn integer_at(s: &[u8], at: usize) -> Integer
-    ensures { integerRead s.now result ≡ value (line_at s.now at) }
+    ensures { integer_read s.now result ≡ value (line_at s.now at) }
 {
     let d = numeral(s, at);
     match text::integer(d) {
@@ -70,7 +70,7 @@ pub(crate) fn integer_at(s: &[u8], at: usize) -> Integer
 
 pub(crate) fn count_at(s: &[u8], at: usize, lo: u32, hi: u32) -> Count
     requires { hi < 4294967295 }
-    ensures { countRead s.now result ≡ count lo hi (line_at s.now at) }
+    ensures { count_read s.now result ≡ count lo hi (line_at s.now at) }
 {
     match index_at(s, at) {
         Index::Refused(k, p) => Count::Refused(k, p),
@@ -90,8 +90,8 @@ pub(crate) fn count_at(s: &[u8], at: usize, lo: u32, hi: u32) -> Count
 
 pub(crate) fn count_line(s: &[u8], at: usize, key: &[u8], lo: u32, hi: u32, class: u8) -> Count
     requires { (hi < 4294967295) × (class < 10) }
-    ensures { Inside s.now result × ((c : Class) → class ≡ classNumber c
-        → countRead s.now result ≡ numberTo key.now lo hi c (line_at s.now at)) }
+    ensures { Inside s.now result × ((c : Class) → class ≡ class_number c
+        → count_read s.now result ≡ number_to key.now lo hi c (line_at s.now at)) }
 {
     if !text::begins(s, at, key) {
         return Count::Refused(refusals::KEY, at);

@@ -1,7 +1,7 @@
 // The lines of procedures: each one's tokens into the table behind those of the lines before, and its entry into the table of procedures.
 ghost use Rattle.std.specs.Prelude.{◌≡◌, true, ◌<◌, length};
-ghost use Rattle.specification.specs.Sheet.{mostProcedures};
-ghost use Rattle.sheet.specs.Whole.{Filled, leftLines, Went, Goes, Leads, follows, Following, Begun, leftOver, Nearer};
+ghost use Rattle.specification.specs.Sheet.{most_procedures};
+ghost use Rattle.sheet.specs.Whole.{Filled, left_lines, Went, Goes, Leads, follows, Following, Begun, left_over, Nearer};
 
 use crate::formula::{Limits, Reached, Scanned};
 use crate::lines::Count;
@@ -10,7 +10,7 @@ use crate::{formula, lines, words};
 
 // How many procedures an edition has at most.
 fn most(edition: u32) -> u32
-    ensures { result ≡ mostProcedures edition }
+    ensures { result ≡ most_procedures edition }
 {
     if edition == words::FIRST_EDITION {
         return 0;
@@ -76,7 +76,7 @@ fn procedure_line(s: &[u8], d: Limits, x: Reached, w: &mut [u32]) -> Progress
 // One more line after what was read.
 fn next(s: &[u8], p: Progress, w: &mut [u32]) -> Progress
     requires { (follows s.now p ≡ true) × Goes 5 s.now (length w.old) p w.old }
-    ensures { (leftOver result < leftOver p) × Leads 5 s.now (length w.old) p result w.new }
+    ensures { (left_over result < left_over p) × Leads 5 s.now (length w.old) p result w.new }
 {
     match p {
         Progress::Refused(k, q) => Progress::Refused(k, q),
@@ -85,7 +85,7 @@ fn next(s: &[u8], p: Progress, w: &mut [u32]) -> Progress
 }
 
 pub(crate) fn procedure_lines(s: &[u8], d: Limits, x: Reached, w: &mut [u32]) -> Progress
-    requires { Filled (leftLines d) s.now (length w.old) d x w.old }
+    requires { Filled (left_lines d) s.now (length w.old) d x w.old }
     ensures { Went d.strict 6 s.now (length w.old) result w.new }
 {
     let mut q = Progress::Read(d, x);

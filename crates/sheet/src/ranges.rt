@@ -4,11 +4,11 @@ ghost use Rattle.std.specs.Prelude.{◌≡◌, ◌+◌, ◌-◌, ◌<◌, ◌≤
 ghost use Rattle.specification.specs.Parser.{give};
 ghost use Rattle.specification.specs.Lines.{Declared, range, ranges};
 ghost use Rattle.values.specs.Word.{signed};
-ghost use Rattle.tables.specs.Layout.{maxCells, maxScalars, maxArrays, pathAt};
+ghost use Rattle.tables.specs.Layout.{max_cells, max_scalars, max_arrays, path_at};
 ghost use Rattle.sheet.specs.Reader.{line_at};
-ghost use Rattle.sheet.specs.Tables.{laidMarks};
+ghost use Rattle.sheet.specs.Tables.{laid_marks};
 ghost use Rattle.sheet.specs.Items.{Declares, Arranged};
-ghost use Rattle.sheet.specs.RangeLine.{up_to, rangeRead, ledRange, firstIn, end_in, laidIn, laidBy, rangesRead, RangesDone};
+ghost use Rattle.sheet.specs.RangeLine.{up_to, range_read, led_range, first_in, end_in, laid_in, laid_by, ranges_read, RangesDone};
 
 use crate::lines::Integer;
 use crate::{lines, refusals};
@@ -35,7 +35,7 @@ const FIRST_EDITION: u32 = 3;
 
 // After its lowest value, which begins at one place and ends at another.
 fn up_to(s: &[u8], at: usize, lo: u32, e: usize) -> Range
-    ensures { rangeRead s.now result ≡ up_to at (signed lo) (line_at s.now e) }
+    ensures { range_read s.now result ≡ up_to at (signed lo) (line_at s.now e) }
 {
     if text::class_at(s, e) != text::COLON {
         return Range::Refused(refusals::BYTE, e);
@@ -52,7 +52,7 @@ fn up_to(s: &[u8], at: usize, lo: u32, e: usize) -> Range
 }
 
 fn range_at(s: &[u8], at: usize) -> Range
-    ensures { rangeRead s.now result ≡ range (line_at s.now at) }
+    ensures { range_read s.now result ≡ range (line_at s.now at) }
 {
     match lines::integer_at(s, at) {
         Integer::Refused(k, p) => Range::Refused(k, p),
@@ -62,7 +62,7 @@ fn range_at(s: &[u8], at: usize) -> Range
 
 // Range k: all but the first come after a comma.
 fn range_after(s: &[u8], at: usize, k: u32) -> Range
-    ensures { rangeRead s.now result ≡ ledRange k (line_at s.now at) }
+    ensures { range_read s.now result ≡ led_range k (line_at s.now at) }
 {
     if k == 0 {
         return range_at(s, at);
@@ -77,8 +77,8 @@ fn range_after(s: &[u8], at: usize, k: u32) -> Range
 
 // The first cell of range k: a scalar, or the first element of an array.
 fn first_of(w: &[u32], scalars: u32, k: u32) -> u32
-    requires { (k < scalars + maxArrays) × (pathAt ≤ length w.now) }
-    ensures { result ≡ firstIn scalars w.now k }
+    requires { (k < scalars + max_arrays) × (path_at ≤ length w.now) }
+    ensures { result ≡ first_in scalars w.now k }
 {
     if k < scalars {
         return k;
@@ -88,7 +88,7 @@ fn first_of(w: &[u32], scalars: u32, k: u32) -> u32
 
 // The cell after its last.
 fn end_of(w: &[u32], scalars: u32, k: u32) -> u32
-    requires { (k < scalars + maxArrays) × (pathAt ≤ length w.now) }
+    requires { (k < scalars + max_arrays) × (path_at ≤ length w.now) }
     ensures { result ≡ end_in scalars w.now k }
 {
     if k < scalars {
@@ -99,8 +99,8 @@ fn end_of(w: &[u32], scalars: u32, k: u32) -> u32
 
 // Cells from one up to another have this mark.
 fn mark_cells(w: &mut [u32], from: u32, end: u32, mark: u32)
-    requires { (from ≤ end) × (end ≤ maxCells) × (pathAt ≤ length w.old) }
-    ensures { w.new ≡ laidMarks mark from (end - from) w.old }
+    requires { (from ≤ end) × (end ≤ max_cells) × (path_at ≤ length w.old) }
+    ensures { w.new ≡ laid_marks mark from (end - from) w.old }
 {
     let mut c = from;
     while c < end {
@@ -111,9 +111,9 @@ fn mark_cells(w: &mut [u32], from: u32, end: u32, mark: u32)
 
 // The words of range k, and the marks of its cells.
 fn lay(w: &mut [u32], scalars: u32, k: u32, lo: u32, hi: u32)
-    requires { (k < scalars + maxArrays) × (scalars ≤ maxScalars) × (firstIn scalars w.old k ≤ end_in scalars w.old k)
-        × (end_in scalars w.old k ≤ maxCells) × (pathAt ≤ length w.old) }
-    ensures { w.new ≡ laidIn scalars k lo hi w.old }
+    requires { (k < scalars + max_arrays) × (scalars ≤ max_scalars) × (first_in scalars w.old k ≤ end_in scalars w.old k)
+        × (end_in scalars w.old k ≤ max_cells) × (path_at ≤ length w.old) }
+    ensures { w.new ≡ laid_in scalars k lo hi w.old }
 {
     let from = first_of(w, scalars, k);
     let end = end_of(w, scalars, k);
@@ -125,9 +125,9 @@ fn lay(w: &mut [u32], scalars: u32, k: u32, lo: u32, hi: u32)
 
 // Ranges from a place on.
 fn ranges_at(s: &[u8], from: usize, scalars: u32, arrays: u32, w: &mut [u32]) -> Ranges
-    requires { (Arranged scalars arrays w.old) × (scalars ≤ maxScalars) × (pathAt ≤ length w.old) }
+    requires { (Arranged scalars arrays w.old) × (scalars ≤ max_scalars) × (path_at ≤ length w.old) }
     ensures { (D : Declared) → Declares D scalars arrays w.old
-        → rangesRead s.now result w.new ≡ laidBy D w.old (ranges (give tt) (scalars + arrays) (line_at s.now from)) }
+        → ranges_read s.now result w.new ≡ laid_by D w.old (ranges (give tt) (scalars + arrays) (line_at s.now from)) }
 {
     let mut at = from;
     let mut k: u32 = 0;
@@ -155,7 +155,7 @@ pub(crate) fn ranges_line(
     arrays: u32,
     w: &mut [u32],
 ) -> Ranges
-    requires { (Arranged scalars arrays w.old) × (scalars ≤ maxScalars) × (pathAt ≤ length w.old) }
+    requires { (Arranged scalars arrays w.old) × (scalars ≤ max_scalars) × (path_at ≤ length w.old) }
     ensures { RangesDone edition scalars arrays s.now at w.old w.new result }
 {
     if edition < FIRST_EDITION {

@@ -1,7 +1,7 @@
 // The operands of a code: one match on the code gives their sort and how many there are. A procedure's number has its arguments, and its code
 // tells how many.
 ghost use Rattle.std.specs.Prelude.{◌≡◌};
-ghost use Rattle.sheet.specs.Sorts.{wordOperands, arity};
+ghost use Rattle.sheet.specs.Sorts.{word_operands, arity};
 
 use tables::codes;
 
@@ -29,7 +29,7 @@ pub(crate) struct Operands {
 }
 
 pub(crate) fn word_operands(code: u32) -> Operands
-    ensures { result ≡ wordOperands code }
+    ensures { result ≡ word_operands code }
 {
     match code {
         codes::NOT => Operands {

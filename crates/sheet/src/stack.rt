@@ -1,8 +1,8 @@
 // What is due while the formula is read: a stack in the work words, three words an entry.
 ghost use Rattle.std.specs.Prelude.{◌≡◌, ◌+◌, ◌≤◌, ◌<◌, length};
-ghost use Rattle.tables.specs.Layout.{maxLocals, maxNesting, maxDues, pathAt};
-ghost use Rattle.tables.specs.Codes.{procedureCode};
-ghost use Rattle.sheet.specs.Sorts.{formulaSort, upperSort, boundsSort, procedureSort, operandsOf};
+ghost use Rattle.tables.specs.Layout.{max_locals, max_nesting, max_dues, path_at};
+ghost use Rattle.tables.specs.Codes.{procedure_code};
+ghost use Rattle.sheet.specs.Sorts.{formula_sort, upper_sort, bounds_sort, procedure_sort, operands_of};
 ghost use Rattle.sheet.specs.Stack.{entry, entry_at, entered, Coded, Repeated, Opened};
 
 use crate::{Token, sorts};
@@ -20,7 +20,7 @@ pub(crate) struct Entry {
 
 // The i-th entry from the bottom.
 pub(crate) fn get(w: &[u32], i: usize) -> Entry
-    requires { (i < maxDues) × (pathAt ≤ length w.now) }
+    requires { (i < max_dues) × (path_at ≤ length w.now) }
     ensures { result ≡ entry_at w.now i }
 {
     let at = tables::DUES + tables::DUE_WORDS * i;
@@ -32,7 +32,7 @@ pub(crate) fn get(w: &[u32], i: usize) -> Entry
 }
 
 fn put(w: &mut [u32], i: usize, e: Entry)
-    requires { (i < maxDues) × (pathAt ≤ length w.old) }
+    requires { (i < max_dues) × (path_at ≤ length w.old) }
     ensures { w.new ≡ entered w.old i e }
 {
     let at = tables::DUES + tables::DUE_WORDS * i;
@@ -43,8 +43,8 @@ fn put(w: &mut [u32], i: usize, e: Entry)
 
 // Where a formula begins: it alone is due, with all of the nesting.
 pub(crate) fn begin(w: &mut [u32])
-    requires { pathAt ≤ length w.old }
-    ensures { w.new ≡ entered w.old 0 (entry formulaSort maxNesting 0) }
+    requires { path_at ≤ length w.old }
+    ensures { w.new ≡ entered w.old 0 (entry formula_sort max_nesting 0) }
 {
     let e = Entry {
         sort: sorts::FORMULA,
@@ -56,7 +56,7 @@ pub(crate) fn begin(w: &mut [u32])
 
 // The same entry so many times above n entries: how many there are then.
 fn repeat(w: &mut [u32], n: usize, e: Entry, count: u32) -> usize
-    requires { (n + count ≤ maxDues) × (pathAt ≤ length w.old) }
+    requires { (n + count ≤ max_dues) × (path_at ≤ length w.old) }
     ensures { (result ≡ n + count) × Repeated w.old w.new n e count }
 {
     let end = n + count as usize;
@@ -72,8 +72,8 @@ fn repeat(w: &mut [u32], n: usize, e: Entry, count: u32) -> usize
 
 // The operands of a word where a formula or a term is due, put above n entries: how many there are then.
 fn push_operands(w: &mut [u32], n: usize, e: Entry, t: Token) -> usize
-    requires { (n + (operandsOf t.code).count ≤ maxDues) × (pathAt ≤ length w.old) × (0 < e.room) × (e.sort ≤ upperSort)
-        × (t.code < procedureCode) }
+    requires { (n + (operands_of t.code).count ≤ max_dues) × (path_at ≤ length w.old) × (0 < e.room) × (e.sort ≤ upper_sort)
+        × (t.code < procedure_code) }
     ensures { Opened w.old w.new n e t result }
 {
     let o = sorts::word_operands(t.code);
@@ -87,8 +87,8 @@ fn push_operands(w: &mut [u32], n: usize, e: Entry, t: Token) -> usize
 
 // The arguments that follow a procedure's number, beside it.
 fn push_arguments(w: &mut [u32], n: usize, e: Entry, t: Token) -> usize
-    requires { (n + (operandsOf t.code).count ≤ maxDues) × (pathAt ≤ length w.old) × (e.sort ≡ procedureSort)
-        × (procedureCode ≤ t.code) }
+    requires { (n + (operands_of t.code).count ≤ max_dues) × (path_at ≤ length w.old) × (e.sort ≡ procedure_sort)
+        × (procedure_code ≤ t.code) }
     ensures { Opened w.old w.new n e t result }
 {
     let x = Entry {
@@ -101,7 +101,7 @@ fn push_arguments(w: &mut [u32], n: usize, e: Entry, t: Token) -> usize
 
 // The upper bound after a token of the lower one, and above it that token's operands. Only after a constant it is a sort of its own.
 fn push_bounds(w: &mut [u32], n: usize, e: Entry, t: Token) -> usize
-    requires { (n + 3 ≤ maxDues) × (pathAt ≤ length w.old) × (0 < e.room) × (e.sort ≡ boundsSort) × (t.code < procedureCode) }
+    requires { (n + 3 ≤ max_dues) × (path_at ≤ length w.old) × (0 < e.room) × (e.sort ≡ bounds_sort) × (t.code < procedure_code) }
     ensures { Opened w.old w.new n e t result }
 {
     let mut x = e;
@@ -117,8 +117,8 @@ fn push_bounds(w: &mut [u32], n: usize, e: Entry, t: Token) -> usize
 
 // What a token makes due where an entry was due, put above n entries: how many there are then. A binder's formula lies below its bounds.
 pub(crate) fn push(w: &mut [u32], n: usize, e: Entry, t: Token) -> usize
-    requires { (n + 3 ≤ maxDues) × (pathAt ≤ length w.old) × (0 < e.room) × (procedureSort < e.sort → t.operand < maxLocals)
-        × (e.sort ≤ procedureSort → n + (operandsOf t.code).count ≤ maxDues) × Coded e t.code }
+    requires { (n + 3 ≤ max_dues) × (path_at ≤ length w.old) × (0 < e.room) × (procedure_sort < e.sort → t.operand < max_locals)
+        × (e.sort ≤ procedure_sort → n + (operands_of t.code).count ≤ max_dues) × Coded e t.code }
     ensures { Opened w.old w.new n e t result }
 {
     if e.sort <= sorts::UPPER {

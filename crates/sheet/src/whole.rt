@@ -1,8 +1,8 @@
 // The lines in order, those of arrays and of ranges as one, and those of procedures: one reader is handed on from line to line.
 ghost use Rattle.std.specs.Prelude.{◌≡◌, ◌≤◌, ◌+◌, length, replicate};
-ghost use Rattle.tables.specs.Layout.{pathAt};
+ghost use Rattle.tables.specs.Layout.{path_at};
 ghost use Rattle.sheet.specs.Reader.{line_at};
-ghost use Rattle.sheet.specs.Answers.{countRead};
+ghost use Rattle.sheet.specs.Answers.{count_read};
 ghost use Rattle.sheet.specs.Rest.{number_of};
 ghost use Rattle.sheet.specs.Whole.{reached, unread, NumberRead, Headed, Arrayed, Ranged, Filled, Went, Goes, Leads};
 
@@ -71,7 +71,7 @@ fn nothing(strict: bool) -> Progress
 
 // The number of the edition's line, of the scalars' or of the locals'.
 fn counted(s: &[u8], at: usize, k: u32) -> Count
-    ensures { countRead s.now result ≡ number_of k (line_at s.now at) }
+    ensures { count_read s.now result ≡ number_of k (line_at s.now at) }
 {
     if k == EDITION {
         return lines::count_line(
@@ -193,7 +193,7 @@ pub(crate) fn line_at(s: &[u8], p: Progress, k: u32, w: &mut [u32]) -> Progress
 
 // The reader is made here and stands at each line in turn. What was due while formulas were read still stands in the words.
 pub(crate) fn all_lines(s: &[u8], strict: bool, w: &mut [u32]) -> Progress
-    requires { (w.old ≡ replicate (length w.old) 0) × (pathAt ≤ length w.old) }
+    requires { (w.old ≡ replicate (length w.old) 0) × (path_at ≤ length w.old) }
     ensures { Went strict 7 s.now (length w.old) result w.new }
 {
     reader::stand(s, nothing(strict))

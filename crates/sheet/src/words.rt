@@ -1,11 +1,11 @@
 // The words of a formula: from a token's bytes to its code and operand.
 ghost use Rattle.std.specs.Prelude.{◌≡◌, ◌≤◌, ◌<◌, length, drop};
 ghost use Rattle.std.proofs.Math.Option.{some as just};
-ghost use Rattle.specification.specs.Bytes.{inNumber};
+ghost use Rattle.specification.specs.Bytes.{in_number};
 ghost use Rattle.specification.specs.Number.{natural, integer};
 ghost use Rattle.specification.specs.Words.{words, name_of, constant_of, word_of, number_of};
-ghost use Rattle.sheet.specs.Codes.{indexWord, tokenOf};
-ghost use Rattle.sheet.specs.Packed.{packed, codeBy, code_in, indexed, parameterToken};
+ghost use Rattle.sheet.specs.Codes.{index_word, token_of};
+ghost use Rattle.sheet.specs.Packed.{packed, code_by, code_in, indexed, parameter_token};
 
 use crate::Token;
 use tables::codes;
@@ -38,7 +38,7 @@ fn pack(t: &[u8]) -> u64
 
 // The code of a word of edition 1 by the number of its bytes, 0 for any other: two digits a byte, the last byte first, and a 1 before them.
 fn first_edition(word: u64) -> u32
-    ensures { result ≡ codeBy word (words 1) }
+    ensures { result ≡ code_by word (words 1) }
 {
     match word {
         0x1_65_75_72_74 => codes::TRUE, // true
@@ -66,7 +66,7 @@ fn first_edition(word: u64) -> u32
 
 // The same of edition 2.
 fn second_edition(word: u64) -> u32
-    ensures { result ≡ codeBy word (words 2) }
+    ensures { result ≡ code_by word (words 2) }
 {
     match word {
         0x1_6c_6c_61_63 => codes::CALL, // call
@@ -76,7 +76,7 @@ fn second_edition(word: u64) -> u32
 
 // And from edition 3 on: `div` and `mod` round down, and two words carry the older pair.
 fn third_edition(word: u64) -> u32
-    ensures { result ≡ codeBy word (words 3) }
+    ensures { result ≡ code_by word (words 3) }
 {
     match word {
         DIV => codes::DIV,
@@ -106,7 +106,7 @@ fn word_code(t: &[u8], edition: u32) -> u32
 
 // Whether a token that begins with this byte is a constant.
 fn numeric(b: u8) -> bool
-    ensures { result ≡ inNumber b }
+    ensures { result ≡ in_number b }
 {
     let k = text::class(b);
     if k == text::DIGIT {
@@ -116,7 +116,7 @@ fn numeric(b: u8) -> bool
 }
 
 fn constant(t: &[u8]) -> Token
-    ensures { result ≡ tokenOf (constant_of (integer t.now)) }
+    ensures { result ≡ token_of (constant_of (integer t.now)) }
 {
     match text::integer(t) {
         Word::Bad => Token {
@@ -132,7 +132,7 @@ fn constant(t: &[u8]) -> Token
 
 // An index, held at the largest word.
 fn index_word(n: u64) -> u32
-    ensures { result ≡ indexWord n }
+    ensures { result ≡ index_word n }
 {
     if 4294967295 < n {
         return 4294967295;
@@ -160,7 +160,7 @@ fn index(code: u32, t: &[u8]) -> Token
 // The token of pN, which is no word of edition 1.
 fn parameter(t: &[u8], edition: u32) -> Token
     requires { 0 < length t.now }
-    ensures { result ≡ parameterToken edition (natural (drop 1 t.now)) }
+    ensures { result ≡ parameter_token edition (natural (drop 1 t.now)) }
 {
     if edition == FIRST_EDITION {
         return Token {
@@ -173,7 +173,7 @@ fn parameter(t: &[u8], edition: u32) -> Token
 
 fn name(t: &[u8], edition: u32) -> Token
     requires { 0 < length t.now }
-    ensures { result ≡ tokenOf (just (name_of edition t.now)) }
+    ensures { result ≡ token_of (just (name_of edition t.now)) }
 {
     let b = t[0];
     if b == b'v' {
@@ -196,7 +196,7 @@ fn name(t: &[u8], edition: u32) -> Token
 
 // The token that bytes spell under an edition.
 pub(crate) fn lex(t: &[u8], edition: u32) -> Token
-    ensures { result ≡ tokenOf (word_of edition t.now) }
+    ensures { result ≡ token_of (word_of edition t.now) }
 {
     if t.len() == 0 {
         return Token {
@@ -219,7 +219,7 @@ pub(crate) fn lex(t: &[u8], edition: u32) -> Token
 
 // The token that bytes spell where a procedure's number is due.
 pub(crate) fn number(t: &[u8]) -> Token
-    ensures { result ≡ tokenOf (number_of t.now) }
+    ensures { result ≡ token_of (number_of t.now) }
 {
     if t.len() == 0 {
         return Token {

@@ -1,5 +1,5 @@
 -- The arithmetic that both readings of a sheet share: mathematical integers, each operation exact and then held to 32 bits. Division is
--- toward zero (`quot_z`) or rounds down (`floorZ`). Assumes nothing.
+-- toward zero (`quot_z`) or rounds down (`floor_z`). Assumes nothing.
 use Rattle.std.specs.Prelude.{ℕ, zero, suc, ◌+◌, ◌-◌, ◌/◌, Bool, false, not, eqb, ℤ, pos, negsuc, ◌+ℤ◌, ◌-ℤ◌, ◌*ℤ◌}
 use Rattle.std.specs.Int.Signed.{lt_z, le_z, quot_z}
 use Rattle.specification.specs.Bytes.{pick}
@@ -8,20 +8,20 @@ use Rattle.specification.specs.Ast.{Op, add, sub, mul, quo, rem, div, modulo, Re
 
 -- ---- error kinds
 
-abbrev pub noValue : ℕ
-noValue = 1
+abbrev pub no_value : ℕ
+no_value = 1
 
 abbrev pub outside32 : ℕ
 outside32 = 2
 
-abbrev pub zeroDivisor : ℕ
-zeroDivisor = 3
+abbrev pub zero_divisor : ℕ
+zero_divisor = 3
 
-abbrev pub outsideArray : ℕ
-outsideArray = 4
+abbrev pub outside_array : ℕ
+outside_array = 4
 
-abbrev pub undecidedInside : ℕ
-undecidedInside = 6
+abbrev pub undecided_inside : ℕ
+undecided_inside = 6
 
 -- ---- operations
 
@@ -35,17 +35,17 @@ fit z = pick (in32 z) (value z) (fault outside32)
 
 -- zero divides nothing
 abbrev pub divided : ℤ → Computed → Computed
-divided (pos zero) c = fault zeroDivisor
+divided (pos zero) c = fault zero_divisor
 divided (pos (suc n)) c = c
 divided (negsuc n) c = c
 
 -- the quotient rounded down: -(n + 1) by b is -(n / b) - 1. Of the divisor 0 nothing is asked
-abbrev pub floorZ : ℤ → ℤ → ℤ
-floorZ (pos a) (pos b) = pos (a / b)
-floorZ (pos zero) (negsuc b) = pos zero
-floorZ (pos (suc a)) (negsuc b) = negsuc (a / suc b)
-floorZ (negsuc a) (pos b) = negsuc (a / b)
-floorZ (negsuc a) (negsuc b) = pos (suc a / suc b)
+abbrev pub floor_z : ℤ → ℤ → ℤ
+floor_z (pos a) (pos b) = pos (a / b)
+floor_z (pos zero) (negsuc b) = pos zero
+floor_z (pos (suc a)) (negsuc b) = negsuc (a / suc b)
+floor_z (negsuc a) (pos b) = negsuc (a / b)
+floor_z (negsuc a) (negsuc b) = pos (suc a / suc b)
 
 -- what a quotient leaves of x by y
 abbrev pub remains : ℤ → ℤ → ℤ → ℤ
@@ -58,19 +58,19 @@ compute sub x y = fit (x -ℤ y)
 compute mul x y = fit (x *ℤ y)
 compute quo x y = divided y (fit (quot_z x y))
 compute rem x y = divided y (fit (remains x y (quot_z x y)))
-compute div x y = divided y (fit (floorZ x y))
-compute modulo x y = divided y (fit (remains x y (floorZ x y)))
+compute div x y = divided y (fit (floor_z x y))
+compute modulo x y = divided y (fit (remains x y (floor_z x y)))
 
 -- ---- comparisons
 
-abbrev pub eqZ : ℤ → ℤ → Bool
-eqZ (pos a) (pos b) = eqb a b
-eqZ (pos a) (negsuc b) = false
-eqZ (negsuc a) (pos b) = false
-eqZ (negsuc a) (negsuc b) = eqb a b
+abbrev pub eq_z : ℤ → ℤ → Bool
+eq_z (pos a) (pos b) = eqb a b
+eq_z (pos a) (negsuc b) = false
+eq_z (negsuc a) (pos b) = false
+eq_z (negsuc a) (negsuc b) = eqb a b
 
 unfoldable pub test : Rel → ℤ → ℤ → Bool
-test ne x y = not (eqZ x y)
+test ne x y = not (eq_z x y)
 test lt x y = lt_z x y
 test le x y = le_z x y
 test gt x y = lt_z y x

@@ -13,10 +13,10 @@ pub data Rel : Type 0 where
 -- a parameter stands in a procedure's line only
 pub data Term : Type 0 where
   constant : ℤ → Term
-  scalarAt : ℕ → Term
+  scalar_at : ℕ → Term
   local_at : ℕ → Term
   parameter : ℕ → Term
-  elementAt : ℕ → Term → Term
+  element_at : ℕ → Term → Term
   apply : Op → Term → Term → Term
 
 pub data Formula : Type 0 where

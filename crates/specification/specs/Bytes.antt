@@ -3,7 +3,7 @@
 -- Assumes nothing.
 use Rattle.std.specs.Prelude.{ℕ, Bool, true, false, not, ◌&&◌, ◌||◌, List, [], ◌∷◌, leb, eqb}
 use Prim.Native.String.{String}
-use Prim.Native.Char.{code as charCode}
+use Prim.Native.Char.{code as char_code}
 
 abbrev pub Bytes : Type 0
 Bytes = List ℕ
@@ -11,7 +11,7 @@ Bytes = List ℕ
 -- the bytes of a text, so that keys, words and whole sheets are written as they stand
 abbrev pub bytes : String → Bytes
 bytes String.[] = []
-bytes (String.◌∷◌ c s) = charCode c ∷ bytes s
+bytes (String.◌∷◌ c s) = char_code c ∷ bytes s
 
 -- the first where the test holds, else the second
 abbrev pub pick {ℓ} : {A : Type ℓ} → Bool → A → A → A
@@ -41,29 +41,29 @@ class_of b =
     (pick (eqb b 46) point other))))))))
 
 -- a number for each class, the one that the box has for it
-unfoldable pub classNumber : Class → ℕ
-classNumber other = 0
-classNumber letter = 1
-classNumber digit = 2
-classNumber space = 3
-classNumber feed = 4
-classNumber minus = 5
-classNumber equals = 6
-classNumber comma = 7
-classNumber colon = 8
-classNumber point = 9
+unfoldable pub class_number : Class → ℕ
+class_number other = 0
+class_number letter = 1
+class_number digit = 2
+class_number space = 3
+class_number feed = 4
+class_number minus = 5
+class_number equals = 6
+class_number comma = 7
+class_number colon = 8
+class_number point = 9
 
 -- whether a byte is of a class
-unfoldable pub isIn : Class → ℕ → Bool
-isIn c b = eqb (classNumber c) (classNumber (class_of b))
+unfoldable pub is_in : Class → ℕ → Bool
+is_in c b = eqb (class_number c) (class_number (class_of b))
 
 -- digits and minus signs make a number
-unfoldable pub inNumber : ℕ → Bool
-inNumber b = isIn digit b || isIn minus b
+unfoldable pub in_number : ℕ → Bool
+in_number b = is_in digit b || is_in minus b
 
 -- a token ends at a space, a line feed or the sheet's end
-unfoldable pub inToken : ℕ → Bool
-inToken b = not (isIn space b || isIn feed b)
+unfoldable pub in_token : ℕ → Bool
+in_token b = not (is_in space b || is_in feed b)
 
 -- ---- lists of bytes
 

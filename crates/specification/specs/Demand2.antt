@@ -8,21 +8,21 @@ use Rattle.specification.specs.declared.Tallies.{Tallies}
 use Rattle.specification.specs.declared.End.{End}
 use Rattle.specification.specs.declared.End.TheVariants.{Done, Spent, Path, Output}
 use Rattle.specification.specs.Sheet.{Sheet}
-use Rattle.specification.specs.Listing.{Block, listingText}
-use Rattle.specification.specs.Leaves.{Leaf, leaves, isAnswer, isError, isFail, howMany, blocks}
+use Rattle.specification.specs.Listing.{Block, listing_text}
+use Rattle.specification.specs.Leaves.{Leaf, leaves, is_answer, is_error, is_fail, how_many, blocks}
 use Rattle.specification.specs.Visits.{Event, node, leaf, Visit}
-use Rattle.specification.specs.Outcome.{rootOf, visitsOf}
+use Rattle.specification.specs.Outcome.{root_of, visits_of}
 
 -- ---- what lies before a place
 
-abbrev pub isLeaf : Event → ℕ
-isLeaf node = 0
-isLeaf (leaf l) = 1
+abbrev pub is_leaf : Event → ℕ
+is_leaf node = 0
+is_leaf (leaf l) = 1
 
 -- how many of these visits are leaves of the main tree
-unfoldable pub leafCount : List Visit → ℕ
-leafCount [] = 0
-leafCount (v ∷ vs) = isLeaf v.event + leafCount vs
+unfoldable pub leaf_count : List Visit → ℕ
+leaf_count [] = 0
+leaf_count (v ∷ vs) = is_leaf v.event + leaf_count vs
 
 -- the blocks past the skipped ones
 abbrev pub past : ℕ → List Block → List Block
@@ -30,27 +30,27 @@ past skip bs = drop skip bs
 
 module _ (s : Sheet) where
   -- the leaves before the place: so many of the tree's, from the left
-  unfoldable pub leavesBefore : ℕ → List Leaf
-  leavesBefore n = take (leafCount (take n (visitsOf s))) (leaves (rootOf s))
+  unfoldable pub leaves_before : ℕ → List Leaf
+  leaves_before n = take (leaf_count (take n (visits_of s))) (leaves (root_of s))
 
   -- the blocks of the answers and errors among them, past the skipped ones
-  unfoldable pub listedBefore : ℕ → ℕ → List Block
-  listedBefore skip n = past skip (blocks s.declared 0 0 (leavesBefore n))
+  unfoldable pub listed_before : ℕ → ℕ → List Block
+  listed_before skip n = past skip (blocks s.declared 0 0 (leaves_before n))
 
   -- this visit comes next
   abbrev pub Next : ℕ → Visit → Type 0
-  Next n v = (later : List Visit) × (drop n (visitsOf s) ≡ v ∷ later)
+  Next n v = (later : List Visit) × (drop n (visits_of s) ≡ v ∷ later)
 
   -- ---- the condition of each end
 
   module _ (S : Setting) (size : ℕ) where
     -- all visited; or, before the next visit, the budget reached, else the path limit passed; or its block does not fit
     abbrev pub Ends : End → ℕ → Type 0
-    Ends Done n = n ≡ length (visitsOf s)
+    Ends Done n = n ≡ length (visits_of s)
     Ends Spent n = (v : Visit) × Next n v × (n ≡ S.budget)
     Ends Path n = (v : Visit) × Next n v × (¬ (n ≡ S.budget)) × (S.path < v.depth)
     Ends Output n =
-        (v : Visit) × Next n v × (¬ (n ≡ S.budget)) × (v.depth ≤ S.path) × (size < length (listingText (listedBefore S.skip (suc n))))
+        (v : Visit) × Next n v × (¬ (n ≡ S.budget)) × (v.depth ≤ S.path) × (size < length (listing_text (listed_before S.skip (suc n))))
 
 -- the visits that a run ended at a place has made: the leaf whose block does not fit is in the nodes only
 abbrev pub visited : End → ℕ → ℕ
@@ -65,12 +65,12 @@ pub record ReadLeftToRight (s : Sheet) (S : Setting) (size : ℕ) (end : End) (t
   -- where the run ended
   pub place : ℕ
   -- every answer leaf and every error leaf, past those skipped and up to that place, is listed in that order, and no other
-  pub blocks : listed ≡ listedBefore s S.skip place
+  pub blocks : listed ≡ listed_before s S.skip place
   -- the end is the one whose condition holds there, and no condition holds before
   pub ends : Ends s S size end place
-  pub nowhere-before : (n : ℕ) → n < place → (e : End) → ¬ Ends s S size e n
+  pub nowhere_before : (n : ℕ) → n < place → (e : End) → ¬ Ends s S size e n
   -- the tallies are the nodes and leaves visited, and the answers, errors and failures among the leaves before that place
   pub nodes : t.nodes ≡ visited end place
-  pub answers : t.answers ≡ howMany isAnswer (leavesBefore s place)
-  pub errors : t.errors ≡ howMany isError (leavesBefore s place)
-  pub fails : t.fails ≡ howMany isFail (leavesBefore s place)
+  pub answers : t.answers ≡ how_many is_answer (leaves_before s place)
+  pub errors : t.errors ≡ how_many is_error (leaves_before s place)
+  pub fails : t.fails ≡ how_many is_fail (leaves_before s place)

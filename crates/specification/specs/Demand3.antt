@@ -6,21 +6,21 @@ use Rattle.specification.specs.Bytes.{Bytes}
 use Rattle.specification.specs.Lines.{Declared, cell_of}
 use Rattle.specification.specs.Given.{Item}
 use Rattle.specification.specs.Sheet.{Sheet}
-use Rattle.specification.specs.Listing.{Head, answerHead, errorHead, Block}
+use Rattle.specification.specs.Listing.{Head, answer_head, error_head, Block}
 use Rattle.specification.specs.Listed.{Listed}
 use Rattle.specification.specs.Plain.{Filling, Fills, Keeps, True}
 
 -- ---- of blocks
 
-abbrev pub headsAnswer : Head → Bool
-headsAnswer (answerHead n) = true
-headsAnswer (errorHead n kind token) = false
+abbrev pub heads_answer : Head → Bool
+heads_answer (answer_head n) = true
+heads_answer (error_head n kind token) = false
 
 abbrev pub IsAnswer : Block → Type 0
-IsAnswer b = T (headsAnswer b.head)
+IsAnswer b = T (heads_answer b.head)
 
 abbrev pub IsError : Block → Type 0
-IsError b = T (not (headsAnswer b.head))
+IsError b = T (not (heads_answer b.head))
 
 -- the block has a line for this cell, with this value
 abbrev pub Names : Declared → Block → Item → Type 0
@@ -43,7 +43,7 @@ NoPattern s = (φ : Filling) → Such s φ → ¬ True s φ
 -- every listed answer is right
 pub record Right (s : Sheet) (listed : List Block) : Type 0 where
   -- every listed answer names each given cell with its given value
-  pub names-given : Each (λ b. IsAnswer b → Each (Names s.declared b) s.given) listed
+  pub names_given : Each (λ b. IsAnswer b → Each (Names s.declared b) s.given) listed
   -- such a filling that agrees with a listed answer makes the formula true
   pub sound : (φ : Filling) → Such s φ → Each (λ b. IsAnswer b → Agrees s.declared φ b → True s φ) listed
 
@@ -53,12 +53,12 @@ pub record Agreement (s : Sheet) (listed : List Block) : Type 0 where
   -- such a filling that makes the formula true agrees with some listed answer or error block
   pub complete : (φ : Filling) → Such s φ → True s φ → Some (Agrees s.declared φ) listed
   -- where no error block is listed, it makes the formula true exactly when it agrees with some listed answer
-  pub exactly-when :
+  pub exactly_when :
       Each IsAnswer listed → (φ : Filling) → Such s φ →
       (True s φ → Some (λ b. IsAnswer b × Agrees s.declared φ b) listed) ×
       (Some (λ b. IsAnswer b × Agrees s.declared φ b) listed → True s φ)
   -- and no answer is listed exactly when no such filling makes the formula true
-  pub none-exactly-when :
+  pub none_exactly_when :
       Each IsAnswer listed →
       (Each IsError listed → NoPattern s) × (NoPattern s → Each IsError listed)
 

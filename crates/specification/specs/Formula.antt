@@ -4,12 +4,12 @@
 use Rattle.std.specs.Prelude.{ℕ, zero, suc, Bool, false, not, ◌&&◌, ◌||◌, List, [], ◌∷◌, length, ltb, eqb, ℤ}
 use Rattle.std.proofs.Math.Option.{Option}
 use Rattle.std.specs.Int.Signed.{le_z}
-use Rattle.specification.specs.Bytes.{Bytes, pick, space, inToken}
+use Rattle.specification.specs.Bytes.{Bytes, pick, space, in_token}
 use Rattle.specification.specs.Parser.{Parser, refused, found, give, refuse, require, present, ◌>>=◌, ◌>>◌, here, mark, taken}
-use Rattle.specification.specs.Lines.{Declared, procedureOf}
-use Rattle.specification.specs.Ast.{Term, constant, scalarAt, local_at, parameter, elementAt, apply, Formula, truth, and, or, imp, neg, eq, compare, ex, some, all, call}
+use Rattle.specification.specs.Lines.{Declared, procedure_of}
+use Rattle.specification.specs.Ast.{Term, constant, scalar_at, local_at, parameter, element_at, apply, Formula, truth, and, or, imp, neg, eq, compare, ex, some, all, call}
 use Rattle.specification.specs.Fill.{fill}
-use Rattle.specification.specs.Words.{FormulaWord, trueWord, andWord, orWord, impWord, notWord, eqWord, exWord, someWord, allWord, call_word, relWord, TermWord, constantWord, scalarWord, localWord, arrayWord, parameterWord, opWord, Word, formulaWord, termWord, numberWord, unknown, word_of, number_of}
+use Rattle.specification.specs.Words.{FormulaWord, true_word, and_word, or_word, imp_word, not_word, eq_word, ex_word, some_word, all_word, call_word, rel_word, TermWord, constant_word, scalar_word, local_word, array_word, parameter_word, op_word, Word, formula_word, term_word, number_word, unknown, word_of, number_of}
 
 -- ---- tokens
 
@@ -31,7 +31,7 @@ unfoldable pub token : (Bytes → Option Word) → Parser Token
 token word = do
   p ← here
   n ← numbered
-  bs ← taken inToken
+  bs ← taken in_token
   w ← present 4 p (word bs)
   give (record { place = p; number = n; word = w })
 
@@ -41,8 +41,8 @@ module _ {A : Type 0} where
   operand p = mark space >> p
 
   -- nesting 65
-  abbrev pub tooDeep : Parser A
-  tooDeep = here >>= refuse 9
+  abbrev pub too_deep : Parser A
+  too_deep = here >>= refuse 9
 
 -- ---- locals
 
@@ -65,76 +65,76 @@ bind p l r =
 -- the bound is a constant, and x is above it
 unfoldable pub above : ℤ → Term → Bool
 above x (constant y) = not (le_z x y)
-above x (scalarAt n) = false
+above x (scalar_at n) = false
 above x (local_at l) = false
 above x (parameter n) = false
-above x (elementAt a t) = false
+above x (element_at a t) = false
 above x (apply o s t) = false
 
 -- both bounds are constants, and the lower is above the upper
-unfoldable pub emptyRange : Term → Term → Bool
-emptyRange (constant x) b = above x b
-emptyRange (scalarAt n) b = false
-emptyRange (local_at l) b = false
-emptyRange (parameter n) b = false
-emptyRange (elementAt a t) b = false
-emptyRange (apply o s t) b = false
+unfoldable pub empty_range : Term → Term → Bool
+empty_range (constant x) b = above x b
+empty_range (scalar_at n) b = false
+empty_range (local_at l) b = false
+empty_range (parameter n) b = false
+empty_range (element_at a t) b = false
+empty_range (apply o s t) b = false
 
 -- the range of a quantifier at p; where empty ones are refused, it is 17
-abbrev pub nonEmpty : Bool → ℕ → Term → Term → Parser (Unit {0})
-nonEmpty refusing p a b = require (not (refusing && emptyRange a b)) 17 p (give tt)
+abbrev pub non_empty : Bool → ℕ → Term → Term → Parser (Unit {0})
+non_empty refusing p a b = require (not (refusing && empty_range a b)) 17 p (give tt)
 
 -- ---- a token of each sort; k is how much deeper nesting may go
 
 module _ (D : Declared) where
   -- L, a binder's local
-  abbrev pub binderOf : ℕ → TermWord → Parser ℕ
-  binderOf p (localWord l) = require (ltb l D.locals) 7 p (bind p l)
-  binderOf p (constantWord z) = refuse 6 p
-  binderOf p (scalarWord n) = refuse 6 p
-  binderOf p (arrayWord a) = refuse 6 p
-  binderOf p (parameterWord n) = refuse 6 p
-  binderOf p (opWord o) = refuse 6 p
+  abbrev pub binder_of : ℕ → TermWord → Parser ℕ
+  binder_of p (local_word l) = require (ltb l D.locals) 7 p (bind p l)
+  binder_of p (constant_word z) = refuse 6 p
+  binder_of p (scalar_word n) = refuse 6 p
+  binder_of p (array_word a) = refuse 6 p
+  binder_of p (parameter_word n) = refuse 6 p
+  binder_of p (op_word o) = refuse 6 p
 
-  abbrev pub binderWith : Token → Word → Parser ℕ
-  binderWith t (termWord w) = binderOf t.place w
-  binderWith t (formulaWord w) = refuse 6 t.place
-  binderWith t (numberWord n) = refuse 6 t.place
-  binderWith t unknown = refuse 6 t.place
+  abbrev pub binder_with : Token → Word → Parser ℕ
+  binder_with t (term_word w) = binder_of t.place w
+  binder_with t (formula_word w) = refuse 6 t.place
+  binder_with t (number_word n) = refuse 6 t.place
+  binder_with t unknown = refuse 6 t.place
 
   unfoldable pub binder : ℕ → Parser ℕ
-  binder zero = tooDeep
-  binder (suc k) = token (word_of D.edition) >>= λ t. binderWith t t.word
+  binder zero = too_deep
+  binder (suc k) = token (word_of D.edition) >>= λ t. binder_with t t.word
 
   -- K, the number of the procedure that a call names: an earlier one
-  abbrev pub procedureWith : Token → Word → Parser ℕ
-  procedureWith t (numberWord K) = require (ltb K (length D.procedures)) 11 t.place (give K)
-  procedureWith t (formulaWord w) = refuse 6 t.place
-  procedureWith t (termWord w) = refuse 6 t.place
-  procedureWith t unknown = refuse 6 t.place
+  abbrev pub procedure_with : Token → Word → Parser ℕ
+  procedure_with t (number_word K) = require (ltb K (length D.procedures)) 11 t.place (give K)
+  procedure_with t (formula_word w) = refuse 6 t.place
+  procedure_with t (term_word w) = refuse 6 t.place
+  procedure_with t unknown = refuse 6 t.place
 
   unfoldable pub procedure : ℕ → Parser ℕ
-  procedure zero = tooDeep
-  procedure (suc k) = token number_of >>= λ t. procedureWith t t.word
+  procedure zero = too_deep
+  procedure (suc k) = token number_of >>= λ t. procedure_with t t.word
 
   -- T, a term, with the locals in scope
-  abbrev pub termOf : Parser Term → Locals → ℕ → TermWord → Parser Term
-  termOf T S p (constantWord z) = give (constant z)
-  termOf T S p (scalarWord n) = require (ltb n D.scalars) 7 p (give (scalarAt n))
-  termOf T S p (localWord l) = require (ltb l D.locals) 7 p (require (has l S) 8 p (give (local_at l)))
-  termOf T S p (parameterWord n) = require (ltb n D.parameters) 12 p (give (parameter n))
-  termOf T S p (arrayWord a) = require (ltb a (length D.arrays)) 7 p (do i ← operand T; give (elementAt a i))
-  termOf T S p (opWord o) = do s ← operand T; t ← operand T; give (apply o s t)
+  abbrev pub term_of : Parser Term → Locals → ℕ → TermWord → Parser Term
+  term_of T S p (constant_word z) = give (constant z)
+  term_of T S p (scalar_word n) = require (ltb n D.scalars) 7 p (give (scalar_at n))
+  term_of T S p (local_word l) = require (ltb l D.locals) 7 p (require (has l S) 8 p (give (local_at l)))
+  term_of T S p (parameter_word n) = require (ltb n D.parameters) 12 p (give (parameter n))
+  term_of T S p (array_word a) = require (ltb a (length D.arrays)) 7 p (do i ← operand T; give (element_at a i))
+  term_of T S p (op_word o) = do s ← operand T; t ← operand T; give (apply o s t)
 
-  abbrev pub termWith : Parser Term → Locals → Token → Word → Parser Term
-  termWith T S t (termWord w) = termOf T S t.place w
-  termWith T S t (formulaWord w) = refuse 6 t.place
-  termWith T S t (numberWord n) = refuse 6 t.place
-  termWith T S t unknown = refuse 6 t.place
+  abbrev pub term_with : Parser Term → Locals → Token → Word → Parser Term
+  term_with T S t (term_word w) = term_of T S t.place w
+  term_with T S t (formula_word w) = refuse 6 t.place
+  term_with T S t (number_word n) = refuse 6 t.place
+  term_with T S t unknown = refuse 6 t.place
 
   unfoldable pub term : ℕ → Locals → Parser Term
-  term zero S = tooDeep
-  term (suc k) S = token (word_of D.edition) >>= λ t. termWith (λ r. term k S r) S t t.word
+  term zero S = too_deep
+  term (suc k) S = token (word_of D.edition) >>= λ t. term_with (λ r. term k S r) S t t.word
 
   -- n of them, the arguments of a call
   unfoldable pub arguments : Parser Term → ℕ → Parser (List Term)
@@ -143,42 +143,42 @@ module _ (D : Declared) where
 
 -- F, a formula: each word with its own operands. A binder's local is in scope in its F, not in its bounds
 module _ (refusing : Bool) (D : Declared) where
-  abbrev pub formulaOf : (Locals → Parser Formula) → Parser Term → Parser ℕ → Parser ℕ → Locals → ℕ → ℕ → FormulaWord → Parser Formula
-  formulaOf F T L K S p n trueWord = give truth
-  formulaOf F T L K S p n andWord = do f ← operand (F S); g ← operand (F S); give (and f g)
-  formulaOf F T L K S p n orWord = do f ← operand (F S); g ← operand (F S); give (or f g)
-  formulaOf F T L K S p n impWord = do f ← operand (F S); g ← operand (F S); give (imp n f g)
-  formulaOf F T L K S p n notWord = do f ← operand (F S); give (neg n f)
-  formulaOf F T L K S p n eqWord = do s ← operand T; t ← operand T; give (eq n s t)
-  formulaOf F T L K S p n (relWord r) = do s ← operand T; t ← operand T; give (compare n r s t)
-  formulaOf F T L K S p n exWord = do l ← operand L; f ← operand (F (l ∷ S)); give (ex l f)
-  formulaOf F T L K S p n someWord = do
+  abbrev pub formula_of : (Locals → Parser Formula) → Parser Term → Parser ℕ → Parser ℕ → Locals → ℕ → ℕ → FormulaWord → Parser Formula
+  formula_of F T L K S p n true_word = give truth
+  formula_of F T L K S p n and_word = do f ← operand (F S); g ← operand (F S); give (and f g)
+  formula_of F T L K S p n or_word = do f ← operand (F S); g ← operand (F S); give (or f g)
+  formula_of F T L K S p n imp_word = do f ← operand (F S); g ← operand (F S); give (imp n f g)
+  formula_of F T L K S p n not_word = do f ← operand (F S); give (neg n f)
+  formula_of F T L K S p n eq_word = do s ← operand T; t ← operand T; give (eq n s t)
+  formula_of F T L K S p n (rel_word r) = do s ← operand T; t ← operand T; give (compare n r s t)
+  formula_of F T L K S p n ex_word = do l ← operand L; f ← operand (F (l ∷ S)); give (ex l f)
+  formula_of F T L K S p n some_word = do
     l ← operand L
     a ← operand T
     b ← operand T
-    nonEmpty refusing p a b
+    non_empty refusing p a b
     f ← operand (F (l ∷ S))
     give (some n l a b f)
-  formulaOf F T L K S p n allWord = do
+  formula_of F T L K S p n all_word = do
     l ← operand L
     a ← operand T
     b ← operand T
-    nonEmpty refusing p a b
+    non_empty refusing p a b
     f ← operand (F (l ∷ S))
     give (all n l a b f)
-  formulaOf F T L K S p n call_word = do
+  formula_of F T L K S p n call_word = do
     J ← operand K
-    ts ← arguments D T (procedureOf D J).parameters
-    give (call J ts (fill ts (procedureOf D J).formula))
+    ts ← arguments D T (procedure_of D J).parameters
+    give (call J ts (fill ts (procedure_of D J).formula))
 
-  abbrev pub formulaWith : (Locals → Parser Formula) → Parser Term → Parser ℕ → Parser ℕ → Locals → Token → Word → Parser Formula
-  formulaWith F T L K S t (formulaWord w) = formulaOf F T L K S t.place t.number w
-  formulaWith F T L K S t (termWord w) = refuse 6 t.place
-  formulaWith F T L K S t (numberWord n) = refuse 6 t.place
-  formulaWith F T L K S t unknown = refuse 6 t.place
+  abbrev pub formula_with : (Locals → Parser Formula) → Parser Term → Parser ℕ → Parser ℕ → Locals → Token → Word → Parser Formula
+  formula_with F T L K S t (formula_word w) = formula_of F T L K S t.place t.number w
+  formula_with F T L K S t (term_word w) = refuse 6 t.place
+  formula_with F T L K S t (number_word n) = refuse 6 t.place
+  formula_with F T L K S t unknown = refuse 6 t.place
 
   unfoldable pub formula : ℕ → Locals → Parser Formula
-  formula zero S = tooDeep
+  formula zero S = too_deep
   formula (suc k) S =
       token (word_of D.edition) >>= λ t.
-      formulaWith (λ S' r. formula k S' r) (λ r. term D k S r) (λ r. binder D k r) (λ r. procedure D k r) S t t.word
+      formula_with (λ S' r. formula k S' r) (λ r. term D k S r) (λ r. binder D k r) (λ r. procedure D k r) S t t.word

@@ -2,21 +2,21 @@
 use Rattle.std.specs.Prelude.{ℕ, zero, suc, List, [], ◌∷◌, leb, ℤ}
 use Rattle.specification.specs.Bytes.{bytes, pick, feed, comma, colon, point}
 use Rattle.specification.specs.Parser.{Parser, give, require, ◌>>=◌, ◌>>◌, here, sees, spells, mark, exactly, key}
-use Rattle.specification.specs.Lines.{index, value, Declared, CellName, scalar, element, isDeclared, cell_of, in_range}
+use Rattle.specification.specs.Lines.{index, value, Declared, CellName, scalar, element, is_declared, cell_of, in_range}
 
 -- a given cell and its value
 pub record Item : Type 0 where
   pub cell : ℕ
   pub value : ℤ
 
-unfoldable pub scalarName : Parser CellName
-scalarName = do
+unfoldable pub scalar_name : Parser CellName
+scalar_name = do
   exactly 5 (bytes "v")
   n ← index
   give (scalar n)
 
-unfoldable pub elementName : Parser CellName
-elementName = do
+unfoldable pub element_name : Parser CellName
+element_name = do
   exactly 5 (bytes "a")
   a ← index
   mark point
@@ -27,7 +27,7 @@ elementName = do
 unfoldable pub name : Parser CellName
 name = do
   v ← spells (bytes "v")
-  pick v scalarName elementName
+  pick v scalar_name element_name
 
 module _ (D : Declared) where
   -- an item: 4 and 5 as read, then 7, then 10 where its cell is below the floor, then 13 where its value is none that the cell may have
@@ -37,7 +37,7 @@ module _ (D : Declared) where
     n ← name
     mark colon
     z ← value
-    require (isDeclared D n) 7 p
+    require (is_declared D n) 7 p
         (require (leb floor (cell_of D n)) 10 p
         (require (in_range D (cell_of D n) z) 13 p (give (record { cell = cell_of D n; value = z }))))
 
@@ -53,8 +53,8 @@ module _ (D : Declared) where
     is ← (let r = mark comma >> items k (suc i.cell) in pick more r (give []))
     give (i ∷ is)
 
-  unfoldable pub givenLine : Parser (List Item)
-  givenLine = do
+  unfoldable pub given_line : Parser (List Item)
+  given_line = do
     key (bytes "given=")
     none ← sees feed
     is ← pick none (give []) (items 512 0)

@@ -2,7 +2,7 @@
 -- the longest run of digits and minus signs. Assumes nothing.
 use Rattle.std.specs.Prelude.{ℕ, zero, suc, ◌+◌, ◌-◌, Bool, ◌&&◌, List, [], ◌∷◌, take, get_or, ltb, ℤ}
 use Rattle.std.specs.Int.Signed.{le_z}
-use Rattle.specification.specs.Bytes.{Bytes, bytes, pick, between, feed, comma, colon, inNumber}
+use Rattle.specification.specs.Bytes.{Bytes, bytes, pick, between, feed, comma, colon, in_number}
 use Rattle.specification.specs.Number.{natural, integer, least, greatest, within, in32}
 use Rattle.specification.specs.Parser.{Parser, give, refuse, require, present, ◌>>=◌, ◌>>◌, here, sees, mark, taken, key}
 use Rattle.specification.specs.Ast.{truth, Procedure}
@@ -13,7 +13,7 @@ use Rattle.specification.specs.Ast.{truth, Procedure}
 unfoldable pub index : Parser ℕ
 index = do
   p ← here
-  bs ← taken inNumber
+  bs ← taken in_number
   present 4 p (natural bs)
 
 -- a number within its limits
@@ -27,7 +27,7 @@ count lo hi = do
 unfoldable pub value : Parser ℤ
 value = do
   p ← here
-  bs ← taken inNumber
+  bs ← taken in_number
   z ← present 4 p (integer bs)
   require (in32 z) 4 p (give z)
 
@@ -71,8 +71,8 @@ lengths (suc k) left = do
   give (n ∷ ns)
 
 -- empty, or up to 16 lengths; scalars and elements together are at most 512
-unfoldable pub arraysLine : ℕ → Parser (List ℕ)
-arraysLine scalars = do
+unfoldable pub arrays_line : ℕ → Parser (List ℕ)
+arrays_line scalars = do
   key (bytes "arrays=")
   none ← sees feed
   ns ← pick none (give []) (lengths 16 (512 - scalars))
@@ -100,12 +100,12 @@ ranges lead (suc k) = do
   give (r ∷ rs)
 
 -- the first edition with ranges
-abbrev pub firstRanged : ℕ
-firstRanged = 3
+abbrev pub first_ranged : ℕ
+first_ranged = 3
 
 -- from it on, a line with k ranges
-unfoldable pub rangesLine : ℕ → ℕ → Parser (List Range)
-rangesLine edition k = pick (ltb edition firstRanged) (give []) (do
+unfoldable pub ranges_line : ℕ → ℕ → Parser (List Range)
+ranges_line edition k = pick (ltb edition first_ranged) (give []) (do
   key (bytes "ranges=")
   rs ← ranges (give tt) k
   mark feed
@@ -147,9 +147,9 @@ module _ (D : Declared) where
   unfoldable pub length_of : ℕ → ℕ
   length_of a = get_or D.arrays a 0
 
-  unfoldable pub isDeclared : CellName → Bool
-  isDeclared (scalar n) = ltb n D.scalars
-  isDeclared (element a e) = ltb e (length_of a)
+  unfoldable pub is_declared : CellName → Bool
+  is_declared (scalar n) = ltb n D.scalars
+  is_declared (element a e) = ltb e (length_of a)
 
   -- the number of a cell by its name
   unfoldable pub cell_of : CellName → ℕ
@@ -157,12 +157,12 @@ module _ (D : Declared) where
   cell_of (element a e) = first_of a + e
 
   -- the number of a cell's range: the scalar's, or that of the element's array after the scalars
-  unfoldable pub rangeNumber : ℕ → ℕ
-  rangeNumber c = pick (ltb c D.scalars) c (D.scalars + array_of D.arrays (c - D.scalars))
+  unfoldable pub range_number : ℕ → ℕ
+  range_number c = pick (ltb c D.scalars) c (D.scalars + array_of D.arrays (c - D.scalars))
 
   -- all of 32 bits where the sheet has no line of ranges
   unfoldable pub range_of : ℕ → Range
-  range_of c = get_or D.ranges (rangeNumber c) everything
+  range_of c = get_or D.ranges (range_number c) everything
 
   -- the values that a cell may have
   unfoldable pub in_range : ℕ → ℤ → Bool
@@ -171,5 +171,5 @@ module _ (D : Declared) where
 -- ---- procedures
 
 -- the one with this number, where there is one
-abbrev pub procedureOf : Declared → ℕ → Procedure
-procedureOf D K = get_or D.procedures K (record { parameters = 0; formula = truth })
+abbrev pub procedure_of : Declared → ℕ → Procedure
+procedure_of D K = get_or D.procedures K (record { parameters = 0; formula = truth })

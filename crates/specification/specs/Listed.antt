@@ -4,13 +4,13 @@ use Rattle.std.specs.Prelude.{◌≡◌, List}
 use Rattle.specification.specs.Bytes.{Bytes}
 use Rattle.specification.specs.Parser.{Reader, found}
 use Rattle.specification.specs.Sheet.{Sheet, read}
-use Rattle.specification.specs.Listing.{Block, listingText}
+use Rattle.specification.specs.Listing.{Block, listing_text}
 
 pub record Listed (sheet written : Bytes) : Type 0 where
   pub what : Sheet
   pub reader : Reader
   pub reads : read sheet ≡ found what reader
   pub blocks : List Block
-  pub stands : written ≡ listingText blocks
+  pub stands : written ≡ listing_text blocks
   -- no other blocks can stand there
-  pub only : (bs : List Block) → written ≡ listingText bs → bs ≡ blocks
+  pub only : (bs : List Block) → written ≡ listing_text bs → bs ≡ blocks

@@ -11,8 +11,8 @@ use Rattle.specification.specs.Value.{Slot, empty, full, Valuation}
 
 -- N of an answer; N, kind and token of an error
 pub data Head : Type 0 where
-  answerHead : ℕ → Head
-  errorHead : ℕ → ℕ → ℕ → Head
+  answer_head : ℕ → Head
+  error_head : ℕ → ℕ → ℕ → Head
 
 -- a cell that a block names, and the value of its line
 pub record Named : Type 0 where
@@ -26,42 +26,42 @@ pub record Block : Type 0 where
 -- ---- the cells that have a value
 
 -- n scalars, from the i-th on
-unfoldable pub scalarNames : ℕ → ℕ → List CellName
-scalarNames i zero = []
-scalarNames i (suc n) = scalar i ∷ scalarNames (suc i) n
+unfoldable pub scalar_names : ℕ → ℕ → List CellName
+scalar_names i zero = []
+scalar_names i (suc n) = scalar i ∷ scalar_names (suc i) n
 
 -- n elements of array a, from the i-th on
-unfoldable pub elementNames : ℕ → ℕ → ℕ → List CellName
-elementNames a i zero = []
-elementNames a i (suc n) = element a i ∷ elementNames a (suc i) n
+unfoldable pub element_names : ℕ → ℕ → ℕ → List CellName
+element_names a i zero = []
+element_names a i (suc n) = element a i ∷ element_names a (suc i) n
 
 -- arrays of these lengths, from the a-th on
-unfoldable pub arrayNames : ℕ → List ℕ → List CellName
-arrayNames a [] = []
-arrayNames a (n ∷ ns) = elementNames a 0 n ++ arrayNames (suc a) ns
+unfoldable pub array_names : ℕ → List ℕ → List CellName
+array_names a [] = []
+array_names a (n ∷ ns) = element_names a 0 n ++ array_names (suc a) ns
 
 -- all cells, in cell order
-unfoldable pub cellNames : Declared → List CellName
-cellNames D = scalarNames 0 D.scalars ++ arrayNames 0 D.arrays
+unfoldable pub cell_names : Declared → List CellName
+cell_names D = scalar_names 0 D.scalars ++ array_names 0 D.arrays
 
-abbrev pub namedIf : CellName → Slot → List Named → List Named
-namedIf n empty ns = ns
-namedIf n (full z) ns = record { name = n; value = z } ∷ ns
+abbrev pub named_if : CellName → Slot → List Named → List Named
+named_if n empty ns = ns
+named_if n (full z) ns = record { name = n; value = z } ∷ ns
 
 -- those of the cells that have a value, with it
 unfoldable pub valued : Declared → Valuation → List CellName → List Named
 valued D β [] = []
-valued D β (n ∷ ns) = namedIf n (β (cell (cell_of D n))) (valued D β ns)
+valued D β (n ∷ ns) = named_if n (β (cell (cell_of D n))) (valued D β ns)
 
 unfoldable pub block_of : Declared → Head → Valuation → Block
-block_of D h β = record { head = h; cells = valued D β (cellNames D) }
+block_of D h β = record { head = h; cells = valued D β (cell_names D) }
 
 -- ---- its bytes
 
 -- what stands before an equals sign
 pub data Label : Type 0 where
-  answerLabel errorLabel kindLabel tokenLabel : Label
-  cellLabel : CellName → Label
+  answer_label error_label kind_label token_label : Label
+  cell_label : CellName → Label
 
 pub record Line : Type 0 where
   pub label : Label
@@ -71,35 +71,35 @@ infixr 70 ◌is◌
 abbrev pub ◌is◌ : Label → ℤ → Line
 ◌is◌ l z = record { label = l; value = z }
 
-unfoldable pub headLines : Head → List Line
-headLines (answerHead n) = answerLabel is pos n ∷ []
-headLines (errorHead n kind token) = errorLabel is pos n ∷ kindLabel is pos kind ∷ tokenLabel is pos token ∷ []
+unfoldable pub head_lines : Head → List Line
+head_lines (answer_head n) = answer_label is pos n ∷ []
+head_lines (error_head n kind token) = error_label is pos n ∷ kind_label is pos kind ∷ token_label is pos token ∷ []
 
-unfoldable pub cellLines : List Named → List Line
-cellLines [] = []
-cellLines (c ∷ cs) = cellLabel c.name is c.value ∷ cellLines cs
+unfoldable pub cell_lines : List Named → List Line
+cell_lines [] = []
+cell_lines (c ∷ cs) = cell_label c.name is c.value ∷ cell_lines cs
 
 unfoldable pub block_lines : Block → List Line
-block_lines b = headLines b.head ++ cellLines b.cells
+block_lines b = head_lines b.head ++ cell_lines b.cells
 
 -- names as in the given line
-unfoldable pub labelText : Label → Bytes
-labelText answerLabel = bytes "answer"
-labelText errorLabel = bytes "error"
-labelText kindLabel = bytes "kind"
-labelText tokenLabel = bytes "at"
-labelText (cellLabel (scalar n)) = bytes "v" ++ printℕ n
-labelText (cellLabel (element a e)) = bytes "a" ++ (printℕ a ++ (bytes "." ++ printℕ e))
+unfoldable pub label_text : Label → Bytes
+label_text answer_label = bytes "answer"
+label_text error_label = bytes "error"
+label_text kind_label = bytes "kind"
+label_text token_label = bytes "at"
+label_text (cell_label (scalar n)) = bytes "v" ++ printℕ n
+label_text (cell_label (element a e)) = bytes "a" ++ (printℕ a ++ (bytes "." ++ printℕ e))
 
 -- label, equals sign, value, line feed
-unfoldable pub linesText : List Line → Bytes
-linesText [] = []
-linesText (l ∷ ls) = labelText l.label ++ (bytes "=" ++ (printℤ l.value ++ (bytes "\n" ++ linesText ls)))
+unfoldable pub lines_text : List Line → Bytes
+lines_text [] = []
+lines_text (l ∷ ls) = label_text l.label ++ (bytes "=" ++ (printℤ l.value ++ (bytes "\n" ++ lines_text ls)))
 
-unfoldable pub blockText : Block → Bytes
-blockText b = linesText (block_lines b)
+unfoldable pub block_text : Block → Bytes
+block_text b = lines_text (block_lines b)
 
 -- the bytes of blocks, one after the other
-unfoldable pub listingText : List Block → Bytes
-listingText [] = []
-listingText (b ∷ bs) = blockText b ++ listingText bs
+unfoldable pub listing_text : List Block → Bytes
+listing_text [] = []
+listing_text (b ∷ bs) = block_text b ++ listing_text bs

@@ -10,17 +10,17 @@ use Rattle.specification.specs.Number.{least, greatest}
 use Rattle.specification.specs.Parser.{Read, refused, found, and_then}
 use Rattle.specification.specs.Lines.{line, Range, Declared, everything}
 use Rattle.specification.specs.Ast.{Op, add, sub, mul, quo, rem, div, modulo, Formula, Procedure}
-use Rattle.specification.specs.Words.{constantWord, scalarWord, localWord, arrayWord, parameterWord, opWord, Word, formulaWord, termWord, numberWord, unknown}
-use Rattle.specification.specs.Sheet.{Sheet, opened, readWith}
-use Rattle.specification.specs.Arithmetic.{eqZ}
-use Rattle.specification.specs.Text.{wordText, formulaWords, rangeText, headText, rangesText, givenText, procedureKey, procedureText, text_of}
+use Rattle.specification.specs.Words.{constant_word, scalar_word, local_word, array_word, parameter_word, op_word, Word, formula_word, term_word, number_word, unknown}
+use Rattle.specification.specs.Sheet.{Sheet, opened, read_with}
+use Rattle.specification.specs.Arithmetic.{eq_z}
+use Rattle.specification.specs.Text.{word_text, formula_words, range_text, head_text, ranges_text, given_text, procedure_key, procedure_text, text_of}
 use Rattle.specification.specs.Tidy.{tidied}
 
 -- ---- the same sheet in another edition
 
 -- what is declared in it, with these ranges
-abbrev pub declaredIn : ℕ → List Range → Declared → Declared
-declaredIn edition ranges D = record {
+abbrev pub declared_in : ℕ → List Range → Declared → Declared
+declared_in edition ranges D = record {
   edition = edition;
   scalars = D.scalars;
   locals = D.locals;
@@ -31,8 +31,8 @@ declaredIn edition ranges D = record {
 }
 
 -- each word keeps what it means, so formulas and procedures stay
-abbrev pub inEdition : ℕ → List Range → Sheet → Sheet
-inEdition edition ranges s = record { declared = declaredIn edition ranges s.declared; given = s.given; formula = s.formula }
+abbrev pub in_edition : ℕ → List Range → Sheet → Sheet
+in_edition edition ranges s = record { declared = declared_in edition ranges s.declared; given = s.given; formula = s.formula }
 
 -- the editions that are moved from and to
 abbrev pub older : ℕ
@@ -42,70 +42,70 @@ abbrev pub newer : ℕ
 newer = 3
 
 -- a range for each scalar and each array
-abbrev pub rangeCount : Declared → ℕ
-rangeCount D = D.scalars + length D.arrays
+abbrev pub range_count : Declared → ℕ
+range_count D = D.scalars + length D.arrays
 
 -- up: all of 32 bits for each
 abbrev pub raised : Sheet → Sheet
-raised s = inEdition newer (replicate (rangeCount s.declared) everything) s
+raised s = in_edition newer (replicate (range_count s.declared) everything) s
 
 -- and down: without ranges
 abbrev pub lowered : Sheet → Sheet
-lowered s = inEdition older [] s
+lowered s = in_edition older [] s
 
 -- ---- what has no place in the older edition
 
-unfoldable pub isEverything : Range → Bool
-isEverything r = eqZ r.low least && eqZ r.high greatest
+unfoldable pub is_everything : Range → Bool
+is_everything r = eq_z r.low least && eq_z r.high greatest
 
 -- the place of the first narrower range, where the first pair begins at p and each other after a comma
-unfoldable pub narrowAt : ℕ → List Range → Option ℕ
-narrowAt p [] = none
-narrowAt p (r ∷ rs) = let later = narrowAt (p + length (rangeText r) + 1) rs in pick (isEverything r) later (just p)
+unfoldable pub narrow_at : ℕ → List Range → Option ℕ
+narrow_at p [] = none
+narrow_at p (r ∷ rs) = let later = narrow_at (p + length (range_text r) + 1) rs in pick (is_everything r) later (just p)
 
-unfoldable pub roundsDown : Op → Bool
-roundsDown add = false
-roundsDown sub = false
-roundsDown mul = false
-roundsDown quo = false
-roundsDown rem = false
-roundsDown div = true
-roundsDown modulo = true
+unfoldable pub rounds_down : Op → Bool
+rounds_down add = false
+rounds_down sub = false
+rounds_down mul = false
+rounds_down quo = false
+rounds_down rem = false
+rounds_down div = true
+rounds_down modulo = true
 
-unfoldable pub isRounding : Word → Bool
-isRounding (formulaWord w) = false
-isRounding (termWord (constantWord z)) = false
-isRounding (termWord (scalarWord n)) = false
-isRounding (termWord (localWord n)) = false
-isRounding (termWord (arrayWord n)) = false
-isRounding (termWord (parameterWord n)) = false
-isRounding (termWord (opWord o)) = roundsDown o
-isRounding (numberWord n) = false
-isRounding unknown = false
+unfoldable pub is_rounding : Word → Bool
+is_rounding (formula_word w) = false
+is_rounding (term_word (constant_word z)) = false
+is_rounding (term_word (scalar_word n)) = false
+is_rounding (term_word (local_word n)) = false
+is_rounding (term_word (array_word n)) = false
+is_rounding (term_word (parameter_word n)) = false
+is_rounding (term_word (op_word o)) = rounds_down o
+is_rounding (number_word n) = false
+is_rounding unknown = false
 
 -- the place of the first word that rounds down, where the first word begins at p and each other after a space
-unfoldable pub roundingAt : ℕ → List Word → Option ℕ
-roundingAt p [] = none
-roundingAt p (w ∷ ws) = let later = roundingAt (p + length (wordText newer w) + 1) ws in pick (isRounding w) (just p) later
+unfoldable pub rounding_at : ℕ → List Word → Option ℕ
+rounding_at p [] = none
+rounding_at p (w ∷ ws) = let later = rounding_at (p + length (word_text newer w) + 1) ws in pick (is_rounding w) (just p) later
 
 abbrev pub or_else : Option ℕ → Option ℕ → Option ℕ
 or_else none later = later
 or_else (just p) later = just p
 
 -- the same in the lines of procedures, which begin at p, and then in the formula's
-unfoldable pub roundingFrom : ℕ → List Procedure → Formula → Option ℕ
-roundingFrom p [] F = roundingAt (p + length (bytes "formula=")) (formulaWords F)
-roundingFrom p (P ∷ Ps) F =
-    or_else (roundingAt (p + length (procedureKey P)) (formulaWords P.formula)) (roundingFrom (p + length (procedureText newer P)) Ps F)
+unfoldable pub rounding_from : ℕ → List Procedure → Formula → Option ℕ
+rounding_from p [] F = rounding_at (p + length (bytes "formula=")) (formula_words F)
+rounding_from p (P ∷ Ps) F =
+    or_else (rounding_at (p + length (procedure_key P)) (formula_words P.formula)) (rounding_from (p + length (procedure_text newer P)) Ps F)
 
 -- in a sheet of the newer edition
-unfoldable pub narrowIn : Sheet → Option ℕ
-narrowIn s = narrowAt (length (headText s.declared) + length (bytes "ranges=")) s.declared.ranges
+unfoldable pub narrow_in : Sheet → Option ℕ
+narrow_in s = narrow_at (length (head_text s.declared) + length (bytes "ranges=")) s.declared.ranges
 
-unfoldable pub roundingIn : Sheet → Option ℕ
-roundingIn s =
+unfoldable pub rounding_in : Sheet → Option ℕ
+rounding_in s =
     let D = s.declared in
-    roundingFrom (length (headText D ++ (rangesText newer D.ranges ++ givenText D s.given))) D.procedures s.formula
+    rounding_from (length (head_text D ++ (ranges_text newer D.ranges ++ given_text D s.given))) D.procedures s.formula
 
 -- ---- the calls: refusal 1, then the sheet's own, of which 2 comes first, then those of the move, of which 2 comes last
 
@@ -116,27 +116,27 @@ pub data Result : Type 0 where
 
 -- a sheet of this edition; another is 4 at the edition, while it is read
 unfoldable pub read_only : Bool → ℕ → Bytes → Read Sheet
-read_only strict edition sheet = and_then (λ e r. readWith strict sheet) (line (bytes "edition=") edition edition (opened sheet))
+read_only strict edition sheet = and_then (λ e r. read_with strict sheet) (line (bytes "edition=") edition edition (opened sheet))
 
-abbrev pub longestSheet : ℕ
-longestSheet = 4096
+abbrev pub longest_sheet : ℕ
+longest_sheet = 4096
 
-abbrev pub wordsToMove : ℕ
-wordsToMove = 6144
+abbrev pub words_to_move : ℕ
+words_to_move = 6144
 
 -- with so many work words and output bytes
 unfoldable pub admitted : Bool → ℕ → Bytes → ℕ → ℕ → Read Sheet
 admitted strict edition sheet words size =
     let r = read_only strict edition sheet in
-    pick (leb longestSheet size && leb wordsToMove words) (pick (leb (length sheet) longestSheet) r (refused 2 longestSheet)) (refused 1 0)
+    pick (leb longest_sheet size && leb words_to_move words) (pick (leb (length sheet) longest_sheet) r (refused 2 longest_sheet)) (refused 1 0)
 
-abbrev pub afterReading : (Sheet → Result) → Read Sheet → Result
-afterReading move (refused n p) = refusal n p
-afterReading move (found s r) = move s
+abbrev pub after_reading : (Sheet → Result) → Read Sheet → Result
+after_reading move (refused n p) = refusal n p
+after_reading move (found s r) = move s
 
 -- the text of a moved sheet
 unfoldable pub fitted : Bytes → Result
-fitted t = pick (leb (length t) longestSheet) (moved t) (refusal 2 longestSheet)
+fitted t = pick (leb (length t) longest_sheet) (moved t) (refusal 2 longest_sheet)
 
 -- a refusal with this number where there is such a place
 abbrev pub unless : ℕ → Option ℕ → Result → Result
@@ -144,18 +144,18 @@ unless n (just p) r = refusal n p
 unless n none r = r
 
 -- from the older edition: empty ranges are read and not written
-unfoldable pub moveUp : Bytes → ℕ → ℕ → Result
-moveUp sheet words size = afterReading (λ s. fitted (text_of (raised (tidied s)))) (admitted false older sheet words size)
+unfoldable pub move_up : Bytes → ℕ → ℕ → Result
+move_up sheet words size = after_reading (λ s. fitted (text_of (raised (tidied s)))) (admitted false older sheet words size)
 
 -- a stored sheet of the newer edition: the same
 unfoldable pub tidy : Bytes → ℕ → ℕ → Result
-tidy sheet words size = afterReading (λ s. fitted (text_of (tidied s))) (admitted false newer sheet words size)
+tidy sheet words size = after_reading (λ s. fitted (text_of (tidied s))) (admitted false newer sheet words size)
 
 -- back to the older edition: the sheet's own refusals, 17 among them, come first
 
-unfoldable pub moveDown : Bytes → ℕ → ℕ → Result
-moveDown sheet words size =
-    afterReading (λ s. unless 15 (narrowIn s) (unless 16 (roundingIn s) (fitted (text_of (lowered s))))) (admitted true newer sheet words size)
+unfoldable pub move_down : Bytes → ℕ → ℕ → Result
+move_down sheet words size =
+    after_reading (λ s. unless 15 (narrow_in s) (unless 16 (rounding_in s) (fitted (text_of (lowered s))))) (admitted true newer sheet words size)
 
 -- ---- what is returned, and the lent output afterwards; the work words are all zero
 
@@ -168,5 +168,5 @@ outcome (refusal n p) = Refused n p
 outcome (moved t) = Moved (length t)
 
 -- the moved sheet, and beyond it what was held; all of that where the sheet is refused
-unfoldable pub outputAfter : Result → Bytes → Bytes
-outputAfter r held = written r ++ drop (length (written r)) held
+unfoldable pub output_after : Result → Bytes → Bytes
+output_after r held = written r ++ drop (length (written r)) held

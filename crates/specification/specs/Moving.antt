@@ -1,23 +1,23 @@
 -- What moving the catalogue promises (document 02, Eight and Nine), over what a move or the pass gives for a sheet's bytes, so many work words and
--- so many output bytes. The theorems, of `moveUp`, `moveDown` and `tidy` and every sheet of whatever bytes, are in proofs/Laws/Moves.antt; moves
+-- so many output bytes. The theorems, of `move_up`, `move_down` and `tidy` and every sheet of whatever bytes, are in proofs/Laws/Moves.antt; moves
 -- of which the promises are false are in proofs/Cases/WrongMoves.antt. Assumes nothing.
 use Rattle.std.specs.Prelude.{ℕ, ◌≤◌, ◌≡◌, Bool, true, false, ◌⊎◌, [], ◌∷◌, length, eqb}
 use Rattle.specification.specs.declared.Setting.{Setting}
 use Rattle.specification.specs.declared.End.TheVariants.{Output}
 use Rattle.specification.specs.Bytes.{Bytes, bytes, pick, between, begins}
 use Rattle.specification.specs.Parser.{Reader, found}
-use Rattle.specification.specs.Sheet.{Sheet, readWith, read}
+use Rattle.specification.specs.Sheet.{Sheet, read_with, read}
 use Rattle.specification.specs.Outcome as outcome
-use Rattle.specification.specs.Outcome.{callWith, call}
-use Rattle.specification.specs.Tidy.{hasEmptyRange}
-use Rattle.specification.specs.Moves.{Result, refusal, moved, longestSheet, wordsToMove, moveDown, tidy}
+use Rattle.specification.specs.Outcome.{call_with, call}
+use Rattle.specification.specs.Tidy.{has_empty_range}
+use Rattle.specification.specs.Moves.{Result, refusal, moved, longest_sheet, words_to_move, move_down, tidy}
 
 abbrev pub Way : Type 0
 Way = Bytes → ℕ → ℕ → Result
 
 -- as much lent memory as a move asks for
 abbrev pub Enough : ℕ → ℕ → Type 0
-Enough words size = (wordsToMove ≤ words) × (longestSheet ≤ size)
+Enough words size = (words_to_move ≤ words) × (longest_sheet ≤ size)
 
 -- ---- what is written
 
@@ -26,7 +26,7 @@ pub record Carries (strict : Bool) (edition : ℕ) (over : Sheet → Sheet) (she
   pub what : Sheet
   pub reader : Reader
   pub reader' : Reader
-  pub from : readWith strict sheet ≡ found what reader
+  pub from : read_with strict sheet ≡ found what reader
   pub written : what.declared.edition ≡ edition
   pub to : read t ≡ found (over what) reader'
 
@@ -34,7 +34,7 @@ pub record Carries (strict : Bool) (edition : ℕ) (over : Sheet → Sheet) (she
 abbrev pub Moves : Bool → ℕ → (Sheet → Sheet) → Way → Type 0
 Moves strict edition over way =
     (sheet t : Bytes) (words size : ℕ) → way sheet words size ≡ moved t →
-    Carries strict edition over sheet t × (length sheet ≤ longestSheet) × (length t ≤ longestSheet)
+    Carries strict edition over sheet t × (length sheet ≤ longest_sheet) × (length t ≤ longest_sheet)
 
 -- what is written is run: no call refuses it but for want of work words, so none with 17
 abbrev pub Accepted : Way → Type 0
@@ -47,8 +47,8 @@ abbrev pub RefusesAsBack : Type 0
 RefusesAsBack =
     (sheet : Bytes) (words size n p : ℕ) →
     (tidy sheet words size ≡ refusal n p →
-    (moveDown sheet words size ≡ refusal n p) ⊎ ((q : ℕ) × (moveDown sheet words size ≡ refusal 17 q))) ×
-    (moveDown sheet words size ≡ refusal n p → (between 15 17 n ≡ true) ⊎ (tidy sheet words size ≡ refusal n p))
+    (move_down sheet words size ≡ refusal n p) ⊎ ((q : ℕ) × (move_down sheet words size ≡ refusal 17 q))) ×
+    (move_down sheet words size ≡ refusal n p → (between 15 17 n ≡ true) ⊎ (tidy sheet words size ≡ refusal n p))
 
 -- a pass over what is written changes nothing
 abbrev pub Settles : Way → Type 0
@@ -60,7 +60,7 @@ Settles way =
 
 -- however it is read
 abbrev pub Orderly : Bytes → Type 0
-Orderly sheet = (s : Sheet) (r : Reader) → readWith false sheet ≡ found s r → hasEmptyRange s ≡ false
+Orderly sheet = (s : Sheet) (r : Reader) → read_with false sheet ≡ found s r → has_empty_range s ≡ false
 
 -- both ways give the same for such a sheet
 abbrev pub SameWhereOrderly : Way → Way → Type 0
@@ -87,21 +87,21 @@ pub data Reach : Type 0 where
   fresh kept passed : Reach
 
 -- a listing without its `at=` lines
-unfoldable pub withoutAt : Reach → Bytes → Bytes
-withoutAt r [] = []
-withoutAt fresh (b ∷ bs) =
-    let line = b ∷ withoutAt (pick (eqb b 10) fresh kept) bs in
-    let other = withoutAt passed bs in
+unfoldable pub without_at : Reach → Bytes → Bytes
+without_at r [] = []
+without_at fresh (b ∷ bs) =
+    let line = b ∷ without_at (pick (eqb b 10) fresh kept) bs in
+    let other = without_at passed bs in
     pick (begins (bytes "at=") (b ∷ bs)) other line
-withoutAt kept (b ∷ bs) = b ∷ withoutAt (pick (eqb b 10) fresh kept) bs
-withoutAt passed (b ∷ bs) = withoutAt (pick (eqb b 10) fresh passed) bs
+without_at kept (b ∷ bs) = b ∷ without_at (pick (eqb b 10) fresh kept) bs
+without_at passed (b ∷ bs) = without_at (pick (eqb b 10) fresh passed) bs
 
 -- the same refusal; or the same end, the same four tallies, and but for `at=` lines the same listing
 abbrev pub RunsAlike : outcome.Result → outcome.Result → Type 0
 RunsAlike (outcome.refusal n p) (outcome.refusal m q) = (n ≡ m) × (p ≡ q)
 RunsAlike (outcome.refusal n p) (outcome.ran e t w) = ⊥
 RunsAlike (outcome.ran e t w) (outcome.refusal n p) = ⊥
-RunsAlike (outcome.ran e t w) (outcome.ran e' t' w') = (e ≡ e') × (t ≡ t') × (withoutAt fresh w ≡ withoutAt fresh w')
+RunsAlike (outcome.ran e t w) (outcome.ran e' t' w') = (e ≡ e') × (t ≡ t') × (without_at fresh w ≡ without_at fresh w')
 
 -- the output was enough
 abbrev pub HadRoom : outcome.Result → Type 0
@@ -112,5 +112,5 @@ HadRoom (outcome.ran e t w) = ¬ (e ≡ Output)
 abbrev pub RunsAsBefore : Way → Type 0
 RunsAsBefore way =
     (sheet t : Bytes) (words size : ℕ) → way sheet words size ≡ moved t →
-    (S : Setting) (words' size' : ℕ) → HadRoom (callWith false sheet S words' size') → HadRoom (call t S words' size') →
-    RunsAlike (callWith false sheet S words' size') (call t S words' size')
+    (S : Setting) (words' size' : ℕ) → HadRoom (call_with false sheet S words' size') → HadRoom (call t S words' size') →
+    RunsAlike (call_with false sheet S words' size') (call t S words' size')

@@ -3,13 +3,13 @@
 use Rattle.std.specs.Prelude.{ℕ, zero, suc, ◌+◌, ◌-◌, ◌*◌, ◌/◌, ◌%◌, Bool, true, false, not, ◌&&◌, [], ◌∷◌, ◌++◌, ltb, eqb, ℤ, pos, negsuc}
 use Rattle.std.proofs.Math.Option.{Option, none, some}
 use Rattle.std.specs.Int.Signed.{le_z}
-use Rattle.specification.specs.Bytes.{Bytes, pick, digit, minus, isIn}
+use Rattle.specification.specs.Bytes.{Bytes, pick, digit, minus, is_in}
 
 -- ---- read
 
-unfoldable pub allDigits : Bytes → Bool
-allDigits [] = true
-allDigits (b ∷ bs) = isIn digit b && allDigits bs
+unfoldable pub all_digits : Bytes → Bool
+all_digits [] = true
+all_digits (b ∷ bs) = is_in digit b && all_digits bs
 
 -- the number that digits stand for, read on from a number; the byte of 0 is 48
 unfoldable pub decimal : ℕ → Bytes → ℕ
@@ -17,14 +17,14 @@ decimal n [] = n
 decimal n (b ∷ bs) = decimal (n * 10 + (b - 48)) bs
 
 -- `0`, or digits without a leading zero
-unfoldable pub wellFormed : Bytes → Bool
-wellFormed [] = false
-wellFormed (b ∷ []) = allDigits (b ∷ [])
-wellFormed (b ∷ c ∷ bs) = not (eqb b 48) && allDigits (b ∷ c ∷ bs)
+unfoldable pub well_formed : Bytes → Bool
+well_formed [] = false
+well_formed (b ∷ []) = all_digits (b ∷ [])
+well_formed (b ∷ c ∷ bs) = not (eqb b 48) && all_digits (b ∷ c ∷ bs)
 
 -- a number without a minus
 unfoldable pub natural : Bytes → Option ℕ
-natural bs = pick (wellFormed bs) (some (decimal 0 bs)) none
+natural bs = pick (well_formed bs) (some (decimal 0 bs)) none
 
 -- a number after its minus; `-0` is no number
 abbrev pub negated : Option ℕ → Option ℤ
@@ -39,7 +39,7 @@ unsigned (some n) = some (pos n)
 -- a number with or without a minus
 unfoldable pub integer : Bytes → Option ℤ
 integer [] = none
-integer (b ∷ bs) = pick (isIn minus b) (negated (natural bs)) (unsigned (natural (b ∷ bs)))
+integer (b ∷ bs) = pick (is_in minus b) (negated (natural bs)) (unsigned (natural (b ∷ bs)))
 
 -- ---- 32 bits
 

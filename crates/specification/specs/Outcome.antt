@@ -10,7 +10,7 @@ use Rattle.specification.specs.declared.Outcome.TheVariants.{Refused, Ran}
 use Rattle.specification.specs.Bytes.{Bytes, pick, between}
 use Rattle.specification.specs.Parser.{Read, refused, found}
 use Rattle.specification.specs.Given.{Item}
-use Rattle.specification.specs.Sheet.{Sheet, readWith}
+use Rattle.specification.specs.Sheet.{Sheet, read_with}
 use Rattle.specification.specs.Place.{cell, put}
 use Rattle.specification.specs.Value.{Valuation, empty, full}
 use Rattle.specification.specs.Tree.{Tree, tree_of}
@@ -40,40 +40,40 @@ start [] p = empty
 start (i ∷ is) p = put (start is) (cell i.cell) (full i.value) p
 
 -- the root has the sheet's formula and the given values
-unfoldable pub rootOf : Sheet → Tree
-rootOf s = tree_of s.declared (s.formula ∷ []) (start s.given)
+unfoldable pub root_of : Sheet → Tree
+root_of s = tree_of s.declared (s.formula ∷ []) (start s.given)
 
 -- the root is on the path, so its path is 1 long
-unfoldable pub visitsOf : Sheet → List Visit
-visitsOf s = visits 1 (rootOf s)
+unfoldable pub visits_of : Sheet → List Visit
+visits_of s = visits 1 (root_of s)
 
 unfoldable pub run_of : Sheet → Setting → ℕ → Run
-run_of s S size = scan (conditions s.declared S size) (going (tallies 0 0 0 0) []) (visitsOf s)
+run_of s S size = scan (conditions s.declared S size) (going (tallies 0 0 0 0) []) (visits_of s)
 
-abbrev pub afterReading : Setting → ℕ → Read Sheet → Result
-afterReading S size (refused n p) = refusal n p
-afterReading S size (found s r) = result_of (run_of s S size)
+abbrev pub after_reading : Setting → ℕ → Read Sheet → Result
+after_reading S size (refused n p) = refusal n p
+after_reading S size (found s r) = result_of (run_of s S size)
 
 -- ---- the call: refusal 1, then 2, then the first fault met in reading, then the run
 
-abbrev pub longestPath : ℕ
-longestPath = 32768
+abbrev pub longest_path : ℕ
+longest_path = 32768
 
 -- the work words that a path limit asks for
-abbrev pub wordsFor : ℕ → ℕ
-wordsFor limit = 6144 + 12 * limit
+abbrev pub words_for : ℕ → ℕ
+words_for limit = 6144 + 12 * limit
 
-abbrev pub enoughMemory : Setting → ℕ → Bool
-enoughMemory S words = between 1 longestPath S.path && leb (wordsFor S.path) words
+abbrev pub enough_memory : Setting → ℕ → Bool
+enough_memory S words = between 1 longest_path S.path && leb (words_for S.path) words
 
 -- read strictly, or as before empty ranges were refused
-unfoldable pub callWith : Bool → Bytes → Setting → ℕ → ℕ → Result
-callWith strict sheet S words size =
-    let r = afterReading S size (readWith strict sheet) in
-    pick (enoughMemory S words) (pick (leb (length sheet) 4096) r (refusal 2 4096)) (refusal 1 0)
+unfoldable pub call_with : Bool → Bytes → Setting → ℕ → ℕ → Result
+call_with strict sheet S words size =
+    let r = after_reading S size (read_with strict sheet) in
+    pick (enough_memory S words) (pick (leb (length sheet) 4096) r (refusal 2 4096)) (refusal 1 0)
 
 abbrev pub call : Bytes → Setting → ℕ → ℕ → Result
-call sheet S words size = callWith true sheet S words size
+call sheet S words size = call_with true sheet S words size
 
 -- ---- what is returned, and the lent memory afterwards
 
@@ -87,9 +87,9 @@ outcome (refusal n p) = Refused n p
 outcome (ran e t w) = Ran e t (length w)
 
 -- the output begins with whole blocks, and beyond them holds what it held
-unfoldable pub outputAfter : Result → Bytes → Bytes
-outputAfter r held = written r ++ drop (length (written r)) held
+unfoldable pub output_after : Result → Bytes → Bytes
+output_after r held = written r ++ drop (length (written r)) held
 
 -- all zero
-unfoldable pub wordsAfter : List ℕ → List ℕ
-wordsAfter held = replicate (length held) 0
+unfoldable pub words_after : List ℕ → List ℕ
+words_after held = replicate (length held) 0

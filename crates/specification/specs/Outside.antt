@@ -31,12 +31,12 @@ gained empty (full v) = true
 gained (full u) s = false
 
 -- whether it holds of some number below n
-unfoldable pub someBelow : ℕ → (ℕ → Bool) → Bool
-someBelow zero f = false
-someBelow (suc n) f = f n || someBelow n f
+unfoldable pub some_below : ℕ → (ℕ → Bool) → Bool
+some_below zero f = false
+some_below (suc n) f = f n || some_below n f
 
 -- whether β has a value for a cell, or for a declared local, outside F that has none under α
 unfoldable pub gave : Declared → Formula → Valuation → Valuation → Bool
 gave D F α β =
     let g : Place → Bool = λ p. outside F p && gained (α p) (β p) in
-    someBelow (cells D) (λ c. g (cell c)) || someBelow D.locals (λ l. g (local l))
+    some_below (cells D) (λ c. g (cell c)) || some_below D.locals (λ l. g (local l))

@@ -2,7 +2,7 @@
 -- what was read and the reader after it. Assumes nothing.
 use Rattle.std.specs.Prelude.{ℕ, ◌+◌, Bool, true, false, List, [], ◌∷◌, length, drop}
 use Rattle.std.proofs.Math.Option.{Option, none, some}
-use Rattle.specification.specs.Bytes.{Bytes, pick, Class, isIn, run, begins}
+use Rattle.specification.specs.Bytes.{Bytes, pick, Class, is_in, run, begins}
 
 -- the place, the sheet from there on, how many tokens were read, and the locals that have a binder
 pub record Reader : Type 0 where
@@ -59,7 +59,7 @@ here r = found r.place r
 -- the first byte is of the class; false at the end
 abbrev pub next : Class → Bytes → Bool
 next c [] = false
-next c (b ∷ bs) = isIn c b
+next c (b ∷ bs) = is_in c b
 
 -- whether the next byte is of the class; nothing is read
 abbrev pub sees : Class → Parser Bool

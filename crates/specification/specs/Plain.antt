@@ -6,7 +6,7 @@ use Rattle.specification.specs.Bytes.{pick}
 use Rattle.specification.specs.Number.{in32}
 use Rattle.specification.specs.Lines.{Declared, cells, first_of, length_of, in_range}
 use Rattle.specification.specs.Given.{Item}
-use Rattle.specification.specs.Ast.{Op, Term, constant, scalarAt, local_at, parameter, elementAt, apply, Formula, truth, and, or, imp, neg, eq, compare, ex, some, all, call}
+use Rattle.specification.specs.Ast.{Op, Term, constant, scalar_at, local_at, parameter, element_at, apply, Formula, truth, and, or, imp, neg, eq, compare, ex, some, all, call}
 use Rattle.specification.specs.Sheet.{Sheet}
 use Rattle.specification.specs.Place.{Place, cell, local, put}
 use Rattle.specification.specs.Arithmetic.{Computed, value, fault, compute, test}
@@ -27,18 +27,18 @@ applied o (just x) none = none
 applied o none y = none
 
 module _ (D : Declared) (ρ : Env) where
-  abbrev pub elementValue : ℕ → Option ℤ → Option ℤ
-  elementValue a (just (pos i)) = pick (ltb i (length_of D a)) (just (ρ (cell (first_of D a + i)))) none
-  elementValue a (just (negsuc i)) = none
-  elementValue a none = none
+  abbrev pub element_value : ℕ → Option ℤ → Option ℤ
+  element_value a (just (pos i)) = pick (ltb i (length_of D a)) (just (ρ (cell (first_of D a + i)))) none
+  element_value a (just (negsuc i)) = none
+  element_value a none = none
 
   -- none where kind 2, 3 or 4 would arise; no parameter is left in a sheet's formula
   unfoldable pub value_of : Term → Option ℤ
   value_of (constant z) = just z
-  value_of (scalarAt c) = just (ρ (cell c))
+  value_of (scalar_at c) = just (ρ (cell c))
   value_of (local_at l) = just (ρ (local l))
   value_of (parameter n) = none
-  value_of (elementAt a t) = elementValue a (value_of t)
+  value_of (element_at a t) = element_value a (value_of t)
   value_of (apply o s t) = applied o (value_of s) (value_of t)
 
   -- t has the value x

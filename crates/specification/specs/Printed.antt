@@ -14,8 +14,8 @@ use Rattle.specification.specs.Outcome.{Result, call, written, outcome}
 -- ---- a page
 
 -- a line: a key with its equals sign, a number, a line feed
-abbrev pub fieldText : Bytes → ℕ → Bytes
-fieldText key n = key ++ (printℕ n ++ bytes "\n")
+abbrev pub field_text : Bytes → ℕ → Bytes
+field_text key n = key ++ (printℕ n ++ bytes "\n")
 
 abbrev pub end_word : End → Bytes
 end_word Done = bytes "done"
@@ -23,21 +23,21 @@ end_word Spent = bytes "spent"
 end_word Path = bytes "path"
 end_word Output = bytes "output"
 
-abbrev pub endLine : End → Bytes
-endLine e = bytes "end=" ++ (end_word e ++ bytes "\n")
+abbrev pub end_line : End → Bytes
+end_line e = bytes "end=" ++ (end_word e ++ bytes "\n")
 
-abbrev pub tallyLines : Tallies → Bytes
-tallyLines t =
-    fieldText (bytes "nodes=") t.nodes
-    ++ (fieldText (bytes "answers=") t.answers ++ (fieldText (bytes "errors=") t.errors ++ fieldText (bytes "fails=") t.fails))
+abbrev pub tally_lines : Tallies → Bytes
+tally_lines t =
+    field_text (bytes "nodes=") t.nodes
+    ++ (field_text (bytes "answers=") t.answers ++ (field_text (bytes "errors=") t.errors ++ field_text (bytes "fails=") t.fails))
 
-abbrev pub refusalLines : ℕ → ℕ → Bytes
-refusalLines number place = fieldText (bytes "refused=") number ++ fieldText (bytes "at=") place
+abbrev pub refusal_lines : ℕ → ℕ → Bytes
+refusal_lines number place = field_text (bytes "refused=") number ++ field_text (bytes "at=") place
 
 -- the lines after the listing
 unfoldable pub closing : Outcome → Bytes
-closing (Refused number place) = refusalLines number place
-closing (Ran end t written) = endLine end ++ tallyLines t
+closing (Refused number place) = refusal_lines number place
+closing (Ran end t written) = end_line end ++ tally_lines t
 
 -- the listing and then these lines
 unfoldable pub printed : Result → Bytes
@@ -45,29 +45,29 @@ printed r = written r ++ closing (outcome r)
 
 -- ---- the box
 
-abbrev pub boxPath : ℕ
-boxPath = 512
+abbrev pub box_path : ℕ
+box_path = 512
 
-abbrev pub boxBudget : ℕ
-boxBudget = 1000000
+abbrev pub box_budget : ℕ
+box_budget = 1000000
 
-abbrev pub boxSkip : ℕ
-boxSkip = 0
+abbrev pub box_skip : ℕ
+box_skip = 0
 
-abbrev pub boxSetting : Setting
-boxSetting = record { path = boxPath; budget = boxBudget; skip = boxSkip }
+abbrev pub box_setting : Setting
+box_setting = record { path = box_path; budget = box_budget; skip = box_skip }
 
 -- work words, and bytes of output
-abbrev pub boxWords : ℕ
-boxWords = 12288
+abbrev pub box_words : ℕ
+box_words = 12288
 
-abbrev pub boxOutput : ℕ
-boxOutput = 4096
+abbrev pub box_output : ℕ
+box_output = 4096
 
 -- at most so many bytes of the input are read: one more than a sheet may have
-abbrev pub boxInput : ℕ
-boxInput = 4097
+abbrev pub box_input : ℕ
+box_input = 4097
 
 -- what the box prints for the bytes on its input
 unfoldable pub box : Bytes → Bytes
-box input = printed (call (take boxInput input) boxSetting boxWords boxOutput)
+box input = printed (call (take box_input input) box_setting box_words box_output)

@@ -9,22 +9,22 @@ use Rattle.specification.specs.declared.Move.{Move}
 use Rattle.specification.specs.declared.Move.TheVariants as move
 use Rattle.specification.specs.Bytes.{pick}
 
-abbrev pub endNumber : End → ℕ
-endNumber Done = 0
-endNumber Spent = 1
-endNumber Path = 2
-endNumber Output = 3
+abbrev pub end_number : End → ℕ
+end_number Done = 0
+end_number Spent = 1
+end_number Path = 2
+end_number Output = 3
 
 -- the end that a number stands for
-abbrev pub endFrom : ℕ → End
-endFrom n = pick (eqb n (endNumber Done)) Done (pick (eqb n (endNumber Spent)) Spent (pick (eqb n (endNumber Path)) Path Output))
+abbrev pub end_from : ℕ → End
+end_from n = pick (eqb n (end_number Done)) Done (pick (eqb n (end_number Spent)) Spent (pick (eqb n (end_number Path)) Path Output))
 
 -- refused number or 0, place, end, nodes, answers, errors, fails, bytes written; of a refused run the last six are zero
-abbrev pub reportOf : Outcome → List ℕ
-reportOf (Refused number place) = number ∷ place ∷ 0 ∷ 0 ∷ 0 ∷ 0 ∷ 0 ∷ 0 ∷ []
-reportOf (Ran end t written) = 0 ∷ 0 ∷ endNumber end ∷ t.nodes ∷ t.answers ∷ t.errors ∷ t.fails ∷ written ∷ []
+abbrev pub report_of : Outcome → List ℕ
+report_of (Refused number place) = number ∷ place ∷ 0 ∷ 0 ∷ 0 ∷ 0 ∷ 0 ∷ 0 ∷ []
+report_of (Ran end t written) = 0 ∷ 0 ∷ end_number end ∷ t.nodes ∷ t.answers ∷ t.errors ∷ t.fails ∷ written ∷ []
 
 -- of a move the same places: refused number or 0, place, five zeros, bytes written
-abbrev pub moveReport : Move → List ℕ
-moveReport (move.Refused number place) = number ∷ place ∷ 0 ∷ 0 ∷ 0 ∷ 0 ∷ 0 ∷ 0 ∷ []
-moveReport (move.Moved written) = 0 ∷ 0 ∷ 0 ∷ 0 ∷ 0 ∷ 0 ∷ 0 ∷ written ∷ []
+abbrev pub move_report : Move → List ℕ
+move_report (move.Refused number place) = number ∷ place ∷ 0 ∷ 0 ∷ 0 ∷ 0 ∷ 0 ∷ 0 ∷ []
+move_report (move.Moved written) = 0 ∷ 0 ∷ 0 ∷ 0 ∷ 0 ∷ 0 ∷ 0 ∷ written ∷ []

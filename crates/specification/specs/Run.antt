@@ -7,28 +7,28 @@ use Rattle.specification.specs.Bytes.{Bytes, pick}
 use Rattle.specification.specs.Lines.{Declared}
 use Rattle.specification.specs.Leaves.{answer, error, fail}
 use Rattle.specification.specs.Visits.{Event, node, leaf, Visit}
-use Rattle.specification.specs.Listing.{answerHead, errorHead, block_of, blockText}
+use Rattle.specification.specs.Listing.{answer_head, error_head, block_of, block_text}
 
 -- ---- tallies
 
 abbrev pub tallies : ℕ → ℕ → ℕ → ℕ → Tallies
 tallies n a e f = record { nodes = n; answers = a; errors = e; fails = f }
 
-abbrev pub addNode : Tallies → Tallies
-addNode t = tallies (suc t.nodes) t.answers t.errors t.fails
+abbrev pub add_node : Tallies → Tallies
+add_node t = tallies (suc t.nodes) t.answers t.errors t.fails
 
-abbrev pub addAnswer : Tallies → Tallies
-addAnswer t = tallies t.nodes (suc t.answers) t.errors t.fails
+abbrev pub add_answer : Tallies → Tallies
+add_answer t = tallies t.nodes (suc t.answers) t.errors t.fails
 
-abbrev pub addError : Tallies → Tallies
-addError t = tallies t.nodes t.answers (suc t.errors) t.fails
+abbrev pub add_error : Tallies → Tallies
+add_error t = tallies t.nodes t.answers (suc t.errors) t.fails
 
-abbrev pub addFail : Tallies → Tallies
-addFail t = tallies t.nodes t.answers t.errors (suc t.fails)
+abbrev pub add_fail : Tallies → Tallies
+add_fail t = tallies t.nodes t.answers t.errors (suc t.fails)
 
 -- the blocks that they count: a skip counts answers and errors alike
-abbrev pub blockCount : Tallies → ℕ
-blockCount t = t.answers + t.errors
+abbrev pub block_count : Tallies → ℕ
+block_count t = t.answers + t.errors
 
 -- ---- a run
 
@@ -57,20 +57,20 @@ module _ (C : Conditions) where
   -- a leaf with a block, with the tallies before and after it: skipped, written, or stopped for want of room
   unfoldable pub block : Tallies → Tallies → Bytes → Bytes → Run
   block t t' w b =
-      pick (ltb (blockCount t) C.setting.skip) (going t' w)
+      pick (ltb (block_count t) C.setting.skip) (going t' w)
       (pick (leb (length w + length b) C.size) (going t' (w ++ b)) (stopped output t w))
 
   -- what a visited node or leaf adds; N counts its kind from 1, skipped blocks included
   unfoldable pub arrive : Event → Tallies → Bytes → Run
   arrive node t w = going t w
-  arrive (leaf fail) t w = going (addFail t) w
-  arrive (leaf (answer β)) t w = block t (addAnswer t) w (blockText (block_of C.declared (answerHead (suc t.answers)) β))
-  arrive (leaf (error kind token β)) t w = block t (addError t) w (blockText (block_of C.declared (errorHead (suc t.errors) kind token) β))
+  arrive (leaf fail) t w = going (add_fail t) w
+  arrive (leaf (answer β)) t w = block t (add_answer t) w (block_text (block_of C.declared (answer_head (suc t.answers)) β))
+  arrive (leaf (error kind token β)) t w = block t (add_error t) w (block_text (block_of C.declared (error_head (suc t.errors) kind token) β))
 
   -- a visit, and the two limits before it
   unfoldable pub visit : Visit → Tallies → Bytes → Run
   visit v t w =
-      let r = arrive v.event (addNode t) w in
+      let r = arrive v.event (add_node t) w in
       pick (eqb t.nodes C.setting.budget) (stopped spent t w) (pick (ltb C.setting.path v.depth) (stopped path t w) r)
 
   abbrev pub onward : (Run → Run) → Visit → Run → Run

@@ -3,16 +3,16 @@
 use Rattle.std.specs.Prelude.{ℕ, zero, suc, ◌+◌, Bool, true, ◌&&◌, List, [], ◌∷◌, ◌++◌, length, eqb, leb}
 use Rattle.specification.specs.Bytes.{Bytes, bytes, pick, feed, colon}
 use Rattle.specification.specs.Parser.{Reader, Read, Parser, give, ◌>>=◌, ◌>>◌, spells, mark, key, finish}
-use Rattle.specification.specs.Lines.{count, line, Range, Declared, arraysLine, rangesLine}
-use Rattle.specification.specs.Given.{Item, givenLine}
+use Rattle.specification.specs.Lines.{count, line, Range, Declared, arrays_line, ranges_line}
+use Rattle.specification.specs.Given.{Item, given_line}
 use Rattle.specification.specs.Ast.{Formula, Procedure}
 use Rattle.specification.specs.Formula.{formula}
 
 -- ---- procedures
 
 -- what is declared in a line with so many parameters
-abbrev pub withParameters : ℕ → Declared → Declared
-withParameters n D = record {
+abbrev pub with_parameters : ℕ → Declared → Declared
+with_parameters n D = record {
   edition = D.edition;
   scalars = D.scalars;
   locals = D.locals;
@@ -23,8 +23,8 @@ withParameters n D = record {
 }
 
 -- and after the lines of these procedures
-abbrev pub withProcedures : List Procedure → Declared → Declared
-withProcedures Ps D = record {
+abbrev pub with_procedures : List Procedure → Declared → Declared
+with_procedures Ps D = record {
   edition = D.edition;
   scalars = D.scalars;
   locals = D.locals;
@@ -35,26 +35,26 @@ withProcedures Ps D = record {
 }
 
 -- `proc=N:F`
-unfoldable pub procedureLine : Bool → Declared → Parser Procedure
-procedureLine refusing D = do
+unfoldable pub procedure_line : Bool → Declared → Parser Procedure
+procedure_line refusing D = do
   key (bytes "proc=")
   n ← count 0 8
   mark colon
-  F ← formula refusing (withParameters n D) 64 []
+  F ← formula refusing (with_parameters n D) 64 []
   mark feed
   give (record { parameters = n; formula = F })
 
 -- up to k such lines: all procedures after them. The formula's line, which follows, begins with another letter
-unfoldable pub procedureLines : Bool → ℕ → Declared → Parser (List Procedure)
-procedureLines refusing zero D = give D.procedures
-procedureLines refusing (suc k) D = do
+unfoldable pub procedure_lines : Bool → ℕ → Declared → Parser (List Procedure)
+procedure_lines refusing zero D = give D.procedures
+procedure_lines refusing (suc k) D = do
   more ← spells (bytes "p")
-  (let r = procedureLine refusing D >>= λ P. procedureLines refusing k (withProcedures (D.procedures ++ (P ∷ [])) D) in
+  (let r = procedure_line refusing D >>= λ P. procedure_lines refusing k (with_procedures (D.procedures ++ (P ∷ [])) D) in
       pick more r (give D.procedures))
 
 -- how many an edition has at most
-abbrev pub mostProcedures : ℕ → ℕ
-mostProcedures edition = pick (eqb edition 1) 0 16
+abbrev pub most_procedures : ℕ → ℕ
+most_procedures edition = pick (eqb edition 1) 0 16
 
 -- ---- the lines
 
@@ -76,24 +76,24 @@ beginning edition scalars locals arrays ranges = record {
 }
 
 -- the first edition that refuses empty ranges
-abbrev pub firstStrict : ℕ
-firstStrict = 3
+abbrev pub first_strict : ℕ
+first_strict = 3
 
 -- whether an edition refuses them where reading is strict; without that no edition does, as before they were refused
 abbrev pub refuses : Bool → ℕ → Bool
-refuses strict edition = strict && leb firstStrict edition
+refuses strict edition = strict && leb first_strict edition
 
 unfoldable pub sheet : Bool → Parser Sheet
 sheet strict = do
   edition ← line (bytes "edition=") 1 3
   scalars ← line (bytes "scalars=") 0 64
   locals ← line (bytes "locals=") 0 32
-  arrays ← arraysLine scalars
-  ranges ← rangesLine edition (scalars + length arrays)
+  arrays ← arrays_line scalars
+  ranges ← ranges_line edition (scalars + length arrays)
   let E : Declared = beginning edition scalars locals arrays ranges
-  given ← givenLine E
-  Ps ← procedureLines (refuses strict edition) (mostProcedures edition) E
-  let D : Declared = withProcedures Ps E
+  given ← given_line E
+  Ps ← procedure_lines (refuses strict edition) (most_procedures edition) E
+  let D : Declared = with_procedures Ps E
   key (bytes "formula=")
   F ← formula (refuses strict edition) D 64 []
   mark feed
@@ -104,9 +104,9 @@ sheet strict = do
 abbrev pub opened : Bytes → Reader
 opened s = record { place = 0; rest = s; tokens = 0; bound = [] }
 
-unfoldable pub readWith : Bool → Bytes → Read Sheet
-readWith strict s = sheet strict (opened s)
+unfoldable pub read_with : Bool → Bytes → Read Sheet
+read_with strict s = sheet strict (opened s)
 
 -- as every call reads that runs a sheet
 abbrev pub read : Bytes → Read Sheet
-read s = readWith true s
+read s = read_with true s

@@ -5,7 +5,7 @@ use Rattle.std.specs.Prelude.{ℕ, zero, suc, Bool, true, false, List, [], ◌�
 use Rattle.specification.specs.Bytes.{pick}
 use Rattle.specification.specs.Lines.{Declared}
 use Rattle.specification.specs.Ast.{Rel, Formula, truth, and, or, imp, neg, eq, compare, ex, some, all, call}
-use Rattle.specification.specs.Arithmetic.{noValue, undecidedInside, eqZ, test, count}
+use Rattle.specification.specs.Arithmetic.{no_value, undecided_inside, eq_z, test, count}
 use Rattle.specification.specs.Place.{Place, local, put}
 use Rattle.specification.specs.Value.{empty, full, Valuation, allowed, Side, val, bare, err, Pair, values, faulty, pair_of, side}
 use Rattle.specification.specs.Outside.{gave}
@@ -14,9 +14,9 @@ use Rattle.specification.specs.Outside.{gave}
 
 -- a success leaf has its valuation; an error leaf its kind, its token and the valuation it was met in
 pub data Tree : Type 0 where
-  successLeaf : Valuation → Tree
-  failureLeaf : Tree
-  errorLeaf : ℕ → ℕ → Valuation → Tree
+  success_leaf : Valuation → Tree
+  failure_leaf : Tree
+  error_leaf : ℕ → ℕ → Valuation → Tree
   -- a node with one son, with two; a node of `some`, with its lowest value and n sons by their numbers, one for each value from there on;
   -- a node of `not` or `imp`, with its inner tree and its son
   step : Tree → Tree
@@ -43,9 +43,9 @@ joined zero i f = fails
 joined (suc n) i f = let w = joined n (suc i) f in join (f i) w
 
 unfoldable pub verdict : Tree → Verdict
-verdict (successLeaf β) = succeeds
-verdict failureLeaf = fails
-verdict (errorLeaf κ t β) = undecided
+verdict (success_leaf β) = succeeds
+verdict failure_leaf = fails
+verdict (error_leaf κ t β) = undecided
 verdict (step T) = verdict T
 verdict (fork T U) = let w = verdict U in join (verdict T) w
 verdict (fan x n f) = joined n 0 (λ i. verdict (f i))
@@ -62,7 +62,7 @@ Rest = Valuation → Tree
 -- go on, or a failure leaf
 abbrev pub check : Bool → Rest → Rest
 check true k α = k α
-check false k α = failureLeaf
+check false k α = failure_leaf
 
 -- a place gets a value, or a failure leaf where it may not have it
 abbrev pub assign : Declared → Place → ℤ → Rest → Rest
@@ -70,29 +70,29 @@ assign D p v k α = check (allowed D p v) (λ β. k (put β p (full v))) α
 
 -- `eq`: a bare side raises nothing if the other side has an error of its own; two bare sides are kind 1
 unfoldable pub equate : Declared → ℕ → Side → Side → Rest → Rest
-equate D tok (val x) (val y) k α = check (eqZ x y) k α
+equate D tok (val x) (val y) k α = check (eq_z x y) k α
 equate D tok (val x) (bare q) k α = assign D q x k α
 equate D tok (bare p) (val y) k α = assign D p y k α
-equate D tok (bare p) (bare q) k α = errorLeaf noValue tok α
-equate D tok (bare p) (err κ) k α = errorLeaf κ tok α
-equate D tok (val x) (err κ) k α = errorLeaf κ tok α
-equate D tok (err κ) y k α = errorLeaf κ tok α
+equate D tok (bare p) (bare q) k α = error_leaf no_value tok α
+equate D tok (bare p) (err κ) k α = error_leaf κ tok α
+equate D tok (val x) (err κ) k α = error_leaf κ tok α
+equate D tok (err κ) y k α = error_leaf κ tok α
 
 -- the atoms that compare
 unfoldable pub compared : ℕ → Rel → Pair → Rest → Rest
 compared tok r (values x y) k α = check (test r x y) k α
-compared tok r (faulty κ) k α = errorLeaf κ tok α
+compared tok r (faulty κ) k α = error_leaf κ tok α
 
 -- ---- bounded quantifiers
 
 -- bounds with values, or the quantifier's node with an error leaf as its son
 unfoldable pub bounded : ℕ → Pair → (ℤ → ℤ → Rest) → Rest
 bounded tok (values x y) k α = k x y α
-bounded tok (faulty κ) k α = step (errorLeaf κ tok α)
+bounded tok (faulty κ) k α = step (error_leaf κ tok α)
 
 -- `some`: a son for each of n values, the lowest x; an empty range gives a failure leaf
 unfoldable pub sons : ℤ → ℕ → (ℕ → Tree) → Tree
-sons x zero f = step failureLeaf
+sons x zero f = step failure_leaf
 sons x (suc n) f = fan x (suc n) f
 
 -- `all` with n values left, the lowest v: a son that begins with F for v, then the same `all` over the values left, then the rest
@@ -104,14 +104,14 @@ rounds F l k (suc n) v α =
 -- ---- `not` and `imp`
 
 abbrev pub denied : ℕ → Verdict → Rest → Rest
-denied tok succeeds k α = failureLeaf
+denied tok succeeds k α = failure_leaf
 denied tok fails k α = k α
-denied tok undecided k α = errorLeaf undecidedInside tok α
+denied tok undecided k α = error_leaf undecided_inside tok α
 
 abbrev pub implied : ℕ → Verdict → Rest → Rest → Rest
 implied tok succeeds g k α = g α
 implied tok fails g k α = k α
-implied tok undecided g k α = errorLeaf undecidedInside tok α
+implied tok undecided g k α = error_leaf undecided_inside tok α
 
 -- a node with an inner tree, and the son that the verdict on it leads to
 unfoldable pub enquire : Rest → (Verdict → Rest) → Rest
@@ -121,12 +121,12 @@ enquire inner next α = let I = inner α in let T = next (verdict I) α in ask I
 
 -- the empty list: one son, a success leaf
 abbrev pub done : Rest
-done α = step (successLeaf α)
+done α = step (success_leaf α)
 
 -- the empty list in the inner tree of F that is asked for under α: one son, a success leaf if no place outside F got a value. Otherwise the leaf
 -- leaves the verdict open, as an error leaf does; leaves of inner trees are never listed, so its token is of no account
-unfoldable pub doneInside : Declared → Formula → Valuation → Rest
-doneInside D F α β = step (pick (gave D F α β) (errorLeaf undecidedInside 0 β) (successLeaf β))
+unfoldable pub done_inside : Declared → Formula → Valuation → Rest
+done_inside D F α β = step (pick (gave D F α β) (error_leaf undecided_inside 0 β) (success_leaf β))
 
 module _ (D : Declared) where
   unfoldable pub grow : Formula → Rest → Rest
@@ -135,8 +135,8 @@ module _ (D : Declared) where
   grow (compare tok r s t) k α = let T = compared tok r (pair_of (side D α s) (side D α t)) k α in step T
   grow (or F G) k α = let T = grow F k α in let U = grow G k α in fork T U
   grow (and F G) k α = let T = grow F (λ β. grow G k β) α in step T
-  grow (imp tok F G) k α = enquire (λ β. grow F (doneInside D F α) β) (λ v. implied tok v (λ β. grow G k β) k) α
-  grow (neg tok F) k α = enquire (λ β. grow F (doneInside D F α) β) (λ v. denied tok v k) α
+  grow (imp tok F G) k α = enquire (λ β. grow F (done_inside D F α) β) (λ v. implied tok v (λ β. grow G k β) k) α
+  grow (neg tok F) k α = enquire (λ β. grow F (done_inside D F α) β) (λ v. denied tok v k) α
   grow (ex l F) k α = let T = grow F k (put α (local l) empty) in step T
   grow (some tok l a b F) k α =
       bounded tok (pair_of (side D α a) (side D α b))

@@ -3,9 +3,9 @@
 use Rattle.std.specs.Prelude.{ℕ, ◌+◌, Bool, true, false, ltb, ℤ, pos, negsuc}
 use Rattle.specification.specs.Number.{in32}
 use Rattle.specification.specs.Lines.{Declared, first_of, length_of, in_range}
-use Rattle.specification.specs.Ast.{Op, Term, constant, scalarAt, local_at, parameter, elementAt, apply}
+use Rattle.specification.specs.Ast.{Op, Term, constant, scalar_at, local_at, parameter, element_at, apply}
 use Rattle.specification.specs.Place.{Place, cell, local}
-use Rattle.specification.specs.Arithmetic.{noValue, outsideArray, Computed, value, fault, compute}
+use Rattle.specification.specs.Arithmetic.{no_value, outside_array, Computed, value, fault, compute}
 
 -- ---- valuations
 
@@ -39,9 +39,9 @@ pub data Pair : Type 0 where
 
 unfoldable pub pair_of : Side → Side → Pair
 pair_of (val x) (val y) = values x y
-pair_of (val x) (bare q) = faulty noValue
+pair_of (val x) (bare q) = faulty no_value
 pair_of (val x) (err κ) = faulty κ
-pair_of (bare p) y = faulty noValue
+pair_of (bare p) y = faulty no_value
 pair_of (err κ) y = faulty κ
 
 abbrev pub side_of : Computed → Side
@@ -55,20 +55,20 @@ operate o (faulty κ) = err κ
 module _ (D : Declared) (α : Valuation) where
   abbrev pub in_array : Bool → ℕ → Side
   in_array true c = look (α (cell c)) (cell c)
-  in_array false c = err outsideArray
+  in_array false c = err outside_array
 
   -- an element is bare if its index has a value inside the array; another index raises its error
-  unfoldable pub elementSide : ℕ → Side → Side
-  elementSide a (val (pos i)) = in_array (ltb i (length_of D a)) (first_of D a + i)
-  elementSide a (val (negsuc i)) = err outsideArray
-  elementSide a (bare p) = err noValue
-  elementSide a (err κ) = err κ
+  unfoldable pub element_side : ℕ → Side → Side
+  element_side a (val (pos i)) = in_array (ltb i (length_of D a)) (first_of D a + i)
+  element_side a (val (negsuc i)) = err outside_array
+  element_side a (bare p) = err no_value
+  element_side a (err κ) = err κ
 
   -- no parameter is left in a formula that is walked
   unfoldable pub side : Term → Side
   side (constant z) = val z
-  side (scalarAt c) = look (α (cell c)) (cell c)
+  side (scalar_at c) = look (α (cell c)) (cell c)
   side (local_at l) = look (α (local l)) (local l)
-  side (parameter n) = err noValue
-  side (elementAt a t) = elementSide a (side t)
+  side (parameter n) = err no_value
+  side (element_at a t) = element_side a (side t)
   side (apply o s t) = operate o (pair_of (side s) (side t))

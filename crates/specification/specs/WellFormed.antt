@@ -4,9 +4,9 @@ use Rattle.std.specs.Prelude.{ℕ, suc, ◌+◌, ◌≤◌, ◌<◌, ◌≡◌, 
 use Rattle.specification.specs.Lists.{Each}
 use Rattle.specification.specs.Bytes.{pick}
 use Rattle.specification.specs.Number.{in32}
-use Rattle.specification.specs.Lines.{Range, Declared, firstRanged, contains, cells, in_range, procedureOf}
+use Rattle.specification.specs.Lines.{Range, Declared, first_ranged, contains, cells, in_range, procedure_of}
 use Rattle.specification.specs.Given.{Item}
-use Rattle.specification.specs.Ast.{Term, constant, scalarAt, local_at, parameter, elementAt, apply, Formula, truth, and, or, imp, neg, eq, compare, ex, some, all, call}
+use Rattle.specification.specs.Ast.{Term, constant, scalar_at, local_at, parameter, element_at, apply, Formula, truth, and, or, imp, neg, eq, compare, ex, some, all, call}
 use Rattle.specification.specs.Fill.{fill}
 use Rattle.specification.specs.Sheet.{Sheet}
 use Rattle.specification.specs.Place.{Place}
@@ -26,7 +26,7 @@ pub record Limits (D : Declared) : Type 0 where
   pub positive : Each (λ n. 1 ≤ n) D.arrays
   pub cells : cells D ≤ 512
   -- none before edition 3, then one for each scalar and each array
-  pub ranges : length D.ranges ≡ pick (ltb D.edition firstRanged) 0 (D.scalars + length D.arrays)
+  pub ranges : length D.ranges ≡ pick (ltb D.edition first_ranged) 0 (D.scalars + length D.arrays)
   pub ordered : Each Ordered D.ranges
   pub procedures : length D.procedures ≤ 16
   -- the sheet's formula has no parameters
@@ -57,17 +57,17 @@ module _ (D : Declared) where
   -- names are declared or bound, and constants lie in 32 bits
   unfoldable pub OkTerm : Scope → Term → Type 0
   OkTerm S (constant z) = T (in32 z)
-  OkTerm S (scalarAt c) = c < D.scalars
+  OkTerm S (scalar_at c) = c < D.scalars
   OkTerm S (local_at l) = T (S l)
   OkTerm S (parameter n) = n < D.parameters
-  OkTerm S (elementAt a t) = (a < length D.arrays) × OkTerm S t
+  OkTerm S (element_at a t) = (a < length D.arrays) × OkTerm S t
   OkTerm S (apply o s t) = OkTerm S s × OkTerm S t
 
   -- the formula of a call is that of a procedure, with the arguments in place of its parameters
   pub record Called (K : ℕ) (ts : List Term) (F : Formula) : Type 0 where
     pub earlier : K < length D.procedures
-    pub count : length ts ≡ (procedureOf D K).parameters
-    pub filled : F ≡ fill ts (procedureOf D K).formula
+    pub count : length ts ≡ (procedure_of D K).parameters
+    pub filled : F ≡ fill ts (procedure_of D K).formula
 
   -- and each binder's local is declared and not bound around it
   unfoldable pub Ok : Scope → Formula → Type 0
@@ -92,12 +92,12 @@ line_of D K = record {
   arrays = D.arrays;
   ranges = D.ranges;
   procedures = take K D.procedures;
-  parameters = (procedureOf D K).parameters;
+  parameters = (procedure_of D K).parameters;
 }
 
 -- each procedure is well scoped in its line
 abbrev pub OkProcedures : Declared → Type 0
-OkProcedures D = (K : ℕ) → K < length D.procedures → Ok (line_of D K) nowhere (procedureOf D K).formula
+OkProcedures D = (K : ℕ) → K < length D.procedures → Ok (line_of D K) nowhere (procedure_of D K).formula
 
 -- ---- the sheet
 

@@ -9,7 +9,7 @@
 --   dues       3 words each: what is due while a formula is read
 --   path       12 words for each node: the records of a walk
 --
--- A walk has other tables in the words from duesAt up to the path:
+-- A walk has other tables in the words from dues_at up to the path:
 --
 --   results    of terms that are being valued, up to opens_at
 --   opens      2 words for each procedure and parameter: the result of a parameter that is valued again for each atom, its tag and its word
@@ -27,163 +27,163 @@ Words = List ℕ
 
 -- ---- document 01's limits: how many entries a table may have
 
-abbrev pub maxTokens : ℕ
-maxTokens = 1024
+abbrev pub max_tokens : ℕ
+max_tokens = 1024
 
-abbrev pub maxCells : ℕ
-maxCells = 512
+abbrev pub max_cells : ℕ
+max_cells = 512
 
-abbrev pub maxScalars : ℕ
-maxScalars = 64
+abbrev pub max_scalars : ℕ
+max_scalars = 64
 
-abbrev pub maxLocals : ℕ
-maxLocals = 32
+abbrev pub max_locals : ℕ
+max_locals = 32
 
-abbrev pub maxArrays : ℕ
-maxArrays = 16
+abbrev pub max_arrays : ℕ
+max_arrays = 16
 
-abbrev pub maxRanges : ℕ
-maxRanges = maxScalars + maxArrays
+abbrev pub max_ranges : ℕ
+max_ranges = max_scalars + max_arrays
 
-abbrev pub maxNesting : ℕ
-maxNesting = 64
+abbrev pub max_nesting : ℕ
+max_nesting = 64
 
-abbrev pub maxProcs : ℕ
-maxProcs = 16
+abbrev pub max_procs : ℕ
+max_procs = 16
 
-abbrev pub maxParameters : ℕ
-maxParameters = 8
+abbrev pub max_parameters : ℕ
+max_parameters = 8
 
 -- two more are due at each level of nesting, since a word has at most three operands; a call's eight arguments are five more than that
-abbrev pub maxDues : ℕ
-maxDues = 2 * maxNesting + 1 + 5
+abbrev pub max_dues : ℕ
+max_dues = 2 * max_nesting + 1 + 5
 
-abbrev pub maxPath : ℕ
-maxPath = 32768
+abbrev pub max_path : ℕ
+max_path = 32768
 
 -- ---- the words of an entry
 
-abbrev pub tokenWords : ℕ
-tokenWords = 4
+abbrev pub token_words : ℕ
+token_words = 4
 
-abbrev pub slotWords : ℕ
-slotWords = 2
+abbrev pub slot_words : ℕ
+slot_words = 2
 
-abbrev pub dueWords : ℕ
-dueWords = 3
+abbrev pub due_words : ℕ
+due_words = 3
 
-abbrev pub procWords : ℕ
-procWords = 2
+abbrev pub proc_words : ℕ
+proc_words = 2
 
-abbrev pub openWords : ℕ
-openWords = 2
+abbrev pub open_words : ℕ
+open_words = 2
 
-abbrev pub nodeWords : ℕ
-nodeWords = 12
+abbrev pub node_words : ℕ
+node_words = 12
 
 -- ---- beginnings
 
-abbrev pub cellsAt : ℕ
-cellsAt = 4096
+abbrev pub cells_at : ℕ
+cells_at = 4096
 
-abbrev pub localsAt : ℕ
-localsAt = 5120
+abbrev pub locals_at : ℕ
+locals_at = 5120
 
-abbrev pub firstsAt : ℕ
-firstsAt = 5184
+abbrev pub firsts_at : ℕ
+firsts_at = 5184
 
-abbrev pub procsAt : ℕ
-procsAt = 5201
+abbrev pub procs_at : ℕ
+procs_at = 5201
 
-abbrev pub rangesAt : ℕ
-rangesAt = 5233
+abbrev pub ranges_at : ℕ
+ranges_at = 5233
 
-abbrev pub duesAt : ℕ
-duesAt = 5393
+abbrev pub dues_at : ℕ
+dues_at = 5393
 
 -- the last result of a term stands outside the words, so the first that stands in them is the second
-abbrev pub resultsAt : ℕ
-resultsAt = duesAt + 2
+abbrev pub results_at : ℕ
+results_at = dues_at + 2
 
-abbrev pub duesEnd : ℕ
-duesEnd = 5795
+abbrev pub dues_end : ℕ
+dues_end = 5795
 
 abbrev pub opens_at : ℕ
 opens_at = 5525
 
-abbrev pub lastsAt : ℕ
-lastsAt = 6101
+abbrev pub lasts_at : ℕ
+lasts_at = 6101
 
-abbrev pub pathAt : ℕ
-pathAt = 6144
+abbrev pub path_at : ℕ
+path_at = 6144
 
 -- ---- the first word of an entry
 
-abbrev pub tokenSlot : ℕ → ℕ
-tokenSlot i = tokenWords * i
+abbrev pub token_slot : ℕ → ℕ
+token_slot i = token_words * i
 
-abbrev pub cellSlot : ℕ → ℕ
-cellSlot c = cellsAt + slotWords * c
+abbrev pub cell_slot : ℕ → ℕ
+cell_slot c = cells_at + slot_words * c
 
-abbrev pub localSlot : ℕ → ℕ
-localSlot l = localsAt + slotWords * l
+abbrev pub local_slot : ℕ → ℕ
+local_slot l = locals_at + slot_words * l
 
 abbrev pub first_slot : ℕ → ℕ
-first_slot a = firstsAt + a
+first_slot a = firsts_at + a
 
-abbrev pub procSlot : ℕ → ℕ
-procSlot k = procsAt + procWords * k
+abbrev pub proc_slot : ℕ → ℕ
+proc_slot k = procs_at + proc_words * k
 
-abbrev pub dueSlot : ℕ → ℕ
-dueSlot i = duesAt + dueWords * i
+abbrev pub due_slot : ℕ → ℕ
+due_slot i = dues_at + due_words * i
 
 -- parameter n of procedure k
-abbrev pub openSlot : ℕ → ℕ → ℕ
-openSlot k n = opens_at + openWords * maxParameters * k + openWords * n
+abbrev pub open_slot : ℕ → ℕ → ℕ
+open_slot k n = opens_at + open_words * max_parameters * k + open_words * n
 
-abbrev pub lastSlot : ℕ → ℕ
-lastSlot l = lastsAt + l
+abbrev pub last_slot : ℕ → ℕ
+last_slot l = lasts_at + l
 
 -- the records of a path of d nodes end here at the latest
-abbrev pub nodeSlot : ℕ → ℕ
-nodeSlot d = pathAt + nodeWords * d
+abbrev pub node_slot : ℕ → ℕ
+node_slot d = path_at + node_words * d
 
 -- ---- the words of tokens, cells, arrays, procedures and last values
 
 abbrev pub code_at : Words → ℕ → ℕ
-code_at w i = get_or w (tokenSlot i) 0
+code_at w i = get_or w (token_slot i) 0
 
 abbrev pub operand_at : Words → ℕ → ℕ
-operand_at w i = get_or w (tokenSlot i + 1) 0
+operand_at w i = get_or w (token_slot i + 1) 0
 
 -- the number of the token after its subtree
 abbrev pub end_at : Words → ℕ → ℕ
-end_at w i = get_or w (tokenSlot i + 2) 0
+end_at w i = get_or w (token_slot i + 2) 0
 
 -- the word that the plan fills
 abbrev pub plan_at : Words → ℕ → ℕ
-plan_at w i = get_or w (tokenSlot i + 3) 0
+plan_at w i = get_or w (token_slot i + 3) 0
 
 -- 0 where cell c has no value
-abbrev pub flagAt : Words → ℕ → ℕ
-flagAt w c = get_or w (cellSlot c) 0
+abbrev pub flag_at : Words → ℕ → ℕ
+flag_at w c = get_or w (cell_slot c) 0
 
 -- its value's word
 abbrev pub value_at : Words → ℕ → ℕ
-value_at w c = get_or w (cellSlot c + 1) 0
+value_at w c = get_or w (cell_slot c + 1) 0
 
 -- the first cell of array a
 abbrev pub first_at : Words → ℕ → ℕ
 first_at w a = get_or w (first_slot a) 0
 
 -- the first token of the formula of procedure k
-abbrev pub procAt : Words → ℕ → ℕ
-procAt w k = get_or w (procSlot k) 0
+abbrev pub proc_at : Words → ℕ → ℕ
+proc_at w k = get_or w (proc_slot k) 0
 
 -- the number of its parameters
-abbrev pub parametersAt : Words → ℕ → ℕ
-parametersAt w k = get_or w (procSlot k + 1) 0
+abbrev pub parameters_at : Words → ℕ → ℕ
+parameters_at w k = get_or w (proc_slot k + 1) 0
 
 -- the word of the last value of the `all` over local l
 abbrev pub last_at : Words → ℕ → ℕ
-last_at w l = get_or w (lastSlot l) 0
+last_at w l = get_or w (last_slot l) 0

@@ -1,7 +1,7 @@
 // The codes of tokens (specs/Codes.antt has the same numbers for contracts and proofs): ranges separate formulas from terms. Codes lie
 // close together, since a match on a code becomes a table of jumps in the box's read-only memory, as long as the codes lie apart.
 ghost use Rattle.std.specs.Prelude.{◌≡◌, ◌&&◌, leb};
-ghost use Rattle.tables.specs.Codes.{firstFormula, lastFormula, firstTerm, lastTerm};
+ghost use Rattle.tables.specs.Codes.{first_formula, last_formula, first_term, last_term};
 
 // ---- formulas
 
@@ -102,13 +102,13 @@ fn between(lo: u32, hi: u32, code: u32) -> bool
 }
 
 pub fn is_formula(code: u32) -> bool
-    ensures { result ≡ (leb firstFormula code && leb code lastFormula) }
+    ensures { result ≡ (leb first_formula code && leb code last_formula) }
 {
     between(FIRST_FORMULA, LAST_FORMULA, code)
 }
 
 pub fn is_term(code: u32) -> bool
-    ensures { result ≡ (leb firstTerm code && leb code lastTerm) }
+    ensures { result ≡ (leb first_term code && leb code last_term) }
 {
     between(FIRST_TERM, LAST_TERM, code)
 }

@@ -1,8 +1,8 @@
 // Frames of procedures (specs/Frames.antt): where they are, and the words before their arguments.
 ghost use Rattle.std.specs.Prelude.{◌≡◌, ◌+◌, ◌<◌, ◌≤◌, length, set};
-ghost use Rattle.tables.specs.Layout.{maxProcs, maxParameters};
-ghost use Rattle.tables.specs.Frames.{frameSlot, argumentSlot, backAt, call_at, tagsAt};
-ghost use Rattle.tables.specs.Leaves.{returnCode};
+ghost use Rattle.tables.specs.Layout.{max_procs, max_parameters};
+ghost use Rattle.tables.specs.Frames.{frame_slot, argument_slot, back_at, call_at, tags_at};
+ghost use Rattle.tables.specs.Leaves.{return_code};
 
 pub const FRAMES: usize = 5781;
 
@@ -19,31 +19,31 @@ const SLOT_WORDS: u32 = crate::SLOT_WORDS as u32;
 
 // The first word of the frame of procedure k.
 pub fn place(k: u32) -> u32
-    requires { k ≤ maxProcs }
-    ensures { result ≡ frameSlot k }
+    requires { k ≤ max_procs }
+    ensures { result ≡ frame_slot k }
 {
     FIRST + WORDS * k
 }
 
 // The slot of its parameter n.
 pub fn argument(k: u32, n: u32) -> u32
-    requires { (k ≤ maxProcs) × (n ≤ maxParameters) }
-    ensures { result ≡ argumentSlot k n }
+    requires { (k ≤ max_procs) × (n ≤ max_parameters) }
+    ensures { result ≡ argument_slot k n }
 {
     FIRST + WORDS * k + HEAD_WORDS + SLOT_WORDS * n
 }
 
 // What comes after the call.
 pub fn back(w: &[u32], k: u32) -> u32
-    requires { frameSlot k + 1 < length w.now }
-    ensures { result ≡ backAt w.now k }
+    requires { frame_slot k + 1 < length w.now }
+    ensures { result ≡ back_at w.now k }
 {
     w[FRAMES + FRAME_WORDS * (k as usize) + 1]
 }
 
 // The call's token.
 pub fn call(w: &[u32], k: u32) -> u32
-    requires { frameSlot k + 2 < length w.now }
+    requires { frame_slot k + 2 < length w.now }
     ensures { result ≡ call_at w.now k }
 {
     w[FRAMES + FRAME_WORDS * (k as usize) + 2]
@@ -51,15 +51,15 @@ pub fn call(w: &[u32], k: u32) -> u32
 
 // Which arguments are no values.
 pub fn tags(w: &[u32], k: u32) -> u32
-    requires { frameSlot k + 3 < length w.now }
-    ensures { result ≡ tagsAt w.now k }
+    requires { frame_slot k + 3 < length w.now }
+    ensures { result ≡ tags_at w.now k }
 {
     w[FRAMES + FRAME_WORDS * (k as usize) + 3]
 }
 
 pub fn set_head(w: &mut [u32], k: u32, back: u32, call: u32, tags: u32)
-    requires { frameSlot k + 3 < length w.old }
-    ensures { w.new ≡ set (set (set w.old (frameSlot k + 1) back) (frameSlot k + 2) call) (frameSlot k + 3) tags }
+    requires { frame_slot k + 3 < length w.old }
+    ensures { w.new ≡ set (set (set w.old (frame_slot k + 1) back) (frame_slot k + 2) call) (frame_slot k + 3) tags }
 {
     let at = FRAMES + FRAME_WORDS * (k as usize);
     w[at + 1] = back;
@@ -69,8 +69,8 @@ pub fn set_head(w: &mut [u32], k: u32, back: u32, call: u32, tags: u32)
 
 // The token that the procedure's formula ends at.
 pub fn set_return(w: &mut [u32], k: u32)
-    requires { frameSlot k < length w.old }
-    ensures { w.new ≡ set w.old (frameSlot k) returnCode }
+    requires { frame_slot k < length w.old }
+    ensures { w.new ≡ set w.old (frame_slot k) return_code }
 {
     w[FRAMES + FRAME_WORDS * (k as usize)] = crate::leaves::RETURN_CODE;
 }

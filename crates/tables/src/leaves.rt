@@ -1,6 +1,6 @@
 // Tokens of no formula (specs/Leaves.antt): their places and codes, and the error leaf that is due.
 ghost use Rattle.std.specs.Prelude.{◌≡◌, ◌+◌, ◌≤◌, length, set};
-ghost use Rattle.tables.specs.Leaves.{errorPlace, leavesEnd, kind_at, tokenAt, coded};
+ghost use Rattle.tables.specs.Leaves.{error_place, leaves_end, kind_at, token_at, coded};
 
 pub const END: u32 = 6133;
 
@@ -30,7 +30,7 @@ const TOKEN: usize = ERROR as usize + 2;
 
 // The kind of the error leaf that is due.
 pub fn kind(w: &[u32]) -> u32
-    requires { leavesEnd ≤ length w.now }
+    requires { leaves_end ≤ length w.now }
     ensures { result ≡ kind_at w.now }
 {
     w[KIND]
@@ -38,15 +38,15 @@ pub fn kind(w: &[u32]) -> u32
 
 // Its token.
 pub fn token(w: &[u32]) -> u32
-    requires { leavesEnd ≤ length w.now }
-    ensures { result ≡ tokenAt w.now }
+    requires { leaves_end ≤ length w.now }
+    ensures { result ≡ token_at w.now }
 {
     w[TOKEN]
 }
 
 pub fn set_error(w: &mut [u32], kind: u32, token: u32)
-    requires { leavesEnd ≤ length w.old }
-    ensures { w.new ≡ set (set w.old (errorPlace + 1) kind) (errorPlace + 2) token }
+    requires { leaves_end ≤ length w.old }
+    ensures { w.new ≡ set (set w.old (error_place + 1) kind) (error_place + 2) token }
 {
     w[KIND] = kind;
     w[TOKEN] = token;
@@ -54,7 +54,7 @@ pub fn set_error(w: &mut [u32], kind: u32, token: u32)
 
 // The codes of all but the procedures' ends.
 pub fn set_codes(w: &mut [u32])
-    requires { leavesEnd ≤ length w.old }
+    requires { leaves_end ≤ length w.old }
     ensures { w.new ≡ coded w.old }
 {
     w[END as usize] = EMPTY_CODE;

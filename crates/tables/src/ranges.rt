@@ -1,8 +1,8 @@
 // The ranges of cells, and marks: the mark of a place, the second word of its slot while it has no value, tells which values it may have
 // (specs/Ranges.antt).
 ghost use Rattle.std.specs.Prelude.{◌≡◌, ◌+◌, ◌<◌, ◌≤◌, length, set};
-ghost use Rattle.tables.specs.Layout.{cellSlot, value_at, duesAt};
-ghost use Rattle.tables.specs.Ranges.{rangeSlot, lowestAt, highestAt, inside, allows};
+ghost use Rattle.tables.specs.Layout.{cell_slot, value_at, dues_at};
+ghost use Rattle.tables.specs.Ranges.{range_slot, lowest_at, highest_at, inside, allows};
 
 const MAX_RANGES: u32 = crate::MAX_SCALARS + crate::MAX_ARRAYS;
 
@@ -21,8 +21,8 @@ pub const LOCAL_MARK: u32 = FIRST_MARK + MAX_RANGES;
 
 // The words of the lowest and the highest value of range k.
 pub fn set_range(w: &mut [u32], k: u32, lowest: u32, highest: u32)
-    requires { rangeSlot k + 1 < length w.old }
-    ensures { w.new ≡ set (set w.old (rangeSlot k) lowest) (rangeSlot k + 1) highest }
+    requires { range_slot k + 1 < length w.old }
+    ensures { w.new ≡ set (set w.old (range_slot k) lowest) (range_slot k + 1) highest }
 {
     let at = RANGES + RANGE_WORDS * (k as usize);
     w[at] = lowest;
@@ -30,37 +30,37 @@ pub fn set_range(w: &mut [u32], k: u32, lowest: u32, highest: u32)
 }
 
 fn lowest(w: &[u32], k: u32) -> u32
-    requires { rangeSlot k + 1 < length w.now }
-    ensures { result ≡ lowestAt w.now k }
+    requires { range_slot k + 1 < length w.now }
+    ensures { result ≡ lowest_at w.now k }
 {
     w[RANGES + RANGE_WORDS * (k as usize)]
 }
 
 fn highest(w: &[u32], k: u32) -> u32
-    requires { rangeSlot k + 1 < length w.now }
-    ensures { result ≡ highestAt w.now k }
+    requires { range_slot k + 1 < length w.now }
+    ensures { result ≡ highest_at w.now k }
 {
     w[RANGES + RANGE_WORDS * (k as usize) + 1]
 }
 
 // The mark of cell c, which has no value.
 pub fn mark(w: &[u32], c: u32) -> u32
-    requires { cellSlot c + 1 < length w.now }
+    requires { cell_slot c + 1 < length w.now }
     ensures { result ≡ value_at w.now c }
 {
     w[crate::CELLS + crate::SLOT_WORDS * (c as usize) + 1]
 }
 
 pub fn set_mark(w: &mut [u32], c: u32, mark: u32)
-    requires { cellSlot c + 1 < length w.old }
-    ensures { w.new ≡ set w.old (cellSlot c + 1) mark }
+    requires { cell_slot c + 1 < length w.old }
+    ensures { w.new ≡ set w.old (cell_slot c + 1) mark }
 {
     w[crate::CELLS + crate::SLOT_WORDS * (c as usize) + 1] = mark;
 }
 
 // Whether range k has the value of this word: words compare as their values do.
 fn inside(w: &[u32], k: u32, value: u32) -> bool
-    requires { rangeSlot k + 1 < length w.now }
+    requires { range_slot k + 1 < length w.now }
     ensures { result ≡ inside w.now k value }
 {
     if value < lowest(w, k) {
@@ -71,7 +71,7 @@ fn inside(w: &[u32], k: u32, value: u32) -> bool
 
 // Whether a place with this mark may have the value of this word.
 pub fn allows(w: &[u32], mark: u32, value: u32) -> bool
-    requires { duesAt ≤ length w.now }
+    requires { dues_at ≤ length w.now }
     ensures { result ≡ allows w.now mark value }
 {
     if mark == UNRANGED {

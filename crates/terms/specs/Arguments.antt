@@ -5,17 +5,17 @@ use Rattle.std.specs.Int.Bits.{bit_or}
 use Rattle.specification.specs.Bytes.{pick}
 use Rattle.specification.specs.Lines.{Declared}
 use Rattle.specification.specs.Ast.{Term}
-use Rattle.specification.specs.Fill.{fillTerm}
+use Rattle.specification.specs.Fill.{fill_term}
 use Rattle.specification.specs.Place.{Place}
 use Rattle.specification.specs.Value.{Slot, Valuation, Side, look, side}
 use Rattle.specification.specs.WellFormed.{Scope, OkTerm}
-use Rattle.tables.specs.Layout.{duesAt, opens_at, slotWords, plan_at, maxLocals, maxNesting}
-use Rattle.tables.specs.Frames.{framesAt}
+use Rattle.tables.specs.Layout.{dues_at, opens_at, slot_words, plan_at, max_locals, max_nesting}
+use Rattle.tables.specs.Frames.{frames_at}
 use Rattle.sheet.specs.Tables.{Words}
 use Rattle.sheet.specs.Held.{end_at, TermAt, height, SlotAt, slot_of}
 use Rattle.plan.specs.Planned.{ArgumentPlanned}
-use Rattle.terms.specs.Environment.{Environment, termsOf, number_of, Known, Memory}
-use Rattle.terms.specs.Calls.{Fresh, is_value, argumentWord}
+use Rattle.terms.specs.Environment.{Environment, terms_of, number_of, Known, Memory}
+use Rattle.terms.specs.Calls.{Fresh, is_value, argument_word}
 
 -- ---- what a slot has after it is written
 
@@ -23,12 +23,12 @@ use Rattle.terms.specs.Calls.{Fresh, is_value, argumentWord}
 pub record Says (w : Words) (slot : ℕ) (r : Bool) (x : Side) : Type 0 where
   pub told : r ≡ is_value x
   pub flag : get_or w slot 0 ≡ pick r 1 0
-  pub word : get_or w (slot + 1) 0 ≡ argumentWord x
+  pub word : get_or w (slot + 1) 0 ≡ argument_word x
 
 -- they are those of each side that meets P, and all words stay but those of the stack and of the slot
 pub record Bound (w w' : Words) (slot : ℕ) (r : Bool) (P : Side → Type 0) : Type 0 where
   pub says : (x : Side) → P x → Says w' slot r x
-  pub kept : (j : ℕ) → (j < duesAt) ⊎ (opens_at ≤ j) → (j < slot) ⊎ (slot + slotWords ≤ j) → get_or w' j 0 ≡ get_or w j 0
+  pub kept : (j : ℕ) → (j < dues_at) ⊎ (opens_at ≤ j) → (j < slot) ⊎ (slot + slot_words ≤ j) → get_or w' j 0 ≡ get_or w j 0
   pub size : length w' ≡ length w
 
 -- ---- which sides an argument may have
@@ -36,7 +36,7 @@ pub record Bound (w w' : Words) (slot : ℕ) (r : Bool) (P : Side → Type 0) : 
 -- the second word is v, and b says whether it is a value
 pub record Written (b : Bool) (v : ℕ) (x : Side) : Type 0 where
   pub value : is_value x ≡ b
-  pub word : argumentWord x ≡ v
+  pub word : argument_word x ≡ v
 
 -- what the slot p of a place has
 pub record Looks (w : Words) (p : ℕ) (x : Side) : Type 0 where
@@ -55,9 +55,9 @@ pub record Stands (w : Words) (from to p : ℕ) (D : Declared) (α : Valuation) 
   pub end : to ≡ end_at w from
   pub planned : ArgumentPlanned w (number_of E) from t
   pub scope : Scope
-  pub locals : (l : ℕ) → T (scope l) → l < maxLocals
-  pub ok : OkTerm D scope (fillTerm (termsOf E) t)
-  pub low : height t ≤ maxNesting
+  pub locals : (l : ℕ) → T (scope l) → l < max_locals
+  pub ok : OkTerm D scope (fill_term (terms_of E) t)
+  pub low : height t ≤ max_nesting
 
 -- x is its side
 pub record Gives (w : Words) (from to p : ℕ) (x : Side) : Type 0 where
@@ -66,7 +66,7 @@ pub record Gives (w : Words) (from to p : ℕ) (x : Side) : Type 0 where
   pub environment : Environment
   pub term : Term
   pub stands : Stands w from to p declared valuation environment term
-  pub is : x ≡ side declared valuation (fillTerm (termsOf environment) term)
+  pub is : x ≡ side declared valuation (fill_term (terms_of environment) term)
 
 -- ---- what the functions lean on
 
@@ -86,7 +86,7 @@ pub record Binds (w : Words) (slot s from to p : ℕ) : Type 0 where
 pub record Leads (w : Words) (slot s from to p : ℕ) : Type 0 where
   pub binds : Binds w slot s from to p
   pub empty : get_or w s 0 ≡ 0
-  pub later : framesAt ≤ s
+  pub later : frames_at ≤ s
 
 -- ---- the set
 

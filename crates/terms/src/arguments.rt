@@ -1,7 +1,7 @@
 // The arguments of a call that is entered: each goes into its slot of the procedure's frame. A value stands there as in any slot; a slot without a
 // value has the slot of a bare place, or 0, and then the parameter is open (calls.rt).
 ghost use Rattle.std.specs.Prelude.{◌≡◌, true, false, ◌+◌, ◌<◌, ◌≤◌, length};
-ghost use Rattle.tables.specs.Layout.{maxParameters, pathAt};
+ghost use Rattle.tables.specs.Layout.{max_parameters, path_at};
 ghost use Rattle.terms.specs.Calls.{Arrives, Arrived};
 ghost use Rattle.terms.specs.Arguments.{Bound, Written, Looks, Gives, Argues, Binds, Leads, noted};
 
@@ -32,7 +32,7 @@ fn other(w: &mut [u32], slot: u32, x: u32) -> bool
 
 // What the slot p of a place has.
 fn place(w: &mut [u32], slot: u32, p: u32) -> bool
-    requires { (p + 1 < pathAt) × (pathAt ≤ length w.old) × (slot + 1 < length w.old) }
+    requires { (p + 1 < path_at) × (path_at ≤ length w.old) × (slot + 1 < length w.old) }
     ensures { Bound w.old w.new slot result (Looks w.old p) }
 {
     if word(w, p) != 0 {
@@ -95,7 +95,7 @@ fn argue(w: &mut [u32], slot: u32, from: u32, to: u32, env: u32) -> bool
 
 // The set of those that are no values, after parameter n, of which `is` says whether it is one.
 fn note(set: u32, n: u32, is: bool) -> u32
-    requires { n < maxParameters }
+    requires { n < max_parameters }
     ensures { result ≡ noted set n is }
 {
     if is {

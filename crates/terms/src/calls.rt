@@ -3,8 +3,8 @@
 // where a term needs it, into words of its procedure, which is active at most once, since a procedure calls earlier ones only. A procedure
 // stands here by one more than its number, and 0 stands for the sheet's own formula.
 ghost use Rattle.std.specs.Prelude.{◌≡◌, ◌<◌, ◌≤◌, length};
-ghost use Rattle.tables.specs.Layout.{maxProcs, maxParameters, pathAt};
-ghost use Rattle.terms.specs.Calls.{Settles, Settled, Active, aroundAt, Counted, Outward, Reached, isOpen};
+ghost use Rattle.tables.specs.Layout.{max_procs, max_parameters, path_at};
+ghost use Rattle.terms.specs.Calls.{Settles, Settled, Active, around_at, Counted, Outward, Reached, is_open};
 ghost use Rattle.terms.specs.Calls.{Revalues, Revalued, RevaluesOne, RevaluedOne};
 
 use crate::evaluation::pass;
@@ -15,15 +15,15 @@ const TOKEN_WORDS: u32 = tables::TOKEN_WORDS as u32;
 // The procedure around the call that p is active in.
 fn around(w: &[u32], p: u32) -> u32
     requires { Active w.now p }
-    ensures { result ≡ aroundAt w.now p }
+    ensures { result ≡ around_at w.now p }
 {
     tables::planned(w, frames::call(w, p - 1) / TOKEN_WORDS + 1)
 }
 
 // Whether parameter n of procedure k is open.
 fn is_open(w: &[u32], k: u32, n: u32) -> bool
-    requires { (k < maxProcs) × (n < maxParameters) × (pathAt ≤ length w.now) }
-    ensures { result ≡ isOpen w.now k n }
+    requires { (k < max_procs) × (n < max_parameters) × (path_at ≤ length w.now) }
+    ensures { result ≡ is_open w.now k n }
 {
     let slot = frames::argument(k, n);
     if word(w, slot) != 0 {

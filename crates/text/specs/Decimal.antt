@@ -3,7 +3,7 @@
 use Rattle.std.specs.Prelude.{ℕ, ◌+◌, ◌-◌, min, Bool, true, false, not, [], ◌∷◌, leb, eqb, ℤ}
 use Rattle.std.proofs.Math.Option.{Option, none, some}
 use Rattle.specification.specs.Bytes.{Bytes, pick}
-use Rattle.specification.specs.Number.{allDigits, decimal, in32}
+use Rattle.specification.specs.Number.{all_digits, decimal, in32}
 use Rattle.values.specs.Word.{biased}
 use Rattle.text.specs.declared.Decimal.{Decimal}
 use Rattle.text.specs.declared.Word.{Word}
@@ -28,7 +28,7 @@ worded (some z) = pick (in32 z) (word.Is (biased z)) word.Bad
 
 -- the number that digits stand for, read on from a number; none where a byte is no digit
 abbrev pub read_on : ℕ → Bytes → Option ℕ
-read_on n bs = pick (allDigits bs) (some (decimal n bs)) none
+read_on n bs = pick (all_digits bs) (some (decimal n bs)) none
 
 -- there is a first byte, and it is no zero before others
 unfoldable pub headed : Bytes → Bool
@@ -37,11 +37,11 @@ headed (b ∷ []) = true
 headed (b ∷ c ∷ bs) = not (eqb b 48)
 
 -- the word of a number that was read
-unfoldable pub plainWord : Decimal → Word
-plainWord read.Malformed = word.Bad
-plainWord (read.Is k) = pick (leb k 2147483647) (word.Is (2147483648 + k)) word.Bad
+unfoldable pub plain_word : Decimal → Word
+plain_word read.Malformed = word.Bad
+plain_word (read.Is k) = pick (leb k 2147483647) (word.Is (2147483648 + k)) word.Bad
 
 -- the word of a number that was read after its minus; `-0` is none
-unfoldable pub minusWord : Decimal → Word
-minusWord read.Malformed = word.Bad
-minusWord (read.Is k) = pick (eqb k 0) word.Bad (pick (leb k 2147483648) (word.Is (2147483648 - k)) word.Bad)
+unfoldable pub minus_word : Decimal → Word
+minus_word read.Malformed = word.Bad
+minus_word (read.Is k) = pick (eqb k 0) word.Bad (pick (leb k 2147483648) (word.Is (2147483648 - k)) word.Bad)

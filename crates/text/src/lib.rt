@@ -1,9 +1,9 @@
 // The leaves of the sheet's reader: parts and keys, classes of bytes, runs of bytes, and decimal numbers.
 ghost use Rattle.std.specs.Prelude.{◌≡◌, ◌+◌, ◌*◌, ◌≤◌, length, drop};
-ghost use Rattle.specification.specs.Bytes.{class_of, classNumber, run, begins};
+ghost use Rattle.specification.specs.Bytes.{class_of, class_number, run, begins};
 ghost use Rattle.specification.specs.Number.{natural, integer};
 ghost use Rattle.text.specs.Class.{class_at, passing};
-ghost use Rattle.text.specs.Decimal.{held, read_on, headed, capped, plainWord, minusWord, worded};
+ghost use Rattle.text.specs.Decimal.{held, read_on, headed, capped, plain_word, minus_word, worded};
 
 // ---- parts and keys
 
@@ -64,7 +64,7 @@ pub const END: u8 = 10;
 
 // The class of a byte, by ranges of byte values: at most three comparisons for the letters, digits and spaces that sheets are made of.
 pub fn class(b: u8) -> u8
-    ensures { result ≡ classNumber (class_of b) }
+    ensures { result ≡ class_number (class_of b) }
 {
     if b'a' <= b {
         if b <= b'z' { LETTER } else { OTHER }
@@ -211,7 +211,7 @@ pub enum Word {
 
 // The word of a number.
 fn plain_word(n: Decimal) -> Word
-    ensures { result ≡ plainWord n }
+    ensures { result ≡ plain_word n }
 {
     match n {
         Decimal::Malformed => Word::Bad,
@@ -226,7 +226,7 @@ fn plain_word(n: Decimal) -> Word
 
 // The word of a number after its minus.
 fn minus_word(n: Decimal) -> Word
-    ensures { result ≡ minusWord n }
+    ensures { result ≡ minus_word n }
 {
     match n {
         Decimal::Malformed => Word::Bad,

@@ -1,7 +1,7 @@
 -- Rounding down on 64 bits, as the code does it. Assumes nothing.
 use Rattle.std.specs.Prelude.{zero, suc, Bool, false, ℤ, pos, negsuc}
 use Rattle.std.specs.Int.Signed.{lt_z}
-use Rattle.specification.specs.Arithmetic.{floorZ, remains}
+use Rattle.specification.specs.Arithmetic.{floor_z, remains}
 use Rattle.values.specs.declared.Divided.{Divided}
 
 -- one is below 0 and the other above
@@ -11,5 +11,5 @@ opposite (pos (suc n)) y = lt_z y (pos zero)
 opposite (negsuc n) y = lt_z (pos zero) y
 
 -- the quotient and what it leaves
-abbrev pub roundedDown : ℤ → ℤ → Divided
-roundedDown x y = record { quotient = floorZ x y; rest = remains x y (floorZ x y) }
+abbrev pub rounded_down : ℤ → ℤ → Divided
+rounded_down x y = record { quotient = floor_z x y; rest = remains x y (floor_z x y) }

@@ -2,10 +2,10 @@
 // words compare, count and step as their values do. An operation is exact on 64 bits and then held to 32.
 ghost use Rattle.std.specs.Prelude.{◌≡◌, pos, ◌+ℤ◌, ◌-ℤ◌, ◌*ℤ◌};
 ghost use Rattle.std.specs.Int.Signed.{quot_z};
-ghost use Rattle.specification.specs.Arithmetic.{fit, divided, floorZ, remains};
+ghost use Rattle.specification.specs.Arithmetic.{fit, divided, floor_z, remains};
 ghost use Rattle.values.specs.Word.{signed, Narrow};
 ghost use Rattle.values.specs.Packed.{packed};
-ghost use Rattle.values.specs.Rounded.{opposite, roundedDown};
+ghost use Rattle.values.specs.Rounded.{opposite, rounded_down};
 
 pub mod exact;
 
@@ -113,7 +113,7 @@ struct Divided {
 // out of the loop over a term's tokens, where every subtraction would cost an instruction more.
 fn rounded(x: i64, y: i64) -> Divided
     requires { Narrow x × Narrow y × ¬ (y ≡ pos 0) }
-    ensures { result ≡ roundedDown x y }
+    ensures { result ≡ rounded_down x y }
 {
     let quotient = x / y;
     let rest = x % y;
@@ -128,7 +128,7 @@ fn rounded(x: i64, y: i64) -> Divided
 
 // Rounding down. Only -2,147,483,648 by -1 is outside 32 bits.
 pub fn floor(x: u32, y: u32) -> Computed
-    ensures { result ≡ packed (divided (signed y) (fit (floorZ (signed x) (signed y)))) }
+    ensures { result ≡ packed (divided (signed y) (fit (floor_z (signed x) (signed y)))) }
 {
     if y == ZERO {
         return Computed::Fault(ZERO_DIVISOR);
@@ -138,7 +138,7 @@ pub fn floor(x: u32, y: u32) -> Computed
 
 // What rounding down leaves, with the divisor's sign.
 pub fn modulus(x: u32, y: u32) -> Computed
-    ensures { result ≡ packed (divided (signed y) (fit (remains (signed x) (signed y) (floorZ (signed x) (signed y))))) }
+    ensures { result ≡ packed (divided (signed y) (fit (remains (signed x) (signed y) (floor_z (signed x) (signed y))))) }
 {
     if y == ZERO {
         return Computed::Fault(ZERO_DIVISOR);

@@ -4,11 +4,11 @@ use mathlib.Core.Path.{◌≡◌, sym, ◌∙◌, ap, subst}
 use Rattle.specification.specs.declared.End.TheVariants.{Output}
 use Rattle.specification.specs.Bytes.{Bytes}
 use Rattle.specification.specs.Sheet.{Sheet}
-use Rattle.specification.specs.Listing.{listingText}
+use Rattle.specification.specs.Listing.{listing_text}
 use Rattle.specification.specs.Run.{setting}
 use Rattle.specification.specs.Outcome.{call}
 use Rattle.specification.specs.Demand2.{ReadLeftToRight}
-use Rattle.specification.proofs.Laws.Blocks.{listingText-++}
+use Rattle.specification.proofs.Laws.Blocks.{listing_text-++}
 use Rattle.specification.proofs.Laws.Determined.{determined}
 use Rattle.specification.proofs.Laws.Budget.{longer, same-run}
 use Rattle.vodlasim.specs.Parts.{Plot, Plotted, Shown}
@@ -31,7 +31,7 @@ module _ (sheet : Bytes) (limit : ℕ) where
       let l = longer s limit p.skip budget budget' more x y enough in
       let (later, is) = l.blocks in
       record {
-        bytes = (listingText later, ap listingText is ∙ listingText-++ p.blocks later);
+        bytes = (listing_text later, ap listing_text is ∙ listing_text-++ p.blocks later);
         blocks = (later, is);
         nodes = l.nodes;
         answers = l.answers;

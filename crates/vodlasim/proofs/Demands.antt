@@ -11,8 +11,8 @@ use Rattle.specification.specs.declared.End.TheVariants.{Done}
 use Rattle.specification.specs.declared.Outcome.{Outcome}
 use Rattle.specification.specs.declared.Outcome.TheVariants.{Refused, Ran}
 use Rattle.specification.specs.Bytes.{Bytes}
-use Rattle.specification.specs.Outcome.{Result, refusal, ran, call, written, outcome, outputAfter, wordsAfter}
-use Rattle.specification.specs.Report.{reportOf}
+use Rattle.specification.specs.Outcome.{Result, refusal, ran, call, written, outcome, output_after, words_after}
+use Rattle.specification.specs.Report.{report_of}
 use Rattle.specification.proofs.Laws.Contradiction.{contradiction}
 use Rattle.specification.proofs.Laws.Demand3.{Told, told}
 use Rattle.specification.proofs.Laws.CallRan.{call-refused}
@@ -44,7 +44,7 @@ module _ (sheet : Bytes) (S : Setting) (work output : Lent) (r : Outcome) (a : A
   -- what stands in the output where the call ran
   pub stands : (e : End) (t : Tallies) (n : ℕ) → r ≡ Ran e t n →
       (w : Bytes) × (result ≡ ran e t w) × (length w ≡ n) × (output.after ≡ w ++ drop n output.before)
-  unfolding outputAfter
+  unfolding output_after
   stands e t n h =
       let (w, is, count) = ran-of result e t n (sym a.result ∙ h) in
       (w, is, count, a.output ∙ ap (λ x. written x ++ drop (length (written x)) output.before) is ∙ ap (λ k. w ++ drop k output.before) count)
@@ -53,7 +53,7 @@ module _ (sheet : Bytes) (S : Setting) (work output : Lent) (r : Outcome) (a : A
   refused_as k p h = refused-of result k p (sym a.result ∙ h)
 
   pub memory : Memory sheet S work output r
-  unfolding wordsAfter outputAfter
+  unfolding words_after output_after
   memory = record {
     zero = a.work;
     blocks = λ e t n h.
@@ -64,7 +64,7 @@ module _ (sheet : Bytes) (S : Setting) (work output : Lent) (r : Outcome) (a : A
           ap (drop n) bytes ∙ drop_at w (drop n output.before) n count,
         );
     refused = λ k p. ((λ is. a.result ∙ ap outcome is), refused_as k p);
-    untouched = λ k p h. (a.output ∙ ap (λ x. written x ++ drop (length (written x)) output.before) (refused_as k p h), ap reportOf h);
+    untouched = λ k p h. (a.output ∙ ap (λ x. written x ++ drop (length (written x)) output.before) (refused_as k p h), ap report_of h);
   }
 
   -- what a call that ran has told, over the bytes that stand in the output
@@ -85,7 +85,7 @@ module _ (sheet : Bytes) (S : Setting) (work output : Lent) (r : Outcome) (a : A
   }
 
   pub keeps-ranges : KeepsRanges sheet output.after r
-  keeps-ranges = record { ran = λ e t n h. let x = ran-told e t n h in (x.listed, x.in-ranges) }
+  keeps-ranges = record { ran = λ e t n h. let x = ran-told e t n h in (x.listed, x.in_ranges) }
 
   pub cut_short : CutShort sheet r
   cut_short = record {

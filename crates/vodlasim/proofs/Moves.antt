@@ -15,9 +15,9 @@ use Rattle.specification.specs.Bytes.{Bytes}
 use Rattle.specification.specs.Parser.{Read, refused, found}
 use Rattle.specification.specs.Sheet.{Sheet}
 use Rattle.specification.specs.Outcome as run
-use Rattle.specification.specs.Outcome.{wordsAfter, callWith}
+use Rattle.specification.specs.Outcome.{words_after, call_with}
 use Rattle.specification.specs.Tidy.{tidied}
-use Rattle.specification.specs.Moves.{older, newer, raised, lowered, Result, refusal, moved, longestSheet, admitted, afterReading, moveUp, moveDown, tidy, outcome, outputAfter}
+use Rattle.specification.specs.Moves.{older, newer, raised, lowered, Result, refusal, moved, longest_sheet, admitted, after_reading, move_up, move_down, tidy, outcome, output_after}
 use Rattle.specification.specs.Moving.{Way, Carries, Moves, Accepted, Settles, Orderly, ThereAndBack, ListsAlike, RunsAsBefore}
 use Rattle.specification.proofs.Laws.Contradiction.{contradiction}
 use Rattle.specification.proofs.Laws.CallRan.{call-ran}
@@ -27,7 +27,7 @@ use Rattle.specification.proofs.Laws.AsBefore as before
 use Rattle.vodlasim.specs.Lent.{Lent}
 use Rattle.vodlasim.specs.Answered.{Answered}
 use Rattle.vodlasim.specs.Moved.{Moved}
-use Rattle.vodlasim.specs.Moves.{movedSheet, MoveMemory, PassRefuses, MovesSheet, BackAgain, Settled, LeftAlone, Runs, RunAlike, told, RunAsBefore, RunKept}
+use Rattle.vodlasim.specs.Moves.{moved_sheet, MoveMemory, PassRefuses, MovesSheet, BackAgain, Settled, LeftAlone, Runs, RunAlike, told, RunAsBefore, RunKept}
 
 -- ---- what a call shows of a move
 
@@ -39,8 +39,8 @@ record Shown (x : Result) (o o' : Bytes) (n : ℕ) : Type 0 where
   stands : take n o' ≡ sheet
   rest : drop n o' ≡ drop n o
 
-shown : (x : Result) (o o' : Bytes) (n : ℕ) → move.Moved n ≡ outcome x → o' ≡ outputAfter x o → Shown x o o' n
-unfolding outputAfter
+shown : (x : Result) (o o' : Bytes) (n : ℕ) → move.Moved n ≡ outcome x → o' ≡ output_after x o → Shown x o o' n
+unfolding output_after
 shown (refusal k p) o o' n e f = contradiction cc
 shown (moved t) o o' n e f =
     let l : length t ≡ n = cc in
@@ -67,22 +67,22 @@ module _ {way : Way} {sheet : Bytes} {work output : Lent} {r : Move} (h : Moved 
 
 -- there was room for a sheet that was moved
 abbrev Roomy : Way → Type 0
-Roomy way = (sheet t : Bytes) (words size : ℕ) → way sheet words size ≡ moved t → longestSheet ≤ size
+Roomy way = (sheet t : Bytes) (words size : ℕ) → way sheet words size ≡ moved t → longest_sheet ≤ size
 
 admitted-roomy : (strict : Bool) (edition : ℕ) (move : Sheet → Result) (sheet t : Bytes) (words size : ℕ) →
-    afterReading move (admitted strict edition sheet words size) ≡ moved t → longestSheet ≤ size
+    after_reading move (admitted strict edition sheet words size) ≡ moved t → longest_sheet ≤ size
 admitted-roomy strict edition move sheet t words size e = go (admitted strict edition sheet words size) refl e
   where
-    go : (x : Read Sheet) → admitted strict edition sheet words size ≡ x → afterReading move x ≡ moved t → longestSheet ≤ size
+    go : (x : Read Sheet) → admitted strict edition sheet words size ≡ x → after_reading move x ≡ moved t → longest_sheet ≤ size
     go (refused n p) f g = contradiction cc
     go (found s r) f g = (admitted-found strict edition sheet words size s r f).enough.1
 
-up-roomy : Roomy moveUp
-unfolding moveUp
+up-roomy : Roomy move_up
+unfolding move_up
 up-roomy sheet t words size e = admitted-roomy false older _ sheet t words size e
 
-down-roomy : Roomy moveDown
-unfolding moveDown
+down-roomy : Roomy move_down
+unfolding move_down
 down-roomy sheet t words size e = admitted-roomy true newer _ sheet t words size e
 
 tidy-roomy : Roomy tidy
@@ -92,7 +92,7 @@ tidy-roomy sheet t words size e = admitted-roomy false newer _ sheet t words siz
 module _ {way : Way} {strict : Bool} {edition : ℕ} {over : Sheet → Sheet} (moves : Moves strict edition over way) (roomy : Roomy way)
     {sheet : Bytes} {work output : Lent} {r : Move} (h : Moved way sheet work output r) where
   memory-of : MoveMemory way sheet work output r
-  unfolding outputAfter wordsAfter
+  unfolding output_after words_after
   memory-of = record {
     zero = h.work;
     kept = λ n e.
@@ -100,7 +100,7 @@ module _ {way : Way} {strict : Bool} {edition : ℕ} {over : Sheet → Sheet} (m
         let c = moves sheet s.sheet (length work.before) (length output.before) s.is in
         (omega (arith, s.long, c.2, roomy sheet s.sheet (length work.before) (length output.before) s.is), s.rest);
     refused = λ n p. ((λ e. h.result ∙ ap outcome e), (λ e. refused-is (gives h) n p (sym e ∙ h.result)));
-    untouched = λ n p e. h.output ∙ ap (λ x. outputAfter x output.before) (refused-is (gives h) n p (sym e ∙ h.result));
+    untouched = λ n p e. h.output ∙ ap (λ x. output_after x output.before) (refused-is (gives h) n p (sym e ∙ h.result));
   }
 
   sheet-of : MovesSheet strict edition over sheet output r
@@ -108,14 +108,14 @@ module _ {way : Way} {strict : Bool} {edition : ℕ} {over : Sheet → Sheet} (m
     carries = λ n e.
         let s = shows h n e in
         let (c, long, short) = moves sheet s.sheet (length work.before) (length output.before) s.is in
-        (subst (Carries strict edition over sheet) (sym s.stands) c, long, subst (λ (k : ℕ). k ≤ longestSheet) s.long short);
+        (subst (Carries strict edition over sheet) (sym s.stands) c, long, subst (λ (k : ℕ). k ≤ longest_sheet) s.long short);
   }
 
 module _ {sheet : Bytes} {work output : Lent} {r : Move} where
-  pub up-memory : Moved moveUp sheet work output r → MoveMemory moveUp sheet work output r
+  pub up-memory : Moved move_up sheet work output r → MoveMemory move_up sheet work output r
   up-memory h = memory-of laws.up-moves up-roomy h
 
-  pub down-memory : Moved moveDown sheet work output r → MoveMemory moveDown sheet work output r
+  pub down-memory : Moved move_down sheet work output r → MoveMemory move_down sheet work output r
   down-memory h = memory-of laws.down-moves down-roomy h
 
   pub tidy-memory : Moved tidy sheet work output r → MoveMemory tidy sheet work output r
@@ -123,10 +123,10 @@ module _ {sheet : Bytes} {work output : Lent} {r : Move} where
 
   -- ---- the same sheet, carried over
 
-  pub up-sheet : Moved moveUp sheet work output r → MovesSheet false older (λ s. raised (tidied s)) sheet output r
+  pub up-sheet : Moved move_up sheet work output r → MovesSheet false older (λ s. raised (tidied s)) sheet output r
   up-sheet h = sheet-of laws.up-moves up-roomy h
 
-  pub down-sheet : Moved moveDown sheet work output r → MovesSheet true newer lowered sheet output r
+  pub down-sheet : Moved move_down sheet work output r → MovesSheet true newer lowered sheet output r
   down-sheet h = sheet-of laws.down-moves down-roomy h
 
   pub tidy-sheet : Moved tidy sheet work output r → MovesSheet false newer tidied sheet output r
@@ -137,8 +137,8 @@ module _ {sheet : Bytes} {work output : Lent} {r : Move} where
 pub pass-refuses : PassRefuses
 pass-refuses sheet w o w' o' r r' h k lw lo n p =
     let law = laws.refuses-as-back sheet (length w.before) (length o.before) n p in
-    let back : gives k ≡ moveDown sheet (length w.before) (length o.before) = rw (lw, lo) in
-    let told : (m q : ℕ) → moveDown sheet (length w.before) (length o.before) ≡ refusal m q → r' ≡ move.Refused m q =
+    let back : gives k ≡ move_down sheet (length w.before) (length o.before) = rw (lw, lo) in
+    let told : (m q : ℕ) → move_down sheet (length w.before) (length o.before) ≡ refusal m q → r' ≡ move.Refused m q =
     λ m q e. k.result ∙ ap outcome (back ∙ e) in (
       λ e. ⊎_elim (λ x. inl (told n p x)) (λ x. inr (x.0, told 17 x.0 x.1)) (law.0 (refused-is (gives h) n p (sym e ∙ h.result))),
       λ e. ⊎_elim (λ x. inl x) (λ x. inr (h.result ∙ ap outcome x)) (law.1 (sym back ∙ refused-is (gives k) n p (sym e ∙ k.result))),
@@ -148,11 +148,11 @@ pass-refuses sheet w o w' o' r r' h k lw lo n p =
 
 -- a call with what another wrote, where the way gives these bytes for it
 returned : {way : Way} {sheet t : Bytes} {work output : Lent} {r : Move} (h : Moved way t work output r) → gives h ≡ moved sheet →
-    (r ≡ move.Moved (length sheet)) × (movedSheet (length sheet) output ≡ sheet)
-unfolding outputAfter
+    (r ≡ move.Moved (length sheet)) × (moved_sheet (length sheet) output ≡ sheet)
+unfolding output_after
 returned {sheet = sheet} {output = output} h f = (
   h.result ∙ ap outcome f,
-  ap (take (length sheet)) (h.output ∙ ap (λ x. outputAfter x output.before) f) ∙ take-append_seam sheet (drop (length sheet) output.before),
+  ap (take (length sheet)) (h.output ∙ ap (λ x. output_after x output.before) f) ∙ take-append_seam sheet (drop (length sheet) output.before),
 )
 
 back-again : {Sort : Bytes → Type 0} {there back : Way} → ThereAndBack Sort there back → BackAgain Sort there back
@@ -162,10 +162,10 @@ back-again {back = back} law sheet sort work output r h n e work' output' r' k e
     (ap (λ (t : Bytes). back t (length work'.before) (length output'.before)) s.stands
     ∙ law sheet s.sheet sort (length work.before) (length output.before) s.is (length work'.before) (length output'.before) enough)
 
-pub up-and-down : BackAgain Orderly moveUp moveDown
+pub up-and-down : BackAgain Orderly move_up move_down
 up-and-down = back-again laws.up-and-down
 
-pub down-and-up : BackAgain (λ sheet. Unit {0}) moveDown moveUp
+pub down-and-up : BackAgain (λ sheet. Unit {0}) move_down move_up
 down-and-up = back-again laws.down-and-up
 
 -- a second pass
@@ -176,9 +176,9 @@ settled law sheet work output r h n e work' output' r' k enough =
     returned k
     (ap (λ (t : Bytes). tidy t (length work'.before) (length output'.before)) s.stands
     ∙ law sheet s.sheet (length work.before) (length output.before) s.is (length work'.before) (length output'.before) enough) in
-    (x ∙ ap move.Moved s.long, ap (λ (m : ℕ). movedSheet m output') (sym s.long) ∙ y ∙ sym s.stands)
+    (x ∙ ap move.Moved s.long, ap (λ (m : ℕ). moved_sheet m output') (sym s.long) ∙ y ∙ sym s.stands)
 
-pub up-settled : Settled moveUp
+pub up-settled : Settled move_up
 up-settled = settled laws.up-settles
 
 pub tidy-settled : Settled tidy
@@ -208,7 +208,7 @@ runs law sheet work output r h n e S w o x a k p f =
     refusal_is (run.refusal m q) g = let i : m ≡ k = cc in let j : q ≡ p = cc in rw (i, j)
     refusal_is (run.ran e' t v) g = contradiction cc
 
-pub up-runs : Runs moveUp
+pub up-runs : Runs move_up
 up-runs = runs laws.up-accepted
 
 pub tidy-runs : Runs tidy
@@ -218,27 +218,27 @@ run-alike : {Sort : Bytes → Type 0} {way : Way} → ListsAlike Sort way → Ru
 run-alike law sheet sort work output r h n e S w o w' o' x x' a b lw lo =
     let s = shows h n e in
     let f :
-    run.call (movedSheet n output) S (length w'.before) (length o'.before) ≡ run.call sheet S (length w.before) (length o.before) =
+    run.call (moved_sheet n output) S (length w'.before) (length o'.before) ≡ run.call sheet S (length w.before) (length o.before) =
     rw (lw, lo, s.stands)
     (law sheet s.sheet sort (length work.before) (length output.before) s.is S (length w.before) (length o.before)) in (
       b.result ∙ ap run.outcome f ∙ sym a.result,
-      b.output ∙ ap (λ y. run.outputAfter y o'.before) f
-          ∙ ap (run.outputAfter (run.call sheet S (length w.before) (length o.before))) lo ∙ sym a.output,
+      b.output ∙ ap (λ y. run.output_after y o'.before) f
+          ∙ ap (run.output_after (run.call sheet S (length w.before) (length o.before))) lo ∙ sym a.output,
     )
 
-pub up-alike : RunAlike Orderly moveUp
+pub up-alike : RunAlike Orderly move_up
 up-alike = run-alike laws.up-alike
 
-pub down-alike : RunAlike (λ sheet. Unit {0}) moveDown
+pub down-alike : RunAlike (λ sheet. Unit {0}) move_down
 down-alike = run-alike laws.down-alike
 
 -- what a run tells is what the specification's call gives
 told_is : {sheet : Bytes} {S : Setting} {w o : Lent} {x : Outcome} → Answered sheet S w o x →
     told x o ≡ run.call sheet S (length w.before) (length o.before)
-unfolding run.outputAfter
+unfolding run.output_after
 told_is {sheet} {S} {w} {o} {x} a = go (run.call sheet S (length w.before) (length o.before)) x a.result a.output
   where
-    go : (y : run.Result) (x : Outcome) → x ≡ run.outcome y → o.after ≡ run.outputAfter y o.before → told x o ≡ y
+    go : (y : run.Result) (x : Outcome) → x ≡ run.outcome y → o.after ≡ run.output_after y o.before → told x o ≡ y
     go (run.refusal n p) x e f = rw e
     go (run.ran d t v) x e f = rw (e, f) (ap (run.ran d t) (take-append_seam v (drop (length v) o.before)))
 
@@ -250,16 +250,16 @@ as_before law sheet work output r h n e S w o x a =
     rw t
     (law sheet s.sheet (length work.before) (length output.before) s.is S (length w.before) (length o.before))
 
-pub up-as-before : RunAsBefore moveUp
+pub up-as-before : RunAsBefore move_up
 up-as-before = as_before before.up-as-before
 
 pub tidy-as-before : RunAsBefore tidy
 tidy-as-before = as_before before.tidy-as-before
 
-pub up_kept : RunKept moveUp
+pub up_kept : RunKept move_up
 up_kept sheet work output r h n e S w o w' o' x x' a b lw lo =
     let s = shows h n e in
-    let t : told x o ≡ callWith false sheet S (length w'.before) (length o'.before) =
+    let t : told x o ≡ call_with false sheet S (length w'.before) (length o'.before) =
     told_is a ∙ rw (sym lw, sym lo)
     (sym (before.up-still-run sheet s.sheet (length work.before) (length output.before) s.is
     S (length w'.before) (length o'.before))) in

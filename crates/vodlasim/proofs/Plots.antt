@@ -13,9 +13,9 @@ use Rattle.specification.specs.declared.Outcome.TheVariants.{Ran}
 use Rattle.specification.specs.Bytes.{Bytes}
 use Rattle.specification.specs.Parser.{Reader, found}
 use Rattle.specification.specs.Sheet.{Sheet, read}
-use Rattle.specification.specs.Listing.{Block, listingText}
+use Rattle.specification.specs.Listing.{Block, listing_text}
 use Rattle.specification.specs.Run.{setting, Run, going, stopped}
-use Rattle.specification.specs.Outcome.{ran, end_of, result_of, run_of, wordsFor, call}
+use Rattle.specification.specs.Outcome.{ran, end_of, result_of, run_of, words_for, call}
 use Rattle.specification.specs.Demand2.{ReadLeftToRight}
 use Rattle.specification.proofs.Laws.Contradiction.{contradiction}
 use Rattle.specification.proofs.Laws.CallRan.{call-ran, every-runs}
@@ -63,7 +63,7 @@ module _ (sheet : Bytes) (limit budget : ℕ) where
 
   -- each run of the sheet, with work words enough
   pub runs_as : (s : Sheet) (r : Reader) → read sheet ≡ found s r → (p : Plot) → Plotted call sheet limit budget p →
-      (skip words size : ℕ) → wordsFor limit ≤ words →
+      (skip words size : ℕ) → words_for limit ≤ words →
       call sheet (setting limit budget skip) words size ≡ result_of (run_of s (setting limit budget skip) size)
   runs_as s r reads p plotted skip words size enough =
       every-runs sheet (setting limit budget p.skip) (setting limit budget skip) refl p.words words p.size size enough
@@ -72,7 +72,7 @@ module _ (sheet : Bytes) (limit budget : ℕ) where
   -- what a run of the sheet gives
   pub gives : (s : Sheet) (skip words size : ℕ) →
       call sheet (setting limit budget skip) words size ≡ result_of (run_of s (setting limit budget skip) size) →
-      (e : End) × (t : Tallies) × (bs : List Block) × (call sheet (setting limit budget skip) words size ≡ ran e t (listingText bs))
+      (e : End) × (t : Tallies) × (bs : List Block) × (call sheet (setting limit budget skip) words size ≡ ran e t (listing_text bs))
   gives s skip words size runs =
       let (e, t, w, is) = result-of (run_of s (setting limit budget skip) size) in
       let (bs, whole, fits) = whole-blocks sheet (setting limit budget skip) words size e t w (runs ∙ is) in
@@ -86,9 +86,9 @@ pub plots : (sheet : Bytes) (S : Setting) (work output : Lent) (e : End) (t : Ta
 plots sheet S work output e t n a =
     let (w, is, count, bytes) = stands sheet S work output (Ran e t n) a e t n refl in
     let (bs, whole, fits) = whole-blocks sheet S (length work.before) (length output.before) e t w is in
-    let long : length (listingText bs) ≡ n = ap length (sym whole) ∙ count in
+    let long : length (listing_text bs) ≡ n = ap length (sym whole) ∙ count in
     let p : Plot = record { skip = S.skip; words = length work.before; size = length output.before; end = e; tallies = t; blocks = bs } in
-    let top : take (length (listingText bs)) output.after ≡ listingText bs =
+    let top : take (length (listing_text bs)) output.after ≡ listing_text bs =
     ap (λ k. take k output.after) long ∙ ap (take n) bytes ∙ take_at w (drop n output.before) n count ∙ whole in
     (p, (work, output, refl, refl, subst (λ k. Answered sheet S work output (Ran e t k)) (sym long) a, top), refl, refl, refl, long)
 

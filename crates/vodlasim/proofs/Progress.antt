@@ -10,10 +10,10 @@ use Rattle.specification.specs.Lists.{Each}
 use Rattle.specification.specs.Bytes.{Bytes}
 use Rattle.specification.specs.Parser.{Reader, found}
 use Rattle.specification.specs.Sheet.{Sheet, read}
-use Rattle.specification.specs.Listing.{Block, blockText}
+use Rattle.specification.specs.Listing.{Block, block_text}
 use Rattle.specification.specs.Leaves.{leaves, blocks}
 use Rattle.specification.specs.Run.{setting}
-use Rattle.specification.specs.Outcome.{result_of, rootOf, run_of, call}
+use Rattle.specification.specs.Outcome.{result_of, root_of, run_of, call}
 use Rattle.specification.proofs.Laws.CallRan.{call-ran, ran-enough, every-runs}
 use Rattle.specification.proofs.Laws.Parts.{skip-counted, skip-within, due-written}
 use Rattle.vodlasim.specs.Parts.{Plot, Due, Plotted, InParts, Progress, Finishes, NextSkip}
@@ -33,13 +33,13 @@ module _ (sheet : Bytes) (limit budget : ℕ) where
   -- ---- whoever goes on finishes
 
   module _ (words : ℕ) (size : ℕ → ℕ) (s : Sheet) (r : Reader) (reads : read sheet ≡ found s r)
-      (room : (skip : ℕ) (b : Block) → Due s skip b → length (blockText b) ≤ size skip)
+      (room : (skip : ℕ) (b : Block) → Due s skip b → length (block_text b) ≤ size skip)
       (runs : (skip : ℕ) → call sheet (setting limit budget skip) words (size skip) ≡ result_of (run_of s (setting limit budget skip) (size skip))) where
     abbrev Lends : Plot → Type 0
     Lends p = (p.words ≡ words) × (p.size ≡ size p.skip)
 
     abbrev all : List Block
-    all = blocks s.declared 0 0 (leaves (rootOf s))
+    all = blocks s.declared 0 0 (leaves (root_of s))
 
     abbrev PartsFrom : ℕ → Type 0
     PartsFrom skip = (ps : List Plot) × (last : Plot) × InParts (Plotted call sheet limit budget) skip ps last × Each Lends (ps ++ last ∷ [])
@@ -50,13 +50,13 @@ module _ (sheet : Bytes) (limit budget : ℕ) where
     one_more skip others =
         let (e, t, bs, is) = gives sheet limit budget s skip words (size skip) (runs skip) in
         let p : Plot = record { skip = skip; words = words; size = size skip; end = e; tallies = t; blocks = bs } in
-        byEnd p refl is (refl, refl) (output-or-not e)
+        by_end p refl is (refl, refl) (output-or-not e)
       where
-        byEnd : (p : Plot) → p.skip ≡ skip → Plotted call sheet limit budget p → Lends p → (p.end ≡ Output) ⊎ (¬ (p.end ≡ Output)) → PartsFrom skip
-        byEnd p at plotted lends (inr other) = ([], p, (at, plotted, other), (lends, tt))
-        byEnd p at plotted lends (inl full) =
+        by_end : (p : Plot) → p.skip ≡ skip → Plotted call sheet limit budget p → Lends p → (p.end ≡ Output) ⊎ (¬ (p.end ≡ Output)) → PartsFrom skip
+        by_end p at plotted lends (inr other) = ([], p, (at, plotted, other), (lends, tt))
+        by_end p at plotted lends (inl full) =
             let (b, due, writes) = progress s r reads p plotted full in
-            let (more, first) = writes (subst (length (blockText b) ≤◌) (sym lends.1) (room p.skip b due)) in
+            let (more, first) = writes (subst (length (block_text b) ≤◌) (sym lends.1) (room p.skip b due)) in
             let some : 0 < length p.blocks = omega (arith, ap length first) in
             let left : skip < length all = omega (arith, at, ap length due.1, length-drop p.skip all) in
             let (ps, last, rest, each) = others (skip + length p.blocks) (omega (arith, some)) left in
@@ -71,4 +71,4 @@ module _ (sheet : Bytes) (limit budget : ℕ) where
       let (s, r, reads, result) = call-ran sheet (setting limit budget 0) words (size 0) e t w h in
       let runs : (skip : ℕ) → call sheet (setting limit budget skip) words (size skip) ≡ result_of (run_of s (setting limit budget skip) (size skip)) =
       λ skip. every-runs sheet (setting limit budget 0) (setting limit budget skip) refl words words (size 0) (size skip) (ran-enough sheet (setting limit budget 0) words (size 0) e t w h) e t w h s r reads in
-      go_on words size s r reads (room s r reads) runs (length (blocks s.declared 0 0 (leaves (rootOf s)))) 0 (omega arith)
+      go_on words size s r reads (room s r reads) runs (length (blocks s.declared 0 0 (leaves (root_of s)))) 0 (omega arith)

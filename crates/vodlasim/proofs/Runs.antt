@@ -13,12 +13,12 @@ use Rattle.specification.specs.declared.Outcome.TheVariants as outcomes
 use Rattle.specification.specs.Bytes.{Bytes, pick, between}
 use Rattle.specification.specs.Parser.{Reader, Read, refused, found}
 use Rattle.specification.specs.Sheet.{Sheet, read}
-use Rattle.specification.specs.Outcome.{longestPath, wordsFor, refusal, afterReading, enoughMemory, callWith, call, outcome, outputAfter, wordsAfter}
+use Rattle.specification.specs.Outcome.{longest_path, words_for, refusal, after_reading, enough_memory, call_with, call, outcome, output_after, words_after}
 use Rattle.specification.proofs.Laws.Contradiction.{contradiction}
 use Rattle.specification.proofs.Laws.ReadSheet.{read-well-formed}
-use Rattle.tables.specs.Layout.{pathAt}
+use Rattle.tables.specs.Layout.{path_at}
 use Rattle.sheet.specs.declared.Reading.TheVariants as reading
-use Rattle.sheet.specs.Tables.{Words, formulaStart, tables}
+use Rattle.sheet.specs.Tables.{Words, formula_start, tables}
 use Rattle.sheet.specs.Held.{FormulaAt, InOrder}
 use Rattle.sheet.specs.Whole.{reading_of, words_of}
 use Rattle.sheet.proofs.Tables.{tables-length, rest-zero}
@@ -34,11 +34,11 @@ both : (x y : Bool) → (x && y) ≡ true → (x ≡ true) × (y ≡ true)
 both true y e = (refl, e)
 both false y e = contradiction cc
 
-pub memory-of : (path words : ℕ) → (between 1 longestPath path && leb (wordsFor path) words) ≡ true → (path ≤ longestPath) × (wordsFor path ≤ words)
+pub memory-of : (path words : ℕ) → (between 1 longest_path path && leb (words_for path) words) ≡ true → (path ≤ longest_path) × (words_for path ≤ words)
 memory-of path words e =
-    let (a, b) = both (between 1 longestPath path) (leb (wordsFor path) words) e in
-    let (c, d) = both (leb 1 path) (leb path longestPath) a in
-    (leb-true path longestPath d, leb-true (wordsFor path) words b)
+    let (a, b) = both (between 1 longest_path path) (leb (words_for path) words) e in
+    let (c, d) = both (leb 1 path) (leb path longest_path) a in
+    (leb-true path longest_path d, leb-true (words_for path) words b)
 
 and-false : (x : Bool) → (x && false) ≡ false
 and-false true = refl
@@ -46,31 +46,31 @@ and-false false = refl
 
 module _ (path words : ℕ) where
   abbrev wide : Bool
-  wide = leb (wordsFor path) words
+  wide = leb (words_for path) words
 
-  pub low : path < 1 → (between 1 longestPath path && wide) ≡ false
-  low h = ap (λ t. (t && leb path longestPath) && wide) (lt-leb 1 path h)
+  pub low : path < 1 → (between 1 longest_path path && wide) ≡ false
+  low h = ap (λ t. (t && leb path longest_path) && wide) (lt-leb 1 path h)
 
-  pub high : longestPath < path → (between 1 longestPath path && wide) ≡ false
-  high h = ap (λ t. (leb 1 path && t) && wide) (lt-leb path longestPath h) ∙ ap (λ t. t && wide) (and-false (leb 1 path))
+  pub high : longest_path < path → (between 1 longest_path path && wide) ≡ false
+  high h = ap (λ t. (leb 1 path && t) && wide) (lt-leb path longest_path h) ∙ ap (λ t. t && wide) (and-false (leb 1 path))
 
-  pub within : 1 ≤ path → path ≤ longestPath → (between 1 longestPath path && wide) ≡ wide
-  within a b = ap (λ t. (t && leb path longestPath) && wide) (le-leb 1 path a) ∙ ap (λ t. t && wide) (le-leb path longestPath b)
+  pub within : 1 ≤ path → path ≤ longest_path → (between 1 longest_path path && wide) ≡ wide
+  within a b = ap (λ t. (t && leb path longest_path) && wide) (le-leb 1 path a) ∙ ap (λ t. t && wide) (le-leb path longest_path b)
 
 module _ (b : Bytes) (S : Setting) (n m : ℕ) where
-  pub first-refused : enoughMemory S n ≡ false → call b S n m ≡ refusal 1 0
-  unfolding callWith
-  first-refused e = ap (λ t. pick t (pick (leb (length b) 4096) (afterReading S m (read b)) (refusal 2 4096)) (refusal 1 0)) e
+  pub first-refused : enough_memory S n ≡ false → call b S n m ≡ refusal 1 0
+  unfolding call_with
+  first-refused e = ap (λ t. pick t (pick (leb (length b) 4096) (after_reading S m (read b)) (refusal 2 4096)) (refusal 1 0)) e
 
-  past_first : enoughMemory S n ≡ true → call b S n m ≡ pick (leb (length b) 4096) (afterReading S m (read b)) (refusal 2 4096)
-  unfolding callWith
-  past_first e = ap (λ t. pick t (pick (leb (length b) 4096) (afterReading S m (read b)) (refusal 2 4096)) (refusal 1 0)) e
+  past_first : enough_memory S n ≡ true → call b S n m ≡ pick (leb (length b) 4096) (after_reading S m (read b)) (refusal 2 4096)
+  unfolding call_with
+  past_first e = ap (λ t. pick t (pick (leb (length b) 4096) (after_reading S m (read b)) (refusal 2 4096)) (refusal 1 0)) e
 
-  pub second-refused : enoughMemory S n ≡ true → leb (length b) 4096 ≡ false → call b S n m ≡ refusal 2 4096
-  second-refused e l = past_first e ∙ ap (λ t. pick t (afterReading S m (read b)) (refusal 2 4096)) l
+  pub second-refused : enough_memory S n ≡ true → leb (length b) 4096 ≡ false → call b S n m ≡ refusal 2 4096
+  second-refused e l = past_first e ∙ ap (λ t. pick t (after_reading S m (read b)) (refusal 2 4096)) l
 
-  pub reads : enoughMemory S n ≡ true → leb (length b) 4096 ≡ true → call b S n m ≡ afterReading S m (read b)
-  reads e l = past_first e ∙ ap (λ t. pick t (afterReading S m (read b)) (refusal 2 4096)) l
+  pub reads : enough_memory S n ≡ true → leb (length b) 4096 ≡ true → call b S n m ≡ after_reading S m (read b)
+  reads e l = past_first e ∙ ap (λ t. pick t (after_reading S m (read b)) (refusal 2 4096)) l
 
 -- ---- what the walk wants
 
@@ -86,18 +86,18 @@ record Found (b : Bytes) (n : ℕ) (w : Words) (t : Task) : Type 0 where
   pub long : length w ≡ n
   pub ready : Ready w t sheet
 
-module _ (b : Bytes) (S : Setting) (n : ℕ) (limit : S.path ≤ longestPath) (size : wordsFor S.path ≤ n) (w : Words) (scalars arrays tokens formula : ℕ) where
+module _ (b : Bytes) (S : Setting) (n : ℕ) (limit : S.path ≤ longest_path) (size : words_for S.path ≤ n) (w : Words) (scalars arrays tokens formula : ℕ) where
   found_of : (x : Read Sheet) → read b ≡ x → reading.Read scalars arrays tokens formula ≡ reading_of x → w ≡ words_of n x → Found b n w (task_of S scalars arrays formula)
   found_of (refused k p) e t h = contradiction cc
   found_of (found s r) e t h =
-      let enough : pathAt ≤ n = omega (arith, size) in
+      let enough : path_at ≤ n = omega (arith, size) in
       let count = read-counts true b s r e in
       let held = read-ready true b s r n e enough in
       let well = read-well-formed true b s r e in
       let long : length w ≡ n = ap length h ∙ tables-length s n enough count.few in
       let p : scalars ≡ s.declared.scalars = cc in
       let q : arrays ≡ length s.declared.arrays = cc in
-      let f : formula ≡ formulaStart s = cc in
+      let f : formula ≡ formula_start s = cc in
       record {
         sheet = s;
         after = r;
@@ -114,10 +114,10 @@ module _ (b : Bytes) (S : Setting) (n : ℕ) (limit : S.path ≤ longestPath) (s
           ranges = held.ranges;
           firsts = held.arrays;
           lasts = λ l h. rest-zero s n enough count.few well _ (omega arith);
-          scalar-count = p;
+          scalar_count = p;
           array_count = q;
           limit = limit;
-          size = subst (λ k. wordsFor S.path ≤ k) (sym (tables-length s n enough count.few)) size;
+          size = subst (λ k. words_for S.path ≤ k) (sym (tables-length s n enough count.few)) size;
         });
       }
 
@@ -128,10 +128,10 @@ module _ (b : Bytes) (S : Setting) (n : ℕ) (limit : S.path ≤ longestPath) (s
 
 module _ (b : Bytes) (S : Setting) (w w' : List ℕ) (o : Bytes) where
   pub refused-answers : (k p : ℕ) → call b S (length w) (length o) ≡ refusal k p → w' ≡ replicate (length w) 0 → Answered b S (lent w w') (lent o o) (outcomes.Refused k p)
-  unfolding outputAfter wordsAfter
-  refused-answers k p c z = record { result = sym (ap outcome c); output = sym (ap (λ x. outputAfter x o) c); work = z }
+  unfolding output_after words_after
+  refused-answers k p c z = record { result = sym (ap outcome c); output = sym (ap (λ x. output_after x o) c); work = z }
 
-  module _ (e : enoughMemory S (length w) ≡ true) (l : leb (length b) 4096 ≡ true) where
+  module _ (e : enough_memory S (length w) ≡ true) (l : leb (length b) 4096 ≡ true) where
     unread-of : (x : Read Sheet) (k p : ℕ) → reading.Refused k p ≡ reading_of x → x ≡ refused k p
     unread-of (refused k' p') k p h =
         let a : k' ≡ k = cc in
@@ -142,17 +142,17 @@ module _ (b : Bytes) (S : Setting) (w w' : List ℕ) (o : Bytes) where
     pub unread-answers : (k p : ℕ) → reading.Refused k p ≡ reading_of (read b) → w' ≡ words_of (length w) (read b) → Answered b S (lent w w') (lent o o) (outcomes.Refused k p)
     unread-answers k p t h =
         let is = unread-of (read b) k p t in
-        refused-answers k p (reads b S (length w) (length o) e l ∙ ap (afterReading S (length o)) is) (h ∙ ap (words_of (length w)) is)
+        refused-answers k p (reads b S (length w) (length o) e l ∙ ap (after_reading S (length o)) is) (h ∙ ap (words_of (length w)) is)
 
     pub walk-answers : (v v' : Words) (o' : Bytes) (scalars arrays tokens formula : ℕ) (r : Outcome) → reading.Read scalars arrays tokens formula ≡ reading_of (read b) →
         v ≡ words_of (length w) (read b) → Walked v v' o o' (task_of S scalars arrays formula) r → w' ≡ replicate (length v') 0 → Answered b S (lent w w') (lent o o') r
-    unfolding wordsAfter
+    unfolding words_after
     walk-answers v v' o' scalars arrays tokens formula r t h walked zero =
         let (limit, size) = memory-of S.path (length w) e in
         let f = found_of b S (length w) limit size v scalars arrays tokens formula (read b) refl t h in
-        let c = reads b S (length w) (length o) e l ∙ ap (afterReading S (length o)) f.is in
+        let c = reads b S (length w) (length o) e l ∙ ap (after_reading S (length o)) f.is in
         record {
           result = walked.result f.sheet f.ready ∙ sym (ap outcome c);
-          output = walked.output f.sheet f.ready ∙ sym (ap (λ x. outputAfter x o) c);
+          output = walked.output f.sheet f.ready ∙ sym (ap (λ x. output_after x o) c);
           work = zero ∙ ap (λ k. replicate k 0) (walked.words ∙ f.long);
         }

@@ -4,10 +4,10 @@ use Rattle.std.specs.Prelude.{◌≡◌, length}
 use Rattle.specification.specs.declared.Setting.{Setting}
 use Rattle.specification.specs.declared.Outcome.{Outcome}
 use Rattle.specification.specs.Bytes.{Bytes}
-use Rattle.specification.specs.Outcome.{call, outcome, outputAfter, wordsAfter}
+use Rattle.specification.specs.Outcome.{call, outcome, output_after, words_after}
 use Rattle.vodlasim.specs.Lent.{Lent}
 
 pub record Answered (sheet : Bytes) (S : Setting) (w o : Lent) (r : Outcome) : Type 0 where
   pub result : r ≡ outcome (call sheet S (length w.before) (length o.before))
-  pub output : o.after ≡ outputAfter (call sheet S (length w.before) (length o.before)) o.before
-  pub work : w.after ≡ wordsAfter w.before
+  pub output : o.after ≡ output_after (call sheet S (length w.before) (length o.before)) o.before
+  pub work : w.after ≡ words_after w.before

@@ -15,9 +15,9 @@ use Rattle.specification.specs.declared.Outcome.TheVariants.{Refused, Ran}
 use Rattle.specification.specs.Bytes.{Bytes}
 use Rattle.specification.specs.Parser.{Reader, found}
 use Rattle.specification.specs.Sheet.{Sheet, read}
-use Rattle.specification.specs.Listing.{Block, listingText}
+use Rattle.specification.specs.Listing.{Block, listing_text}
 use Rattle.specification.specs.Outcome.{call, refusal}
-use Rattle.specification.specs.Report.{reportOf}
+use Rattle.specification.specs.Report.{report_of}
 use Rattle.specification.specs.Listed.{Listed}
 use Rattle.specification.specs.Demand2.{ReadLeftToRight}
 use Rattle.specification.specs.Demand3.{NoPattern, Right, Demand3}
@@ -31,7 +31,7 @@ pub record Memory (sheet : Bytes) (S : Setting) (work output : Lent) (r : Outcom
   -- the output begins with whole blocks, and beyond them holds what it held before
   pub blocks :
       (end : End) (t : Tallies) (n : ℕ) → r ≡ Ran end t n →
-      (n ≤ length output.before) × ((bs : List Block) × (take n output.after ≡ listingText bs)) ×
+      (n ≤ length output.before) × ((bs : List Block) × (take n output.after ≡ listing_text bs)) ×
       (drop n output.after ≡ drop n output.before)
   -- a sheet is refused with a number and a byte place exactly where document 01 refuses it with these
   pub refused :
@@ -41,7 +41,7 @@ pub record Memory (sheet : Bytes) (S : Setting) (work output : Lent) (r : Outcom
   -- and the output is then untouched, all tallies and the bytes written are zero
   pub untouched :
       (number place : ℕ) → r ≡ Refused number place →
-      (output.after ≡ output.before) × (reportOf r ≡ number ∷ place ∷ 0 ∷ 0 ∷ 0 ∷ 0 ∷ 0 ∷ 0 ∷ [])
+      (output.after ≡ output.before) × (report_of r ≡ number ∷ place ∷ 0 ∷ 0 ∷ 0 ∷ 0 ∷ 0 ∷ 0 ∷ [])
 
 -- demand 2: the listing is the tree, read left to right; of every run, whatever was skipped and however it ended
 pub record Lists (sheet : Bytes) (S : Setting) (output : Lent) (r : Outcome) : Type 0 where

@@ -3,12 +3,12 @@
 use Rattle.std.specs.Prelude.{◌≡◌, length}
 use Rattle.specification.specs.declared.Move.{Move}
 use Rattle.specification.specs.Bytes.{Bytes}
-use Rattle.specification.specs.Outcome.{wordsAfter}
-use Rattle.specification.specs.Moves.{outcome, outputAfter}
+use Rattle.specification.specs.Outcome.{words_after}
+use Rattle.specification.specs.Moves.{outcome, output_after}
 use Rattle.specification.specs.Moving.{Way}
 use Rattle.vodlasim.specs.Lent.{Lent}
 
 pub record Moved (way : Way) (sheet : Bytes) (w o : Lent) (r : Move) : Type 0 where
   pub result : r ≡ outcome (way sheet (length w.before) (length o.before))
-  pub output : o.after ≡ outputAfter (way sheet (length w.before) (length o.before)) o.before
-  pub work : w.after ≡ wordsAfter w.before
+  pub output : o.after ≡ output_after (way sheet (length w.before) (length o.before)) o.before
+  pub work : w.after ≡ words_after w.before

@@ -12,16 +12,16 @@ use Rattle.specification.specs.declared.Move.TheVariants as move
 use Rattle.specification.specs.Bytes.{Bytes, between}
 use Rattle.specification.specs.Sheet.{Sheet}
 use Rattle.specification.specs.Outcome as run
-use Rattle.specification.specs.Outcome.{callWith}
-use Rattle.specification.specs.Moves.{refusal, longestSheet, moveDown, tidy}
+use Rattle.specification.specs.Outcome.{call_with}
+use Rattle.specification.specs.Moves.{refusal, longest_sheet, move_down, tidy}
 use Rattle.specification.specs.Moving.{Way, Enough, Carries, HadRoom, RunsAlike}
 use Rattle.vodlasim.specs.Lent.{Lent}
 use Rattle.vodlasim.specs.Answered.{Answered}
 use Rattle.vodlasim.specs.Moved.{Moved}
 
 -- the bytes of the moved sheet
-abbrev pub movedSheet : ℕ → Lent → Bytes
-movedSheet n output = take n output.after
+abbrev pub moved_sheet : ℕ → Lent → Bytes
+moved_sheet n output = take n output.after
 
 -- lent memory is accounted for
 pub record MoveMemory (way : Way) (sheet : Bytes) (work output : Lent) (r : Move) : Type 0 where
@@ -41,7 +41,7 @@ pub record MoveMemory (way : Way) (sheet : Bytes) (work output : Lent) (r : Move
 -- 17, and for 15 and 16, which are of the way back only
 abbrev pub PassRefuses : Type 0
 PassRefuses =
-    (sheet : Bytes) (w o w' o' : Lent) (r r' : Move) → Moved tidy sheet w o r → Moved moveDown sheet w' o' r' →
+    (sheet : Bytes) (w o w' o' : Lent) (r r' : Move) → Moved tidy sheet w o r → Moved move_down sheet w' o' r' →
     length w'.before ≡ length w.before → length o'.before ≡ length o.before → (n p : ℕ) →
     (r ≡ move.Refused n p → (r' ≡ move.Refused n p) ⊎ ((q : ℕ) × (r' ≡ move.Refused 17 q))) ×
     (r' ≡ move.Refused n p → (between 15 17 n ≡ true) ⊎ (r ≡ move.Refused n p))
@@ -49,7 +49,7 @@ PassRefuses =
 -- what stands there is the same sheet, carried over
 pub record MovesSheet (strict : Bool) (edition : ℕ) (over : Sheet → Sheet) (sheet : Bytes) (output : Lent) (r : Move) : Type 0 where
   pub carries : (n : ℕ) → r ≡ move.Moved n →
-      Carries strict edition over sheet (movedSheet n output) × (length sheet ≤ longestSheet) × (n ≤ longestSheet)
+      Carries strict edition over sheet (moved_sheet n output) × (length sheet ≤ longest_sheet) × (n ≤ longest_sheet)
 
 -- ---- there and back
 
@@ -57,24 +57,24 @@ pub record MovesSheet (strict : Bool) (edition : ℕ) (over : Sheet → Sheet) (
 abbrev pub BackAgain : (Bytes → Type 0) → Way → Way → Type 0
 BackAgain Sort there back =
     (sheet : Bytes) → Sort sheet → (work output : Lent) (r : Move) → Moved there sheet work output r → (n : ℕ) → r ≡ move.Moved n →
-    (work' output' : Lent) (r' : Move) → Moved back (movedSheet n output) work' output' r' →
+    (work' output' : Lent) (r' : Move) → Moved back (moved_sheet n output) work' output' r' →
     Enough (length work'.before) (length output'.before) →
-    (r' ≡ move.Moved (length sheet)) × (movedSheet (length sheet) output' ≡ sheet)
+    (r' ≡ move.Moved (length sheet)) × (moved_sheet (length sheet) output' ≡ sheet)
 
 -- what is written needs no second pass: it gives the same bytes
 abbrev pub Settled : Way → Type 0
 Settled way =
     (sheet : Bytes) (work output : Lent) (r : Move) → Moved way sheet work output r → (n : ℕ) → r ≡ move.Moved n →
-    (work' output' : Lent) (r' : Move) → Moved tidy (movedSheet n output) work' output' r' →
+    (work' output' : Lent) (r' : Move) → Moved tidy (moved_sheet n output) work' output' r' →
     Enough (length work'.before) (length output'.before) →
-    (r' ≡ move.Moved n) × (movedSheet n output' ≡ movedSheet n output)
+    (r' ≡ move.Moved n) × (moved_sheet n output' ≡ moved_sheet n output)
 
 -- a sheet that some run accepted is passed as it is
 abbrev pub LeftAlone : Type 0
 LeftAlone =
     (sheet : Bytes) (S : Setting) (w o : Lent) (e : End) (t : Tallies) (m : ℕ) → Answered sheet S w o (Ran e t m) →
     (work output : Lent) (r : Move) → Moved tidy sheet work output r → (n : ℕ) → r ≡ move.Moved n →
-    (n ≡ length sheet) × (movedSheet n output ≡ sheet)
+    (n ≡ length sheet) × (moved_sheet n output ≡ sheet)
 
 -- ---- runs before and after
 
@@ -82,14 +82,14 @@ LeftAlone =
 abbrev pub Runs : Way → Type 0
 Runs way =
     (sheet : Bytes) (work output : Lent) (r : Move) → Moved way sheet work output r → (n : ℕ) → r ≡ move.Moved n →
-    (S : Setting) (w o : Lent) (x : Outcome) → Answered (movedSheet n output) S w o x → (number place : ℕ) → x ≡ Refused number place → number ≡ 1
+    (S : Setting) (w o : Lent) (x : Outcome) → Answered (moved_sheet n output) S w o x → (number place : ℕ) → x ≡ Refused number place → number ≡ 1
 
 -- a run of a sheet of this sort and a run of the moved sheet, with the same setting and as much memory: they end alike, with the same tallies,
 -- and write the same bytes
 abbrev pub RunAlike : (Bytes → Type 0) → Way → Type 0
 RunAlike Sort way =
     (sheet : Bytes) → Sort sheet → (work output : Lent) (r : Move) → Moved way sheet work output r → (n : ℕ) → r ≡ move.Moved n →
-    (S : Setting) (w o w' o' : Lent) (x x' : Outcome) → Answered sheet S w o x → Answered (movedSheet n output) S w' o' x' →
+    (S : Setting) (w o w' o' : Lent) (x x' : Outcome) → Answered sheet S w o x → Answered (moved_sheet n output) S w' o' x' →
     length w'.before ≡ length w.before → o'.before ≡ o.before → (x' ≡ x) × (o'.after ≡ o.after)
 
 -- what a run tells by its answer and its output: a refusal, or the end, the tallies and the bytes written
@@ -101,14 +101,14 @@ told (Ran end t written) output = run.ran end t (take written output.after)
 abbrev pub RunAsBefore : Way → Type 0
 RunAsBefore way =
     (sheet : Bytes) (work output : Lent) (r : Move) → Moved way sheet work output r → (n : ℕ) → r ≡ move.Moved n →
-    (S : Setting) (w o : Lent) (x : Outcome) → Answered (movedSheet n output) S w o x →
-    HadRoom (callWith false sheet S (length w.before) (length o.before)) → HadRoom (told x o) →
-    RunsAlike (callWith false sheet S (length w.before) (length o.before)) (told x o)
+    (S : Setting) (w o : Lent) (x : Outcome) → Answered (moved_sheet n output) S w o x →
+    HadRoom (call_with false sheet S (length w.before) (length o.before)) → HadRoom (told x o) →
+    RunsAlike (call_with false sheet S (length w.before) (length o.before)) (told x o)
 
 -- where the sheet itself can be run, this is said of two runs
 abbrev pub RunKept : Way → Type 0
 RunKept way =
     (sheet : Bytes) (work output : Lent) (r : Move) → Moved way sheet work output r → (n : ℕ) → r ≡ move.Moved n →
-    (S : Setting) (w o w' o' : Lent) (x x' : Outcome) → Answered sheet S w o x → Answered (movedSheet n output) S w' o' x' →
+    (S : Setting) (w o w' o' : Lent) (x x' : Outcome) → Answered sheet S w o x → Answered (moved_sheet n output) S w' o' x' →
     length w'.before ≡ length w.before → length o'.before ≡ length o.before →
     HadRoom (told x o) → HadRoom (told x' o') → RunsAlike (told x o) (told x' o')

@@ -10,10 +10,10 @@ use Rattle.specification.specs.Lists.{Each}
 use Rattle.specification.specs.Bytes.{Bytes}
 use Rattle.specification.specs.Parser.{Reader, found}
 use Rattle.specification.specs.Sheet.{Sheet, read}
-use Rattle.specification.specs.Listing.{Block, blockText, listingText}
+use Rattle.specification.specs.Listing.{Block, block_text, listing_text}
 use Rattle.specification.specs.Leaves.{leaves, blocks}
 use Rattle.specification.specs.Run.{setting}
-use Rattle.specification.specs.Outcome.{Result, refusal, ran, rootOf, wordsFor}
+use Rattle.specification.specs.Outcome.{Result, refusal, ran, root_of, words_for}
 use Rattle.specification.specs.Demand2.{past}
 use Rattle.vodlasim.specs.Lent.{Lent}
 use Rattle.vodlasim.specs.Answered.{Answered}
@@ -35,7 +35,7 @@ pub record Plot : Type 0 where
 
 -- the bytes that it wrote
 abbrev pub bytes_of : Plot → Bytes
-bytes_of p = listingText p.blocks
+bytes_of p = listing_text p.blocks
 
 -- those of several, joined
 unfoldable pub joined : List Plot → Plot → Bytes
@@ -44,7 +44,7 @@ joined (p ∷ ps) last = bytes_of p ++ joined ps last
 
 -- the block that is due after so many: the next one of the sheet's tree
 abbrev pub Due : Sheet → ℕ → Block → Type 0
-Due s skip b = (later : List Block) × (past skip (blocks s.declared 0 0 (leaves (rootOf s))) ≡ b ∷ later)
+Due s skip b = (later : List Block) × (past skip (blocks s.declared 0 0 (leaves (root_of s))) ≡ b ∷ later)
 
 -- parts: plots of a kind, of which the first has this skip, and each later one skips besides what those before it wrote; each but the last ended
 -- `output` after at least one block, and the last ended otherwise
@@ -65,27 +65,27 @@ module _ (box : Box) (sheet : Bytes) (limit budget : ℕ) where
   abbrev pub LawOfParts : Type 0
   LawOfParts =
       (ps : List Plot) (last : Plot) → InParts Plotted 0 ps last →
-      (words size : ℕ) → wordsFor limit ≤ words → length (joined ps last) ≤ size →
+      (words size : ℕ) → words_for limit ≤ words → length (joined ps last) ≤ size →
       box sheet (setting limit budget 0) words size ≡ ran last.end last.tallies (joined ps last)
 
   -- with less output it ends `output`, after a beginning of them
   abbrev pub LessIsCut : Type 0
   LessIsCut =
       (ps : List Plot) (last : Plot) → InParts Plotted 0 ps last →
-      (words size : ℕ) → wordsFor limit ≤ words → size < length (joined ps last) →
+      (words size : ℕ) → words_for limit ≤ words → size < length (joined ps last) →
       (t : Tallies) × (w more : Bytes) × (box sheet (setting limit budget 0) words size ≡ ran Output t w) × (joined ps last ≡ w ++ more)
 
   -- progress: a plot that ended `output` had a block due, and wrote it if it had room for it
   abbrev pub Progress : Type 0
   Progress =
       (s : Sheet) (r : Reader) → read sheet ≡ found s r → (p : Plot) → Plotted p → p.end ≡ Output →
-      (b : Block) × Due s p.skip b × (length (blockText b) ≤ p.size → (more : List Block) × (p.blocks ≡ b ∷ more))
+      (b : Block) × Due s p.skip b × (length (block_text b) ≤ p.size → (more : List Block) × (p.blocks ≡ b ∷ more))
 
   -- so whoever goes on, lending at each number of blocks plotted an output with room for the block that is due then, comes to a last part
   abbrev pub Finishes : Type 0
   Finishes =
       (words : ℕ) (size : ℕ → ℕ) →
-      ((s : Sheet) (r : Reader) → read sheet ≡ found s r → (skip : ℕ) (b : Block) → Due s skip b → length (blockText b) ≤ size skip) →
+      ((s : Sheet) (r : Reader) → read sheet ≡ found s r → (skip : ℕ) (b : Block) → Due s skip b → length (block_text b) ≤ size skip) →
       (end : End) (t : Tallies) (w : Bytes) → box sheet (setting limit budget 0) words (size 0) ≡ ran end t w →
       (ps : List Plot) × (last : Plot) × InParts Plotted 0 ps last × Each (λ p. (p.words ≡ words) × (p.size ≡ size p.skip)) (ps ++ last ∷ [])
 
@@ -98,7 +98,7 @@ module _ (box : Box) (sheet : Bytes) (limit budget : ℕ) where
   -- a sheet that is refused is refused in every run, with the same number and place
   abbrev pub RefusedAlike : Type 0
   RefusedAlike =
-      (skip skip' words words' size size' number place : ℕ) → wordsFor limit ≤ words → wordsFor limit ≤ words' →
+      (skip skip' words words' size size' number place : ℕ) → words_for limit ≤ words → words_for limit ≤ words' →
       box sheet (setting limit budget skip) words size ≡ refusal number place →
       box sheet (setting limit budget skip') words' size' ≡ refusal number place
 

@@ -1,13 +1,13 @@
 // The public calls: a sheet is run, or moved to another edition, or tidied.
 ghost use Rattle.std.specs.Prelude.{◌≡◌, ◌&&◌, ◌+◌, ◌*◌, ◌<◌, leb, length};
 ghost use Rattle.specification.specs.Bytes.{between};
-ghost use Rattle.specification.specs.Outcome.{longestPath, wordsFor};
-ghost use Rattle.specification.specs.Moves.{longestSheet, wordsToMove, admitted, moveUp, moveDown, tidy};
+ghost use Rattle.specification.specs.Outcome.{longest_path, words_for};
+ghost use Rattle.specification.specs.Moves.{longest_sheet, words_to_move, admitted, move_up, move_down, tidy};
 ghost use Rattle.sheet.specs.Whole.{reading_of, words_of};
 ghost use Rattle.vodlasim.specs.Lent.{lent};
 ghost use Rattle.vodlasim.specs.Answered.{Answered};
 ghost use Rattle.vodlasim.specs.Moved.{Moved};
-ghost use Rattle.vodlasim.specs.Ways.{editionOf, strictOn, way_of};
+ghost use Rattle.vodlasim.specs.Ways.{edition_of, strict_on, way_of};
 
 use mover::Way;
 use sheet::{Reading, clear, read_only, read_sheet};
@@ -30,7 +30,7 @@ const NEWER: u32 = 3;
 
 // Whether the path limit and the number of work words are as document 01 wants them.
 fn enough(path: u32, words: usize) -> bool
-    ensures { result ≡ (between 1 longestPath path && leb (wordsFor path) words) }
+    ensures { result ≡ (between 1 longest_path path && leb (words_for path) words) }
 {
     if path < 1 {
         return false;
@@ -84,7 +84,7 @@ pub fn run(sheet: &[u8], setting: Setting, work: &mut [u32], output: &mut [u8]) 
 
 // The edition that is moved.
 fn edition_of(way: Way) -> u32
-    ensures { result ≡ editionOf way }
+    ensures { result ≡ edition_of way }
 {
     match way {
         Way::Up => OLDER,
@@ -95,7 +95,7 @@ fn edition_of(way: Way) -> u32
 
 // Whether empty ranges are refused on the way.
 fn is_strict(way: Way) -> bool
-    ensures { result ≡ strictOn way }
+    ensures { result ≡ strict_on way }
 {
     match way {
         Way::Up => false,
@@ -106,7 +106,7 @@ fn is_strict(way: Way) -> bool
 
 // Whether there are as many work words and output bytes as document 02 wants them for a move.
 fn room(words: usize, size: usize) -> bool
-    ensures { result ≡ (leb longestSheet size && leb wordsToMove words) }
+    ensures { result ≡ (leb longest_sheet size && leb words_to_move words) }
 {
     if size < LONGEST_SHEET {
         return false;
@@ -159,14 +159,14 @@ fn carry(way: Way, sheet: &[u8], work: &mut [u32], output: &mut [u8]) -> Move
 
 // Moves a sheet of edition 2 to edition 3, without its empty ranges; every length of the slices is allowed.
 pub fn move_up(sheet: &[u8], work: &mut [u32], output: &mut [u8]) -> Move
-    ensures { Moved moveUp sheet.now (lent work.old work.new) (lent output.old output.new) result }
+    ensures { Moved move_up sheet.now (lent work.old work.new) (lent output.old output.new) result }
 {
     carry(Way::Up, sheet, work, output)
 }
 
 // And back: a sheet of edition 3 with full ranges, in which nothing rounds down.
 pub fn move_down(sheet: &[u8], work: &mut [u32], output: &mut [u8]) -> Move
-    ensures { Moved moveDown sheet.now (lent work.old work.new) (lent output.old output.new) result }
+    ensures { Moved move_down sheet.now (lent work.old work.new) (lent output.old output.new) result }
 {
     carry(Way::Down, sheet, work, output)
 }

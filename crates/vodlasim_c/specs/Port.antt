@@ -4,26 +4,26 @@ use Rattle.std.specs.Prelude.{ℕ, ◌+◌, ◌≡◌, [], ◌∷◌, length, dr
 use Rattle.specification.specs.Bytes.{Bytes}
 use Rattle.plotter.specs.declared.Port.{Port}
 use Rattle.plotter.specs.Port.{Event, step, occur}
-use Rattle.plotter.specs.History.{aStep, event, History}
+use Rattle.plotter.specs.History.{a_step, event, History}
 
 -- the registers of four bytes, and the bytes of the registers
-abbrev pub portOf : Bytes → Port
-portOf r = record { status = get_or r 0 0; control = get_or r 1 0; «data» = get_or r 2 0; sum = get_or r 3 0 }
+abbrev pub port_of : Bytes → Port
+port_of r = record { status = get_or r 0 0; control = get_or r 1 0; «data» = get_or r 2 0; sum = get_or r 3 0 }
 
 abbrev pub bytes_of : Port → Bytes
 bytes_of p = p.status ∷ p.control ∷ p.«data» ∷ p.sum ∷ []
 
 -- a step over four bytes, r before and r' after it, that sends so many of the unsent bytes; those behind them are left
 pub record Sends (r r' unsent : Bytes) (n : ℕ) : Type 0 where
-  pub registers : r' ≡ bytes_of (step (portOf r) unsent).port
-  pub sent : n ≡ length (step (portOf r) unsent).sent
-  pub left : drop n unsent ≡ (step (portOf r) unsent).unsent
+  pub registers : r' ≡ bytes_of (step (port_of r) unsent).port
+  pub sent : n ≡ length (step (port_of r) unsent).sent
+  pub left : drop n unsent ≡ (step (port_of r) unsent).unsent
 
 -- the calls of a history over four bytes, r before and r' after them, which send the first n of the unsent bytes; each call finds the registers
 -- that the last left, and each step is lent what the last left unsent
 pub data Calls : History → Bytes → Bytes → Bytes → ℕ → Type 0 where
   none : {r u : Bytes} → Calls [] r r u 0
-  stepped : {h : History} {r r' r'' u : Bytes} {n m : ℕ} → Sends r r' u n → Calls h r' r'' (drop n u) m → Calls (aStep ∷ h) r r'' u (n + m)
+  stepped : {h : History} {r r' r'' u : Bytes} {n m : ℕ} → Sends r r' u n → Calls h r' r'' (drop n u) m → Calls (a_step ∷ h) r r'' u (n + m)
   occurred :
-      {h : History} {r r' r'' u : Bytes} {n : ℕ} (e : Event) → r' ≡ bytes_of (occur e (portOf r)) → Calls h r' r'' u n →
+      {h : History} {r r' r'' u : Bytes} {n : ℕ} (e : Event) → r' ≡ bytes_of (occur e (port_of r)) → Calls h r' r'' u n →
       Calls (event e ∷ h) r r'' u n

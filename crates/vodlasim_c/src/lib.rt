@@ -2,14 +2,14 @@
 mod port;
 
 ghost use Rattle.std.specs.Prelude.{◌≡◌};
-ghost use Rattle.specification.specs.Report.{endNumber, reportOf, moveReport};
-ghost use Rattle.specification.specs.Moves.{moveUp, moveDown, tidy};
+ghost use Rattle.specification.specs.Report.{end_number, report_of, move_report};
+ghost use Rattle.specification.specs.Moves.{move_up, move_down, tidy};
 ghost use Rattle.vodlasim.specs.Lent.{lent};
 ghost use Rattle.vodlasim_c.specs.Report.{Reported, MoveReported};
 
 use specification::{End, Move, Outcome, Setting};
 
-// `vodlasim::run`, with its outcome in `report`, as the specification's `reportOf` gives it: refused number or 0, place, the end's number,
+// `vodlasim::run`, with its outcome in `report`, as the specification's `report_of` gives it: refused number or 0, place, the end's number,
 // nodes, answers, errors, fails, bytes written. Every length of the slices is allowed.
 #[unsafe(no_mangle)]
 pub extern "C" fn vodlasim_run(
@@ -32,7 +32,7 @@ pub extern "C" fn vodlasim_run(
     *report = numbers(outcome);
 }
 
-// `vodlasim::move_up`, `vodlasim::move_down` and `vodlasim::tidy`, with what they return in `report`, as the specification's `moveReport` gives it:
+// `vodlasim::move_up`, `vodlasim::move_down` and `vodlasim::tidy`, with what they return in `report`, as the specification's `move_report` gives it:
 // refused number or 0, place, five zeros, bytes written. Every length of the slices is allowed.
 #[unsafe(no_mangle)]
 pub extern "C" fn vodlasim_move_up(
@@ -41,7 +41,7 @@ pub extern "C" fn vodlasim_move_up(
     output: &mut [u8],
     report: &mut [u64; 8],
 )
-    ensures { MoveReported moveUp sheet.now (lent work.old work.new) (lent output.old output.new) report.new }
+    ensures { MoveReported move_up sheet.now (lent work.old work.new) (lent output.old output.new) report.new }
 {
     let moved = vodlasim::move_up(sheet, work, output);
     *report = move_numbers(moved);
@@ -54,7 +54,7 @@ pub extern "C" fn vodlasim_move_down(
     output: &mut [u8],
     report: &mut [u64; 8],
 )
-    ensures { MoveReported moveDown sheet.now (lent work.old work.new) (lent output.old output.new) report.new }
+    ensures { MoveReported move_down sheet.now (lent work.old work.new) (lent output.old output.new) report.new }
 {
     let moved = vodlasim::move_down(sheet, work, output);
     *report = move_numbers(moved);
@@ -74,7 +74,7 @@ pub extern "C" fn vodlasim_tidy(
 }
 
 fn move_numbers(moved: Move) -> [u64; 8]
-    ensures { result ≡ moveReport moved }
+    ensures { result ≡ move_report moved }
 {
     match moved {
         Move::Refused { number, place } => [number as u64, place as u64, 0, 0, 0, 0, 0, 0],
@@ -83,7 +83,7 @@ fn move_numbers(moved: Move) -> [u64; 8]
 }
 
 fn numbers(outcome: Outcome) -> [u64; 8]
-    ensures { result ≡ reportOf outcome }
+    ensures { result ≡ report_of outcome }
 {
     match outcome {
         Outcome::Refused { number, place } => [number as u64, place as u64, 0, 0, 0, 0, 0, 0],
@@ -105,7 +105,7 @@ fn numbers(outcome: Outcome) -> [u64; 8]
 }
 
 fn end_number(end: End) -> u64
-    ensures { result ≡ endNumber end }
+    ensures { result ≡ end_number end }
 {
     match end {
         End::Done => 0,

@@ -2,16 +2,16 @@
 use Rattle.std.specs.Prelude.{ℕ, suc, ◌+◌, ◌≤◌, ◌<◌, ◌≡◌, ◌++◌, length, drop, eqb}
 use Rattle.specification.specs.declared.Tallies.{Tallies}
 use Rattle.specification.specs.Bytes.{Bytes, pick}
-use Rattle.specification.specs.Run.{addNode, addAnswer, addError}
-use Rattle.tables.specs.Leaves.{successPlace, leavesEnd, kind_at, tokenAt}
+use Rattle.specification.specs.Run.{add_node, add_answer, add_error}
+use Rattle.tables.specs.Leaves.{success_place, leaves_end, kind_at, token_at}
 use Rattle.sheet.specs.Tables.{Words}
 use Rattle.listing.specs.declared.Head.{Head}
 use Rattle.listing.specs.declared.Head.TheVariants.{Answer, Error}
 use Rattle.search.specs.declared.Go.{Go}
 use Rattle.search.specs.Path.{World}
 use Rattle.search.specs.Sim.{Leaf}
-use Rattle.search.specs.Registers.{tallied, leafGo, riseGo, maxWord}
-use Rattle.search.specs.States.{downMode, fullMode}
+use Rattle.search.specs.Registers.{tallied, leaf_go, rise_go, max_word}
+use Rattle.search.specs.States.{down_mode, full_mode}
 use Rattle.walker.specs.declared.State.{State}
 use Rattle.walker.specs.declared.Task.{Task}
 use Rattle.walker.specs.Steps.{Visits}
@@ -22,30 +22,30 @@ use Rattle.walker.specs.Walks.{Goes}
 -- the tallies have room for one leaf more
 pub record LeafDue (g : Go) : Type 0 where
   pub visits : Visits g
-  pub leaves : g.tallies.answers + g.tallies.errors + g.tallies.fails < maxWord
+  pub leaves : g.tallies.answers + g.tallies.errors + g.tallies.fails < max_word
 
 pub record HeadDue (w : Words) (g : Go) : Type 0 where
   pub leaf : LeafDue g
-  pub size : leavesEnd ≤ length w
+  pub size : leaves_end ≤ length w
 
 -- a success leaf has an answer, another leaf an error
-unfoldable pub headDue : Words → Go → Head
-headDue w g = pick (eqb g.due successPlace) (Answer (suc g.tallies.answers)) (Error (suc g.tallies.errors) (kind_at w) (tokenAt w))
+unfoldable pub head_due : Words → Go → Head
+head_due w g = pick (eqb g.due success_place) (Answer (suc g.tallies.answers)) (Error (suc g.tallies.errors) (kind_at w) (token_at w))
 
 -- the leaf's visit is counted
-abbrev pub visitedLeaf : Go → Tallies
-visitedLeaf g = addNode (tallied g)
+abbrev pub visited_leaf : Go → Tallies
+visited_leaf g = add_node (tallied g)
 
-unfoldable pub passedTallies : Go → Tallies
-passedTallies g = pick (eqb g.due successPlace) (addAnswer (visitedLeaf g)) (addError (visitedLeaf g))
+unfoldable pub passed_tallies : Go → Tallies
+passed_tallies g = pick (eqb g.due success_place) (add_answer (visited_leaf g)) (add_error (visited_leaf g))
 
 -- and so is the leaf; going up is due
-abbrev pub passedGo : Go → Go
-passedGo g = riseGo (leafGo g downMode g.bad (passedTallies g))
+abbrev pub passed_go : Go → Go
+passed_go g = rise_go (leaf_go g down_mode g.bad (passed_tallies g))
 
 -- there is no room for its block
-abbrev pub fullGo : Go → Go
-fullGo g = leafGo g fullMode g.bad (visitedLeaf g)
+abbrev pub full_go : Go → Go
+full_go g = leaf_go g full_mode g.bad (visited_leaf g)
 
 -- ---- the output
 
@@ -59,7 +59,7 @@ pub record Output (h o : Bytes) (n : ℕ) (b : Bytes) : Type 0 where
 pub record Fixed (c : World) (t : Task) (h : Bytes) : Type 0 where
   pub setting : c.setting ≡ t.setting
   pub size : c.size ≡ length h
-  pub scalar-count : t.scalars ≡ c.declared.scalars
+  pub scalar_count : t.scalars ≡ c.declared.scalars
   pub array_count : t.arrays ≡ length c.declared.arrays
 
 -- ---- a block

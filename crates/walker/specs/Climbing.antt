@@ -3,17 +3,17 @@ use Rattle.std.specs.Prelude.{ℕ, ◌+◌, ◌-◌, ◌*◌, ◌/◌, ◌%◌, 
 use Rattle.specification.specs.Bytes.{Bytes, pick}
 use Rattle.specification.specs.Value.{Valuation}
 use Rattle.specification.specs.Run.{going}
-use Rattle.tables.specs.Layout.{cellsAt, localSlot, lastSlot, pathAt}
-use Rattle.tables.specs.Codes.{impCode, notCode}
+use Rattle.tables.specs.Layout.{cells_at, local_slot, last_slot, path_at}
+use Rattle.tables.specs.Codes.{imp_code, not_code}
 use Rattle.sheet.specs.Tables.{Words}
 use Rattle.search.specs.declared.Go.{Go}
 use Rattle.search.specs.Frame.{Frame}
-use Rattle.search.specs.Records.{at, hadUnit}
+use Rattle.search.specs.Records.{at, had_unit}
 use Rattle.search.specs.Path.{World, Path}
 use Rattle.search.specs.Sim.{Up, Yes, Sim}
-use Rattle.search.specs.Registers.{dropGo, Tallied}
+use Rattle.search.specs.Registers.{drop_go, Tallied}
 use Rattle.search.specs.Climb.{Set, Rises, Wins}
-use Rattle.search.specs.States.{upMode}
+use Rattle.search.specs.States.{up_mode}
 
 -- ---- the topmost record
 
@@ -23,46 +23,46 @@ pub record Topped (w : Words) (g : Go) : Type 0 where
   pub α : Valuation
   pub fr : List Frame
   pub path : Path c w g.top α fr
-  pub some : ¬ (g.top ≡ pathAt)
+  pub some : ¬ (g.top ≡ path_at)
 
 -- it keeps a slot
 pub record KeepsSlot (w : Words) (g : Go) : Type 0 where
   pub top : Topped w g
-  pub slot : cellsAt ≤ at w (g.top - 1)
+  pub slot : cells_at ≤ at w (g.top - 1)
 
 -- it is that of a token with the code n
 pub record OfCode (w : Words) (g : Go) (n : ℕ) : Type 0 where
   pub top : Topped w g
-  pub low : at w (g.top - 1) < cellsAt
+  pub low : at w (g.top - 1) < cells_at
   pub code : at w (at w (g.top - 1)) ≡ n
 
 -- the slot is as it was
 pub record Undone (w w' : Words) (g q : Go) : Type 0 where
-  pub words : w' ≡ set (set w (at w (g.top - 1) % hadUnit) (at w (g.top - 1) / hadUnit)) (at w (g.top - 1) % hadUnit + 1) (at w (g.top - 3))
-  pub regs : q ≡ dropGo g (g.top - 3) (at w (g.top - 2))
+  pub words : w' ≡ set (set w (at w (g.top - 1) % had_unit) (at w (g.top - 1) / had_unit)) (at w (g.top - 1) % had_unit + 1) (at w (g.top - 3))
+  pub regs : q ≡ drop_go g (g.top - 3) (at w (g.top - 2))
 
 -- the slot of the topmost quantifier's local
-abbrev pub topSlot : Words → Go → ℕ
-topSlot w g = localSlot (at w (at w (g.top - 1) + 5))
+abbrev pub top_slot : Words → Go → ℕ
+top_slot w g = local_slot (at w (at w (g.top - 1) + 5))
 
 -- the slot of a `some`'s local is as it was
 pub record Closed (w w' : Words) (g q : Go) : Type 0 where
-  pub words : w' ≡ set (set w (topSlot w g) (at w (g.top - 5))) (topSlot w g + 1) (at w (g.top - 4))
-  pub regs : q ≡ dropGo g (g.top - 5) g.inner
+  pub words : w' ≡ set (set w (top_slot w g) (at w (g.top - 5))) (top_slot w g + 1) (at w (g.top - 4))
+  pub regs : q ≡ drop_go g (g.top - 5) g.inner
 
 -- and so is that of an `all`'s, and the last value
 pub record Ended (w w' : Words) (g q : Go) : Type 0 where
   pub words :
-      w' ≡ set (set (set w (lastSlot (at w (at w (g.top - 1) + 5))) (at w (g.top - 2))) (topSlot w g) (at w (g.top - 4))) (topSlot w g + 1) (at w (g.top - 3))
-  pub regs : q ≡ dropGo g (g.top - 4) g.inner
+      w' ≡ set (set (set w (last_slot (at w (at w (g.top - 1) + 5))) (at w (g.top - 2))) (top_slot w g) (at w (g.top - 4))) (top_slot w g + 1) (at w (g.top - 3))
+  pub regs : q ≡ drop_go g (g.top - 4) g.inner
 
 -- ---- one record, after a son is finished
 
 -- that of the token t
 pub record RisesFrom (w : Words) (g : Go) (t path budget : ℕ) : Type 0 where
   pub rises : Rises w g path budget
-  pub some : ¬ (g.top ≡ pathAt)
-  pub low : at w (g.top - 1) < cellsAt
+  pub some : ¬ (g.top ≡ path_at)
+  pub low : at w (g.top - 1) < cells_at
   pub token : t ≡ at w (g.top - 1)
 
 -- which has the code n
@@ -81,7 +81,7 @@ pub record WinsInside (w : Words) (g : Go) : Type 0 where
 
 -- whether the record whose last word is x is that of a node with an inner tree
 abbrev pub asking : Words → ℕ → Bool
-asking w x = pick (leb cellsAt x) false (pick (eqb (at w x) notCode) true (eqb (at w x) impCode))
+asking w x = pick (leb cells_at x) false (pick (eqb (at w x) not_code) true (eqb (at w x) imp_code))
 
 -- the topmost is not; its last word is x
 pub record Releases (w : Words) (g : Go) (x : ℕ) : Type 0 where
@@ -92,18 +92,18 @@ pub record Releases (w : Words) (g : Go) (x : ℕ) : Type 0 where
 -- it is that of the token t
 pub record WinsFrom (w : Words) (g : Go) (t : ℕ) : Type 0 where
   pub releases : Releases w g t
-  pub low : t < cellsAt
+  pub low : t < cells_at
 
 -- ---- inner trees
 
 -- the topmost record is that of a node with an inner tree
 abbrev pub OfAsking : Words → Go → Type 0
-OfAsking w g = OfCode w g notCode ⊎ OfCode w g impCode
+OfAsking w g = OfCode w g not_code ⊎ OfCode w g imp_code
 
 -- the registers of the tree around it are in that record
 pub record Arounds (w : Words) (g : Go) (path budget : ℕ) : Type 0 where
   pub asks : OfAsking w g
-  pub high : pathAt + 4 ≤ g.top
+  pub high : path_at + 4 ≤ g.top
   pub depth : at w (g.top - 2) ≤ path
   pub visits : g.tallies.nodes ≤ budget
 
@@ -133,4 +133,4 @@ pub record Climbed (w w' : Words) (g q : Go) (path budget : ℕ) : Type 0 where
   pub sim : (c : World) (b : Bytes) → Set c path budget → Up c b w g → Sim c b w' q
   pub nodes : q.tallies ≡ g.tallies
   pub counted : q.from ≡ q.depth
-  pub stops : ¬ (q.mode ≡ upMode)
+  pub stops : ¬ (q.mode ≡ up_mode)

@@ -1,40 +1,40 @@
 -- The contracts of the loop (src/advance.rt). Assumes nothing.
 use Rattle.std.specs.Prelude.{ℕ, ◌+◌, ◌-◌, ◌*◌, ◌≤◌, ◌<◌, ◌≡◌, ◌⊎◌, ltb, eqb}
 use Rattle.specification.specs.Bytes.{Bytes, pick}
-use Rattle.tables.specs.Layout.{lastsAt}
-use Rattle.tables.specs.Frames.{framesAt}
-use Rattle.tables.specs.Leaves.{risePlace}
+use Rattle.tables.specs.Layout.{lasts_at}
+use Rattle.tables.specs.Frames.{frames_at}
+use Rattle.tables.specs.Leaves.{rise_place}
 use Rattle.sheet.specs.Tables.{Words}
 use Rattle.search.specs.declared.Go.{Go}
 use Rattle.search.specs.Path.{World}
 use Rattle.search.specs.Sim.{In, Up, Sim}
-use Rattle.search.specs.Registers.{tallied, outGo}
+use Rattle.search.specs.Registers.{tallied, out_go}
 use Rattle.search.specs.Climb.{Set}
-use Rattle.search.specs.States.{downMode, upMode, stoppedMode}
+use Rattle.search.specs.States.{down_mode, up_mode, stopped_mode}
 
 -- ---- what is due
 
 -- a node or leaf that no limit stops, the end of a procedure's formula before one, or going up
 pub data Due (c : World) (b : Bytes) (w : Words) (g : Go) : Type 0 where
   visit : In c b w g → Due c b w g
-  rising : g.due ≡ risePlace → Up c b w g → Due c b w g
+  rising : g.due ≡ rise_place → Up c b w g → Due c b w g
 
 -- in some world of these limits
 pub record Dues (w : Words) (g : Go) (path budget : ℕ) : Type 0 where
   pub c : World
   pub b : Bytes
   pub set : Set c path budget
-  pub mode : g.mode ≡ downMode
+  pub mode : g.mode ≡ down_mode
   pub due : Due c b w g
 
 -- ---- how often the loop turns
 
 -- turns that are no visits: going up, and the end of a procedure's formula, whose place is in its frame
-abbrev pub pendingAt : ℕ → ℕ
-pendingAt due = pick (eqb due risePlace) 3 (pick (ltb due framesAt) 0 (pick (ltb due lastsAt) 1 0))
+abbrev pub pending_at : ℕ → ℕ
+pending_at due = pick (eqb due rise_place) 3 (pick (ltb due frames_at) 0 (pick (ltb due lasts_at) 1 0))
 
 abbrev pub pending : Go → ℕ
-pending g = pick (eqb g.mode upMode) 2 (pendingAt g.due)
+pending g = pick (eqb g.mode up_mode) 2 (pending_at g.due)
 
 abbrev pub measure : ℕ → Go → ℕ
 measure budget g = 4 * (budget - (tallied g).nodes) + pending g
@@ -43,7 +43,7 @@ measure budget g = 4 * (budget - (tallied g).nodes) + pending g
 
 pub record Came (w w' : Words) (g q : Go) (path budget : ℕ) : Type 0 where
   pub sim : (c : World) (b : Bytes) → Set c path budget → Due c b w g → Sim c b w' q
-  pub falls : (q.mode ≡ downMode) ⊎ (q.mode ≡ upMode) → measure budget q < measure budget g
+  pub falls : (q.mode ≡ down_mode) ⊎ (q.mode ≡ up_mode) → measure budget q < measure budget g
   pub least : (tallied g).nodes ≤ (tallied q).nodes
 
 -- the invariant in some world of these limits
@@ -56,27 +56,27 @@ pub record Simulates (w : Words) (g : Go) (path budget : ℕ) : Type 0 where
 -- no son is finished any more
 pub record Risen (w w' : Words) (g q : Go) (path budget : ℕ) : Type 0 where
   pub sim : (c : World) (b : Bytes) → Set c path budget → Sim c b w g → Sim c b w' q
-  pub stops : ¬ (q.mode ≡ upMode)
-  pub falls : q.mode ≡ downMode → (q ≡ g) ⊎ ((g.mode ≡ upMode) × (measure budget q < measure budget g))
+  pub stops : ¬ (q.mode ≡ up_mode)
+  pub falls : q.mode ≡ down_mode → (q ≡ g) ⊎ ((g.mode ≡ up_mode) × (measure budget q < measure budget g))
   pub least : (tallied g).nodes ≤ (tallied q).nodes
 
 -- a visit that is due does not come where a limit is reached
 abbrev pub limit : Go → Go
-limit g = pick (eqb g.mode downMode) (pick (eqb g.depth g.stop) (outGo g stoppedMode) g) g
+limit g = pick (eqb g.mode down_mode) (pick (eqb g.depth g.stop) (out_go g stopped_mode) g) g
 
 pub record Turned (w w' : Words) (g q : Go) (path budget : ℕ) : Type 0 where
   pub sim : (c : World) (b : Bytes) → Set c path budget → Due c b w g → Sim c b w' q
-  pub stops : ¬ (q.mode ≡ upMode)
-  pub room : q.mode ≡ downMode → ¬ (q.depth ≡ q.stop)
-  pub falls : q.mode ≡ downMode → measure budget q < measure budget g
+  pub stops : ¬ (q.mode ≡ up_mode)
+  pub room : q.mode ≡ down_mode → ¬ (q.depth ≡ q.stop)
+  pub falls : q.mode ≡ down_mode → measure budget q < measure budget g
   pub least : (tallied g).nodes ≤ (tallied q).nodes
 
 -- ---- from leaf to leaf
 
 -- a visit is due, or the loop is left
 pub data Going (c : World) (b : Bytes) (w : Words) (g : Go) : Type 0 where
-  goes : g.mode ≡ downMode → Due c b w g → Going c b w g
-  left : ¬ (g.mode ≡ downMode) → ¬ (g.mode ≡ upMode) → Sim c b w g → Going c b w g
+  goes : g.mode ≡ down_mode → Due c b w g → Going c b w g
+  left : ¬ (g.mode ≡ down_mode) → ¬ (g.mode ≡ up_mode) → Sim c b w g → Going c b w g
 
 pub record Goings (w : Words) (g : Go) (path budget : ℕ) : Type 0 where
   pub c : World
@@ -86,6 +86,6 @@ pub record Goings (w : Words) (g : Go) (path budget : ℕ) : Type 0 where
 
 pub record Advanced (w w' : Words) (g q : Go) (path budget : ℕ) : Type 0 where
   pub sim : (c : World) (b : Bytes) → Set c path budget → Going c b w g → Sim c b w' q
-  pub over : ¬ (q.mode ≡ downMode)
-  pub stops : ¬ (q.mode ≡ upMode)
+  pub over : ¬ (q.mode ≡ down_mode)
+  pub stops : ¬ (q.mode ≡ up_mode)
   pub least : (tallied g).nodes ≤ (tallied q).nodes

@@ -5,33 +5,33 @@ use Rattle.specification.specs.Place.{Place}
 use Rattle.specification.specs.Value.{empty}
 use Rattle.specification.specs.Tree.{step}
 use Rattle.values.specs.Word.{signed}
-use Rattle.tables.specs.Codes.{impCode, notCode}
-use Rattle.tables.specs.Leaves.{failurePlace}
+use Rattle.tables.specs.Codes.{imp_code, not_code}
+use Rattle.tables.specs.Leaves.{failure_place}
 use Rattle.sheet.specs.Tables.{Words}
 use Rattle.sheet.specs.Held.{slot_of}
 use Rattle.search.specs.declared.Go.{Go}
 use Rattle.search.specs.Marks.{Known}
-use Rattle.search.specs.Site.{assignAt}
-use Rattle.search.specs.Frame.{Item, the, treeItems, siteIn, storeIn}
+use Rattle.search.specs.Site.{assign_at}
+use Rattle.search.specs.Frame.{Item, the, tree_items, site_in, store_in}
 use Rattle.search.specs.Path.{World, Job}
 use Rattle.search.specs.Sim.{tree, In, Sim}
 use Rattle.search.specs.Registers.{tallied}
 use Rattle.search.specs.Climb.{Set}
-use Rattle.search.specs.States.{downMode, upMode}
+use Rattle.search.specs.States.{down_mode, up_mode}
 use Rattle.search.specs.Steps.{Visited, Entered, GoesOn, OneLeaf}
 
 -- ---- inner trees
 
 -- an `imp` or a `not`
 abbrev pub Asking : Words → Go → Type 0
-Asking w g = Entered w g impCode ⊎ Entered w g notCode
+Asking w g = Entered w g imp_code ⊎ Entered w g not_code
 
 -- ---- atoms
 
 -- one son: what comes next, if the test holds, else a failure leaf
 pub record Checks (w : Words) (g : Go) (holds : Bool) : Type 0 where
   pub yes : holds ≡ true → GoesOn w g
-  pub no : holds ≡ false → OneLeaf w g failurePlace
+  pub no : holds ≡ false → OneLeaf w g failure_place
 
 -- a bare place, whose slot is at the word `slot`, and a value for it
 pub record Assigns (w : Words) (g : Go) (slot value : ℕ) (c : World) (b : Bytes) (i : In c b w g) : Type 0 where
@@ -42,8 +42,8 @@ pub record Assigns (w : Words) (g : Go) (slot value : ℕ) (c : World) (b : Byte
   pub is : List Item
   pub tree_is :
       tree c i.fr i.x i.α
-      ≡ step (assignAt c.declared place (signed value) (λ s β. treeItems c.declared is s β) (siteIn i.fr) i.α)
-  pub next : Job c w (storeIn i.fr) i.α (get_or w (g.due + 3) 0) (the is)
+      ≡ step (assign_at c.declared place (signed value) (λ s β. tree_items c.declared is s β) (site_in i.fr) i.α)
+  pub next : Job c w (store_in i.fr) i.α (get_or w (g.due + 3) 0) (the is)
 
 -- in every world
 pub record Assigning (w : Words) (g : Go) (slot value : ℕ) : Type 0 where
@@ -72,5 +72,5 @@ pub record Arrived (w : Words) (g : Go) (n path budget : ℕ) : Type 0 where
 -- what a function makes of it: where the search goes on, the visit is counted
 pub record SteppedWithin (w w' : Words) (g q : Go) (path budget : ℕ) : Type 0 where
   pub sim : (c : World) (b : Bytes) → Set c path budget → In c b w g → Sim c b w' q
-  pub counts : (q.mode ≡ downMode) ⊎ (q.mode ≡ upMode) → (tallied q).nodes ≡ suc (tallied g).nodes
+  pub counts : (q.mode ≡ down_mode) ⊎ (q.mode ≡ up_mode) → (tallied q).nodes ≡ suc (tallied g).nodes
   pub least : (tallied g).nodes ≤ (tallied q).nodes

@@ -8,7 +8,7 @@ use Rattle.search.specs.Path.{World}
 use Rattle.search.specs.Sim.{Sim, Leaf, Over, Stopped}
 use Rattle.search.specs.Registers.{tallied}
 use Rattle.search.specs.Climb.{Set}
-use Rattle.search.specs.States.{downMode, upMode, blockMode, doneMode, stoppedMode, fullMode}
+use Rattle.search.specs.States.{down_mode, up_mode, block_mode, done_mode, stopped_mode, full_mode}
 use Rattle.walker.specs.declared.State.{State}
 use Rattle.walker.specs.declared.Task.{Task}
 use Rattle.walker.specs.Loop.{Going}
@@ -20,15 +20,15 @@ pub record Counted (g : Go) : Type 0 where
 
 -- before the walk goes on: a visit or going up is due or a limit is reached, or there was no room
 pub data Goes (c : World) (b : Bytes) (w : Words) (s : State) : Type 0 where
-  starts : ¬ (s.go.mode ≡ fullMode) → Going c b w s.go → Goes c b w s
-  overflows : s.go.mode ≡ fullMode → stopped output (tallied s.go) b ≡ c.result → Counted s.go → Goes c b w s
+  starts : ¬ (s.go.mode ≡ full_mode) → Going c b w s.go → Goes c b w s
+  overflows : s.go.mode ≡ full_mode → stopped output (tallied s.go) b ≡ c.result → Counted s.go → Goes c b w s
 
 -- after it: a leaf has a block, or the walk is over
 pub data Came (c : World) (b : Bytes) (w : Words) (s : State) : Type 0 where
-  leaf : s.go.mode ≡ blockMode → Leaf c b w s.go → Came c b w s
-  done : s.go.mode ≡ doneMode → Over c b s.go → Came c b w s
-  stops : s.go.mode ≡ stoppedMode → Stopped c b w s.go → Came c b w s
-  overflowed : s.go.mode ≡ fullMode → stopped output (tallied s.go) b ≡ c.result → Counted s.go → Came c b w s
+  leaf : s.go.mode ≡ block_mode → Leaf c b w s.go → Came c b w s
+  done : s.go.mode ≡ done_mode → Over c b s.go → Came c b w s
+  stops : s.go.mode ≡ stopped_mode → Stopped c b w s.go → Came c b w s
+  overflowed : s.go.mode ≡ full_mode → stopped output (tallied s.go) b ≡ c.result → Counted s.go → Came c b w s
 
 abbrev pub SetBy : World → Task → Type 0
 SetBy c t = Set c t.setting.path t.setting.budget

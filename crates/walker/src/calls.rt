@@ -1,11 +1,11 @@
 // Calls. A call's record keeps the frame of its procedure, which an earlier call may come back to.
 ghost use Rattle.std.specs.Prelude.{◌≡◌, ◌-◌, ◌<◌};
-ghost use Rattle.tables.specs.Layout.{maxLocals};
-ghost use Rattle.tables.specs.Codes.{callCode};
-ghost use Rattle.terms.specs.Environment.{flagOf};
+ghost use Rattle.tables.specs.Layout.{max_locals};
+ghost use Rattle.tables.specs.Codes.{call_code};
+ghost use Rattle.terms.specs.Environment.{flag_of};
 ghost use Rattle.search.specs.Kept.{FrameBack};
 ghost use Rattle.search.specs.Records.{at};
-ghost use Rattle.search.specs.Steps.{Stepped, Entered, backWord};
+ghost use Rattle.search.specs.Steps.{Stepped, Entered, back_word};
 ghost use Rattle.walker.specs.Climbing.{OfCode};
 ghost use Rattle.walker.specs.Frames.{Copied, Flagged, Refilled, Slots, Refills, Reflags, Restores, Saves, Saved, Returns, Left};
 
@@ -53,7 +53,7 @@ fn save(w: &mut [u32], top: usize, k: u32, n: u32, t: u32) -> usize
 // Where the procedure of the call at t returns to: what comes after the call, or where that itself returns to.
 fn back(w: &[u32], t: u32) -> u32
     requires { Returns w.now t }
-    ensures { result ≡ backWord w.now t }
+    ensures { result ≡ back_word w.now t }
 {
     let n = sons::next(w, t);
     if word(w, n) == leaves::RETURN_CODE {
@@ -63,7 +63,7 @@ fn back(w: &[u32], t: u32) -> u32
 }
 
 pub(crate) fn enter_call(w: &mut [u32], g: Go) -> Go
-    requires { Entered w.old g callCode }
+    requires { Entered w.old g call_code }
     ensures { Stepped w.old w.new g result }
 {
     let t = g.due;
@@ -82,8 +82,8 @@ pub(crate) fn enter_call(w: &mut [u32], g: Go) -> Go
 
 // The first word of the slot of argument i.
 fn first(set: u32, i: u32) -> u32
-    requires { i < maxLocals }
-    ensures { result ≡ flagOf set i }
+    requires { i < max_locals }
+    ensures { result ≡ flag_of set i }
 {
     if has(set, i) {
         return 0;
@@ -143,7 +143,7 @@ fn restore(w: &mut [u32], k: u32, n: u32, from: usize)
 
 // The topmost record is that of a call at t: its procedure's frame is as it was.
 pub(crate) fn leave(w: &mut [u32], g: Go, t: u32) -> Go
-    requires { OfCode w.old g callCode × (t ≡ at w.old (g.top - 1)) }
+    requires { OfCode w.old g call_code × (t ≡ at w.old (g.top - 1)) }
     ensures { Left w.old w.new g result }
 {
     let n = word(w, t + TOKEN) - codes::PROCEDURE;

@@ -1,7 +1,7 @@
 // Going up, from record to record.
 ghost use Rattle.std.specs.Prelude.{◌≡◌, ◌-◌, ◌<◌, length};
-ghost use Rattle.tables.specs.Layout.{cellsAt};
-ghost use Rattle.tables.specs.Codes.{someCode, allCode, orCode};
+ghost use Rattle.tables.specs.Layout.{cells_at};
+ghost use Rattle.tables.specs.Codes.{some_code, all_code, or_code};
 ghost use Rattle.search.specs.Records.{at};
 ghost use Rattle.search.specs.Climb.{Rises, Rose, Fell};
 ghost use Rattle.walker.specs.Climbing.{KeepsSlot, OfCode, Undone, Closed, Ended, RisesTo, RisesFrom, Climbed, WinsInside, WinsFrom, Releases, asking, Unwound};
@@ -23,7 +23,7 @@ fn undo(w: &mut [u32], g: Go, x: u32) -> Go
 
 // It is that of a `some` at t: the slot of the local is as it was.
 fn close(w: &mut [u32], g: Go, t: u32) -> Go
-    requires { OfCode w.old g someCode × (t ≡ at w.old (g.top - 1)) }
+    requires { OfCode w.old g some_code × (t ≡ at w.old (g.top - 1)) }
     ensures { Closed w.old w.new g result }
 {
     let slot = quantifiers::slot_of(quantifiers::local(w, t));
@@ -35,7 +35,7 @@ fn close(w: &mut [u32], g: Go, t: u32) -> Go
 
 // It is that of an `all` at t: the slot of the local and its last value are as they were.
 fn end(w: &mut [u32], g: Go, t: u32) -> Go
-    requires { OfCode w.old g allCode × (t ≡ at w.old (g.top - 1)) }
+    requires { OfCode w.old g all_code × (t ≡ at w.old (g.top - 1)) }
     ensures { Ended w.old w.new g result }
 {
     let l = quantifiers::local(w, t);
@@ -52,7 +52,7 @@ fn end(w: &mut [u32], g: Go, t: u32) -> Go
 
 // The second son of an `or` at t.
 fn other(w: &[u32], g: Go, t: u32, path: u32, budget: u32) -> Go
-    requires { RisesTo w.now g orCode t path budget }
+    requires { RisesTo w.now g or_code t path budget }
     ensures { Rose w.now w.now g result path budget }
 {
     let depth = words::at(w, g.top - 2);
@@ -70,7 +70,7 @@ fn other(w: &[u32], g: Go, t: u32, path: u32, budget: u32) -> Go
 
 // The next value of a `some` at t, or none is left.
 fn value(w: &mut [u32], g: Go, t: u32, path: u32, budget: u32) -> Go
-    requires { RisesTo w.old g someCode t path budget }
+    requires { RisesTo w.old g some_code t path budget }
     ensures { Rose w.old w.new g result path budget }
 {
     let slot = quantifiers::slot_of(quantifiers::local(w, t));
@@ -155,7 +155,7 @@ fn release(w: &mut [u32], g: Go, x: u32) -> Go
 
 // Whether the record whose last word is x is that of a node with an inner tree.
 fn asks(w: &[u32], x: u32) -> bool
-    requires { x < cellsAt → x < length w.now }
+    requires { x < cells_at → x < length w.now }
     ensures { result ≡ asking w.now x }
 {
     if records::SLOTS <= x {

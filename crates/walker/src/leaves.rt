@@ -1,7 +1,7 @@
 // The leaves of the tree. Those of the main tree that have a block leave the loop, and the block's writer counts them.
 ghost use Rattle.std.specs.Prelude.{◌≡◌};
-ghost use Rattle.tables.specs.Leaves.{successCode, failureCode, errorCode};
-ghost use Rattle.specification.specs.Run.{addNode};
+ghost use Rattle.tables.specs.Leaves.{success_code, failure_code, error_code};
+ghost use Rattle.specification.specs.Run.{add_node};
 ghost use Rattle.search.specs.Registers.{tallied};
 ghost use Rattle.search.specs.Steps.{Stepped, Entered};
 ghost use Rattle.walker.specs.Steps.{Visits, Arrived, SteppedWithin};
@@ -13,7 +13,7 @@ use specification::Tallies;
 // The tallies with the visit of the leaf, and of the nodes since the last one.
 pub(crate) fn visited(g: Go) -> Tallies
     requires { Visits g }
-    ensures { result ≡ addNode (tallied g) }
+    ensures { result ≡ add_node (tallied g) }
 {
     let t = g.tallies;
     tallies::visited(t, g.depth + 1 - g.from)
@@ -21,7 +21,7 @@ pub(crate) fn visited(g: Go) -> Tallies
 
 // A failure leaf: it is counted in the main tree only.
 pub(crate) fn failure(w: &[u32], g: Go) -> Go
-    requires { Entered w.now g failureCode }
+    requires { Entered w.now g failure_code }
     ensures { Stepped w.now w.now g result }
 {
     let t = visited(g);
@@ -34,7 +34,7 @@ pub(crate) fn failure(w: &[u32], g: Go) -> Go
 
 // An error leaf: in the main tree it has a block, an inner tree keeps it in mind.
 pub(crate) fn error(w: &[u32], g: Go) -> Go
-    requires { Entered w.now g errorCode }
+    requires { Entered w.now g error_code }
     ensures { Stepped w.now w.now g result }
 {
     if g.inner == inner::MAIN {
@@ -46,7 +46,7 @@ pub(crate) fn error(w: &[u32], g: Go) -> Go
 
 // A success leaf: in the main tree it has a block, an inner tree ends with it.
 pub(crate) fn success(w: &mut [u32], g: Go, path: u32, budget: u32) -> Go
-    requires { Arrived w.old g successCode path budget }
+    requires { Arrived w.old g success_code path budget }
     ensures { SteppedWithin w.old w.new g result path budget }
 {
     if g.inner == inner::MAIN {

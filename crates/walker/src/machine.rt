@@ -1,9 +1,9 @@
 // The walk of a sheet's tree: from leaf to leaf, and the block of each.
 ghost use Rattle.std.specs.Prelude.{◌≡◌};
 ghost use Rattle.search.specs.Registers.{tallied};
-ghost use Rattle.walker.specs.Blocks.{LeafDue, HeadDue, headDue, passedGo, fullGo, BlockDue, Blocked};
+ghost use Rattle.walker.specs.Blocks.{LeafDue, HeadDue, head_due, passed_go, full_go, BlockDue, Blocked};
 ghost use Rattle.walker.specs.Steps.{Visits};
-ghost use Rattle.walker.specs.Walked.{Readied, Sets, endBy, Finished, Walked};
+ghost use Rattle.walker.specs.Walked.{Readied, Sets, end_by, Finished, Walked};
 ghost use Rattle.walker.specs.Walks.{Onward, Onwards};
 
 use crate::leaves::visited;
@@ -19,7 +19,7 @@ const TOKEN: u32 = tables::TOKEN_WORDS as u32;
 // The head of the block of the leaf that is due.
 fn head(w: &[u32], g: Go) -> Head
     requires { HeadDue w.now g }
-    ensures { result ≡ headDue w.now g }
+    ensures { result ≡ head_due w.now g }
 {
     let t = g.tallies;
     if g.due == leaves::SUCCESS {
@@ -37,7 +37,7 @@ fn head(w: &[u32], g: Go) -> Head
 // Its visit is counted, and so is the leaf: going up is due.
 fn passed(g: Go) -> Go
     requires { LeafDue g }
-    ensures { result ≡ passedGo g }
+    ensures { result ≡ passed_go g }
 {
     let t = visited(g);
     if g.due == leaves::SUCCESS {
@@ -51,7 +51,7 @@ fn passed(g: Go) -> Go
 // Its visit is counted, and there is no room for its block.
 fn full(g: Go) -> Go
     requires { Visits g }
-    ensures { result ≡ fullGo g }
+    ensures { result ≡ full_go g }
 {
     let t = visited(g);
     registers::leaf(g, modes::FULL, g.bad, t)
@@ -118,7 +118,7 @@ fn walk(w: &mut [u32], out: &mut [u8], task: Task) -> State
 
 // How the walk ended, with so many nodes visited.
 fn end_of(mode: u32, nodes: u32, budget: u32) -> End
-    ensures { result ≡ endBy mode nodes budget }
+    ensures { result ≡ end_by mode nodes budget }
 {
     if mode == modes::DONE {
         return End::Done;

@@ -1,9 +1,9 @@
 // Quantifiers. A local's present value stands in its slot, the last value of its `all` in a word of its own.
 ghost use Rattle.std.specs.Prelude.{◌≡◌, ◌+◌, ◌*◌, ◌<◌, ◌≤◌, [], ◌∷◌, length, get_or};
-ghost use Rattle.tables.specs.Layout.{maxLocals, localSlot, pathAt};
-ghost use Rattle.tables.specs.Codes.{exCode, someCode, allCode, localCode};
+ghost use Rattle.tables.specs.Layout.{max_locals, local_slot, path_at};
+ghost use Rattle.tables.specs.Codes.{ex_code, some_code, all_code, local_code};
 ghost use Rattle.search.specs.Kept.{Pushes};
-ghost use Rattle.search.specs.Records.{at, hadUnit};
+ghost use Rattle.search.specs.Records.{at, had_unit};
 ghost use Rattle.search.specs.Steps.{Stepped, Entered, Valued};
 
 use crate::records::HAD;
@@ -33,16 +33,16 @@ pub(crate) fn body(w: &[u32], t: u32) -> u32
 
 // The slot of a local.
 pub(crate) fn slot_of(l: u32) -> u32
-    requires { l < maxLocals }
-    ensures { result ≡ localSlot l }
+    requires { l < max_locals }
+    ensures { result ≡ local_slot l }
 {
     slots::LOCALS + slots::WORDS * l
 }
 
 // A record of three words: the slot's second word, the register `inner`, and the slot with its first word.
 fn keep(w: &mut [u32], top: usize, slot: u32, inner: u32)
-    requires { (top + 3 ≤ length w.old) × (slot + 1 < pathAt) × (get_or w.old slot 0 ≤ 1) × (pathAt ≤ length w.old) }
-    ensures { Pushes w.old w.new top (at w.old (slot + 1) ∷ inner ∷ (slot + hadUnit * at w.old slot) ∷ []) }
+    requires { (top + 3 ≤ length w.old) × (slot + 1 < path_at) × (get_or w.old slot 0 ≤ 1) × (path_at ≤ length w.old) }
+    ensures { Pushes w.old w.new top (at w.old (slot + 1) ∷ inner ∷ (slot + had_unit * at w.old slot) ∷ []) }
 {
     let old = word(w, slot + 1);
     let had = word(w, slot);
@@ -51,7 +51,7 @@ fn keep(w: &mut [u32], top: usize, slot: u32, inner: u32)
 
 // `ex`: its local is without a value, and its mark tells the depth.
 pub(crate) fn enter_ex(w: &mut [u32], g: Go) -> Go
-    requires { Entered w.old g exCode }
+    requires { Entered w.old g ex_code }
     ensures { Stepped w.old w.new g result }
 {
     let slot = slot_of(local(w, g.due));
@@ -62,7 +62,7 @@ pub(crate) fn enter_ex(w: &mut [u32], g: Go) -> Go
 
 // The first value of a `some`. A record of five words: the slot's two, the last value, the depth of the sons, the token.
 fn open(w: &mut [u32], g: Go, low: u32, high: u32) -> Go
-    requires { Valued w.old g someCode low high × (low ≤ high) }
+    requires { Valued w.old g some_code low high × (low ≤ high) }
     ensures { Stepped w.old w.new g result }
 {
     let slot = slot_of(local(w, g.due));
@@ -75,7 +75,7 @@ fn open(w: &mut [u32], g: Go, low: u32, high: u32) -> Go
 }
 
 pub(crate) fn enter_some(w: &mut [u32], g: Go, low: u32, high: u32) -> Go
-    requires { Valued w.old g someCode low high }
+    requires { Valued w.old g some_code low high }
     ensures { Stepped w.old w.new g result }
 {
     if high < low {
@@ -86,7 +86,7 @@ pub(crate) fn enter_some(w: &mut [u32], g: Go, low: u32, high: u32) -> Go
 
 // The first value of an `all`. A record of four words: the slot's two, the last value that the local's `all` had, the token.
 fn begin(w: &mut [u32], g: Go, low: u32, high: u32) -> Go
-    requires { Valued w.old g allCode low high × (low ≤ high) }
+    requires { Valued w.old g all_code low high × (low ≤ high) }
     ensures { Stepped w.old w.new g result }
 {
     let l = local(w, g.due);
@@ -102,7 +102,7 @@ fn begin(w: &mut [u32], g: Go, low: u32, high: u32) -> Go
 }
 
 pub(crate) fn enter_all(w: &mut [u32], g: Go, low: u32, high: u32) -> Go
-    requires { Valued w.old g allCode low high }
+    requires { Valued w.old g all_code low high }
     ensures { Stepped w.old w.new g result }
 {
     if high < low {
@@ -113,7 +113,7 @@ pub(crate) fn enter_all(w: &mut [u32], g: Go, low: u32, high: u32) -> Go
 
 // An `all` that comes first again: its local's token is due. The record is that of a slot with a value.
 pub(crate) fn enter_again(w: &mut [u32], g: Go) -> Go
-    requires { Entered w.old g localCode }
+    requires { Entered w.old g local_code }
     ensures { Stepped w.old w.new g result }
 {
     let l = word(w, g.due + 1);

@@ -1,6 +1,6 @@
 // The tallies: one record that every leaf updates.
 ghost use Rattle.std.specs.Prelude.{◌≡◌, ◌+◌, ◌<◌};
-ghost use Rattle.search.specs.Registers.{nodeTally, maxWord, counted, visitedTallies};
+ghost use Rattle.search.specs.Registers.{node_tally, max_word, counted, visited_tallies};
 
 use specification::Tallies;
 
@@ -15,7 +15,7 @@ pub const FAILURE: u32 = 3;
 
 // The tallies are lent, and one of them is one more.
 fn add(t: &mut Tallies, leaf: u32)
-    requires { (leaf ≡ nodeTally → t.old.nodes < maxWord) × (t.old.answers < maxWord) × (t.old.errors < maxWord) × (t.old.fails < maxWord) }
+    requires { (leaf ≡ node_tally → t.old.nodes < max_word) × (t.old.answers < max_word) × (t.old.errors < max_word) × (t.old.fails < max_word) }
     ensures { t.new ≡ counted t.old leaf }
 {
     match leaf {
@@ -36,7 +36,7 @@ fn add(t: &mut Tallies, leaf: u32)
 
 // The tallies with one more, as a caller has them that holds them by value.
 pub fn counted(t: Tallies, leaf: u32) -> Tallies
-    requires { (leaf ≡ nodeTally → t.nodes < maxWord) × (t.answers < maxWord) × (t.errors < maxWord) × (t.fails < maxWord) }
+    requires { (leaf ≡ node_tally → t.nodes < max_word) × (t.answers < max_word) × (t.errors < max_word) × (t.fails < max_word) }
     ensures { result ≡ counted t leaf }
 {
     let mut u = t;
@@ -47,7 +47,7 @@ pub fn counted(t: Tallies, leaf: u32) -> Tallies
 // With so many visits more.
 pub fn visited(t: Tallies, visits: u32) -> Tallies
     requires { t.nodes + visits < 4294967296 }
-    ensures { result ≡ visitedTallies t visits }
+    ensures { result ≡ visited_tallies t visits }
 {
     Tallies {
         nodes: t.nodes + visits,

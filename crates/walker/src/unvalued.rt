@@ -1,9 +1,9 @@
 // The two terms of a formula by the full evaluation, where their plan does not tell; and what a formula makes of what its terms are.
 ghost use Rattle.std.specs.Prelude.{◌≡◌, ◌+◌, ◌≤◌, ◌<◌, length};
-ghost use Rattle.tables.specs.Layout.{maxTokens, pathAt};
-ghost use Rattle.tables.specs.Frames.{framesAt};
+ghost use Rattle.tables.specs.Layout.{max_tokens, path_at};
+ghost use Rattle.tables.specs.Frames.{frames_at};
 ghost use Rattle.search.specs.Steps.{Stepped, Entered, HasTerms};
-ghost use Rattle.walker.specs.Terms.{AreValues, Decides, Equates, Knows, Lacks, kind_of, firstTerm, endOfTerms, frame_of, Searches, Found};
+ghost use Rattle.walker.specs.Terms.{AreValues, Decides, Equates, Knows, Lacks, kind_of, first_term, end_of_terms, frame_of, Searches, Found};
 
 use crate::{atoms, sons};
 use search::Go;
@@ -85,8 +85,8 @@ pub(crate) fn decide(w: &mut [u32], g: Go, code: u32, s: Sides) -> Go
 
 // The first token of the terms of the formula at token h: after a quantifier comes its local.
 fn first_term(h: u32, code: u32) -> u32
-    requires { h < maxTokens }
-    ensures { result ≡ firstTerm h code }
+    requires { h < max_tokens }
+    ensures { result ≡ first_term h code }
 {
     if code < codes::EX {
         return h + 1;
@@ -96,8 +96,8 @@ fn first_term(h: u32, code: u32) -> u32
 
 // The token after them.
 fn end_of_terms(w: &[u32], h: u32, code: u32) -> u32
-    requires { (h + 1 < maxTokens) × (pathAt ≤ length w.now) }
-    ensures { result ≡ endOfTerms w.now h code }
+    requires { (h + 1 < max_tokens) × (path_at ≤ length w.now) }
+    ensures { result ≡ end_of_terms w.now h code }
 {
     if code < codes::EX {
         return tables::end(w, h);
@@ -107,7 +107,7 @@ fn end_of_terms(w: &[u32], h: u32, code: u32) -> u32
 
 // The number of the procedure whose frame has the slot.
 fn number(slot: u32) -> u32
-    requires { framesAt ≤ slot }
+    requires { frames_at ≤ slot }
     ensures { result ≡ frame_of slot }
 {
     (slot - FRAMES) / FRAME_WORDS

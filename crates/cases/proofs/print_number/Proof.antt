@@ -4,13 +4,13 @@ use native.Mathlib.Omega.{arith}
 use lib.ListN.{length}
 use borrow.Author.Rules.{rules}
 use Rattle.specification.specs.Bytes.{bytes}
-use Rattle.specification.specs.Printed.{fieldText}
+use Rattle.specification.specs.Printed.{field_text}
 use Rattle.listing.proofs.Laws.Bound.{field_bound}
 use Rattle.console.proofs.Parts.{part_length}
 use Rattle.cases.proofs.print_number.Statement.{statement}
 use Rattle.cases.proofs.print_number.Tie as tie
 
-bound : (c : tie.Start) → length (fieldText (bytes "case ") c.args.n) ≤ 26
+bound : (c : tie.Start) → length (field_text (bytes "case ") c.args.n) ≤ 26
 bound c = omega (arith, field_bound (bytes "case ") 19 c.args.n (omega (arith, c.ranges.n.fits)))
 
 slice-aggregate-field : tie.Need-slice-aggregate-field

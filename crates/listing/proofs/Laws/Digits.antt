@@ -60,21 +60,21 @@ module _ (at n : ℕ) {o o' : Bytes} {p q : ℕ} (place : p + 1 ≡ at + length 
 
 -- ---- the value of a word, with its sign
 
-abbrev pub lowPieces : ℕ → List Bytes
-lowPieces w = (45 ∷ []) ∷ printℕ (2147483648 - w) ∷ []
+abbrev pub low_pieces : ℕ → List Bytes
+low_pieces w = (45 ∷ []) ∷ printℕ (2147483648 - w) ∷ []
 
-pub value_low : (w : ℕ) → w < 2147483648 → printℤ (signed w) ≡ joined (lowPieces w)
+pub value_low : (w : ℕ) → w < 2147483648 → printℤ (signed w) ≡ joined (low_pieces w)
 unfolding printℤ
 value_low w l =
-    by_sign (λ z. printℤ z ≡ joined (lowPieces w)) w
+    by_sign (λ z. printℤ z ≡ joined (low_pieces w)) w
     (λ h. ap (λ n. 45 ∷ printℕ n) {x = suc (2147483648 - suc w)} {y = 2147483648 - w} (omega arith)) (λ h. absurd (omega arith))
 
-abbrev pub highPieces : ℕ → List Bytes
-highPieces w = printℕ (w - 2147483648) ∷ []
+abbrev pub high_pieces : ℕ → List Bytes
+high_pieces w = printℕ (w - 2147483648) ∷ []
 
-pub value-high : (w : ℕ) → 2147483648 ≤ w → printℤ (signed w) ≡ joined (highPieces w)
+pub value-high : (w : ℕ) → 2147483648 ≤ w → printℤ (signed w) ≡ joined (high_pieces w)
 unfolding printℤ
-value-high w l = by_sign (λ z. printℤ z ≡ joined (highPieces w)) w (λ h. absurd (omega arith)) (λ h. refl)
+value-high w l = by_sign (λ z. printℤ z ≡ joined (high_pieces w)) w (λ h. absurd (omega arith)) (λ h. refl)
 
 -- a sign and ten digits
 pub value-bound : (w : ℕ) → w < 4294967296 → length (printℤ (signed w)) ≤ 11

@@ -6,55 +6,55 @@ use borrow.Author.Tests.{eq-eqb, ne_eqb}
 use Rattle.specification.specs.Bytes.{Bytes, bytes}
 use Rattle.specification.specs.Number.{printℕ, printℤ}
 use Rattle.specification.specs.Lines.{CellName, scalar, element}
-use Rattle.specification.specs.Listing.{cellLabel, headLines, labelText, linesText}
-use Rattle.specification.specs.Printed.{fieldText}
+use Rattle.specification.specs.Listing.{cell_label, head_lines, label_text, lines_text}
+use Rattle.specification.specs.Printed.{field_text}
 use Rattle.listing.specs.declared.Head.TheVariants.{Answer, Error}
-use Rattle.listing.specs.Put.{endText}
-use Rattle.listing.specs.Model.{eachLine, line_at, elementLine, arrayLines, headText}
-use Rattle.tables.specs.Layout.{Words, flagAt, value_at, first_at}
+use Rattle.listing.specs.Put.{end_text}
+use Rattle.listing.specs.Model.{each_line, line_at, element_line, array_lines, head_text}
+use Rattle.tables.specs.Layout.{Words, flag_at, value_at, first_at}
 use Rattle.listing.proofs.Laws.Put.{joined}
 
 -- ---- a cell's line
 
-module _ (w : Words) (c f : ℕ) (flag : f ≡ flagAt w c) where
-  pub no_line : (n : CellName) → f ≡ 0 → linesText (line_at w n c) ≡ []
-  unfolding line_at linesText
-  no_line n h = rw (eq-eqb (flagAt w c) 0 (sym flag ∙ h))
+module _ (w : Words) (c f : ℕ) (flag : f ≡ flag_at w c) where
+  pub no_line : (n : CellName) → f ≡ 0 → lines_text (line_at w n c) ≡ []
+  unfolding line_at lines_text
+  no_line n h = rw (eq-eqb (flag_at w c) 0 (sym flag ∙ h))
 
   module _ (some : f ≡ 0 → ⊥) (v : ℕ) (value : v ≡ value_at w c) where
     -- its name, and what stands after it
-    pub line-pieces : (n : CellName) → linesText (line_at w n c) ≡ joined (labelText (cellLabel n) ∷ endText v ∷ [])
-    unfolding line_at linesText
-    line-pieces n = rw (ne_eqb (flagAt w c) 0 (λ k. some (flag ∙ k)), value)
+    pub line-pieces : (n : CellName) → lines_text (line_at w n c) ≡ joined (label_text (cell_label n) ∷ end_text v ∷ [])
+    unfolding line_at lines_text
+    line-pieces n = rw (ne_eqb (flag_at w c) 0 (λ k. some (flag ∙ k)), value)
 
-pub scalar-pieces : (n : ℕ) → labelText (cellLabel (scalar n)) ≡ joined ((118 ∷ []) ∷ printℕ n ∷ [])
-unfolding labelText
+pub scalar-pieces : (n : ℕ) → label_text (cell_label (scalar n)) ≡ joined ((118 ∷ []) ∷ printℕ n ∷ [])
+unfolding label_text
 scalar-pieces n = refl
 
-pub element-pieces : (a e : ℕ) → labelText (cellLabel (element a e)) ≡ joined ((97 ∷ []) ∷ printℕ a ∷ (46 ∷ []) ∷ printℕ e ∷ [])
-unfolding labelText
+pub element-pieces : (a e : ℕ) → label_text (cell_label (element a e)) ≡ joined ((97 ∷ []) ∷ printℕ a ∷ (46 ∷ []) ∷ printℕ e ∷ [])
+unfolding label_text
 element-pieces a e = refl
 
 -- ---- an array's lines
 
 pub array-pieces : (w : Words) (a from to : ℕ) → from ≡ first_at w a → to ≡ first_at w (a + 1) →
-    linesText (arrayLines w a) ≡ joined (linesText (eachLine (elementLine w a from) 0 (to - from)) ∷ [])
+    lines_text (array_lines w a) ≡ joined (lines_text (each_line (element_line w a from) 0 (to - from)) ∷ [])
 array-pieces w a from to e f = rw (← e, ← f)
 
 -- ---- the head
 
-pub answer-pieces : (n : ℕ) → headText (Answer n) ≡ joined (fieldText (bytes "answer=") n ∷ [])
-unfolding headLines linesText labelText printℤ
+pub answer-pieces : (n : ℕ) → head_text (Answer n) ≡ joined (field_text (bytes "answer=") n ∷ [])
+unfolding head_lines lines_text label_text printℤ
 answer-pieces n = refl
 
 -- a line and what follows it
-field-then : (key : Bytes) (n : ℕ) (r : Bytes) → key ++ (printℕ n ++ (bytes "\n" ++ r)) ≡ fieldText key n ++ r
+field-then : (key : Bytes) (n : ℕ) (r : Bytes) → key ++ (printℕ n ++ (bytes "\n" ++ r)) ≡ field_text key n ++ r
 field-then key n r = simp append_assoc
 
 pub error-pieces : (n kind token : ℕ) →
-    headText (Error n kind token)
-    ≡ joined (fieldText (bytes "error=") n ∷ fieldText (bytes "kind=") kind ∷ fieldText (bytes "at=") token ∷ [])
-unfolding headLines linesText labelText printℤ
+    head_text (Error n kind token)
+    ≡ joined (field_text (bytes "error=") n ∷ field_text (bytes "kind=") kind ∷ field_text (bytes "at=") token ∷ [])
+unfolding head_lines lines_text label_text printℤ
 error-pieces n kind token =
-    field-then (bytes "error=") n (bytes "kind=" ++ (printℕ kind ++ (bytes "\n" ++ fieldText (bytes "at=") token))) ∙
-    ap (λ r. fieldText (bytes "error=") n ++ r) (field-then (bytes "kind=") kind (fieldText (bytes "at=") token))
+    field-then (bytes "error=") n (bytes "kind=" ++ (printℕ kind ++ (bytes "\n" ++ field_text (bytes "at=") token))) ∙
+    ap (λ r. field_text (bytes "error=") n ++ r) (field-then (bytes "kind=") kind (field_text (bytes "at=") token))

@@ -2,8 +2,8 @@
 use mathlib.Core.List.{[], ◌∷◌}
 use borrow.Author.Rules.{rules}
 use Rattle.specification.specs.Bytes.{bytes}
-use Rattle.specification.specs.Printed.{fieldText}
-use Rattle.listing.specs.Model.{headText}
+use Rattle.specification.specs.Printed.{field_text}
+use Rattle.listing.specs.Model.{head_text}
 use Rattle.listing.specs.declared.Head.TheVariants.{Answer}
 use Rattle.listing.proofs.Laws.Put.{Left, pieces-left, last-left, room-left}
 use Rattle.listing.proofs.Laws.Pieces.{answer-pieces}
@@ -14,7 +14,7 @@ use Rattle.listing.proofs.answer.Tie as tie
 -- the one line
 parted : (c : tie.Start) →
     let a = c.args in
-    Left a.out.now 0 (headText (Answer a.number)) a.out.now 0 (fieldText (bytes "answer=") a.number ∷ [])
+    Left a.out.now 0 (head_text (Answer a.number)) a.out.now 0 (field_text (bytes "answer=") a.number ∷ [])
 parted c = pieces-left _ _ _ (answer-pieces c.args.number)
 
 slice-aggregate-field : tie.Need-slice-aggregate-field

@@ -2,8 +2,8 @@
 use mathlib.Core.Path.{refl}
 use mathlib.Core.List.{[], ◌∷◌}
 use borrow.Author.Rules.{rules}
-use Rattle.specification.specs.Listing.{linesText}
-use Rattle.listing.specs.Model.{eachLine, scalarLine, arrayLines, headText, modelText}
+use Rattle.specification.specs.Listing.{lines_text}
+use Rattle.listing.specs.Model.{each_line, scalar_line, array_lines, head_text, model_text}
 use Rattle.listing.proofs.Laws.Put.{Left, pieces-left, less-left, last-left}
 use Rattle.listing.proofs.Laws.Bound.{scalars-room, arrays-room}
 use Rattle.listing.proofs.block.Statement.{statement}
@@ -13,8 +13,8 @@ use Rattle.listing.proofs.block.Tie as tie
 parted : (c : tie.Start) →
     let a = c.args in
     let w = a.w.now in
-    Left a.out.now 0 (modelText w a.scalars a.arrays a.head) a.out.now 0
-    (headText a.head ∷ linesText (eachLine (scalarLine w) 0 a.scalars) ∷ linesText (eachLine (arrayLines w) 0 a.arrays) ∷ [])
+    Left a.out.now 0 (model_text w a.scalars a.arrays a.head) a.out.now 0
+    (head_text a.head ∷ lines_text (each_line (scalar_line w) 0 a.scalars) ∷ lines_text (each_line (array_lines w) 0 a.arrays) ∷ [])
 parted c = pieces-left _ _ _ refl
 
 top-requires : tie.Need-top-requires

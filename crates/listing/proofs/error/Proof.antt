@@ -2,9 +2,9 @@
 use mathlib.Core.List.{[], ◌∷◌}
 use borrow.Author.Rules.{rules}
 use Rattle.specification.specs.Bytes.{bytes}
-use Rattle.specification.specs.Printed.{fieldText}
+use Rattle.specification.specs.Printed.{field_text}
 use Rattle.listing.specs.Put.{Room}
-use Rattle.listing.specs.Model.{headText}
+use Rattle.listing.specs.Model.{head_text}
 use Rattle.listing.specs.declared.Head.TheVariants.{Error}
 use Rattle.listing.proofs.Laws.Put.{Left, pieces-left, less-left, last-left, room-left}
 use Rattle.listing.proofs.Laws.Pieces.{error-pieces}
@@ -15,11 +15,11 @@ use Rattle.listing.proofs.error.Tie as tie
 -- the three lines
 parted : (c : tie.Start) →
     let a = c.args in
-    Left a.out.now 0 (headText (Error a.number a.kind a.token)) a.out.now 0
-    (fieldText (bytes "error=") a.number ∷ fieldText (bytes "kind=") a.kind ∷ fieldText (bytes "at=") a.token ∷ [])
+    Left a.out.now 0 (head_text (Error a.number a.kind a.token)) a.out.now 0
+    (field_text (bytes "error=") a.number ∷ field_text (bytes "kind=") a.kind ∷ field_text (bytes "at=") a.token ∷ [])
 parted c = pieces-left _ _ _ (error-pieces c.args.number c.args.kind c.args.token)
 
-room : (c : tie.Start) → Room 0 (headText (Error c.args.number c.args.kind c.args.token))
+room : (c : tie.Start) → Room 0 (head_text (Error c.args.number c.args.kind c.args.token))
 room c =
     let a = c.args in
     let f = c.ranges in

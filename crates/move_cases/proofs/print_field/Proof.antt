@@ -3,13 +3,13 @@ use Prim.Native.Nat.{◌≤◌}
 use native.Mathlib.Omega.{arith}
 use lib.ListN.{length}
 use borrow.Author.Rules.{rules}
-use Rattle.specification.specs.Printed.{fieldText}
+use Rattle.specification.specs.Printed.{field_text}
 use Rattle.listing.proofs.Laws.Bound.{field_bound}
 use Rattle.console.proofs.Parts.{part_length}
 use Rattle.move_cases.proofs.print_field.Statement.{statement}
 use Rattle.move_cases.proofs.print_field.Tie as tie
 
-bound : (c : tie.Start) → length (fieldText c.args.key.now c.args.n) ≤ 29
+bound : (c : tie.Start) → length (field_text c.args.key.now c.args.n) ≤ 29
 bound c = omega (arith, field_bound c.args.key.now 19 c.args.n (omega (arith, c.ranges.n.fits)), c.requires)
 
 slice-aggregate-field : tie.Need-slice-aggregate-field

@@ -11,11 +11,11 @@ use lib.Dec.{eqb, ltb}
 use borrow.Author.Tests.{ltb-true, ltb-false}
 use Rattle.specification.specs.Bytes.{Bytes, bytes, pick, run, begins}
 use Rattle.tables.specs.Layout.{Words}
-use Rattle.tables.specs.Codes.{someCode, quoCode, remCode}
+use Rattle.tables.specs.Codes.{some_code, quo_code, rem_code}
 use Rattle.listing.proofs.Laws.Put.{joined}
 use Rattle.text.proofs.Laws.Run.{run-le, end-part}
 use Rattle.mover.specs.Model.{Chunk, chunk, extended, in_word, chunks, is_key}
-use Rattle.mover.specs.Model.{tokenCode, empty_at, standIn, spelling, untilAfter, word_piece, markPiece, rewritten}
+use Rattle.mover.specs.Model.{token_code, empty_at, stand_in, spelling, until_after, word_piece, mark_piece, rewritten}
 use Rattle.mover.specs.Steps.{kept}
 
 -- ---- the first chunk
@@ -154,10 +154,10 @@ module _ {s : Bytes} {i e next : ℕ} (c : ChunkAt s i e next) where
         rw (chunks-at, k)
         (sym (append_assoc (part i e s) (part e next s) later) ∙ ap (λ (x : Bytes). x ++ later) chunk_whole)
 
-    pub word_more : is_key (chunk (part i e s) (part e next s)) ≡ false → (j' until' : ℕ) → j' ≡ j + 1 → until' ≡ untilAfter w j until →
+    pub word_more : is_key (chunk (part i e s) (part e next s)) ≡ false → (j' until' : ℕ) → j' ≡ j + 1 → until' ≡ until_after w j until →
         rewritten w newer j until (chunks (drop i s))
         ≡ joined (word_piece w newer j until (part i e s) ∷ kept j' until' (part e next s) ∷ rewritten w newer j' until' (chunks (drop next s)) ∷ [])
-    unfolding rewritten markPiece
+    unfolding rewritten mark_piece
     word_more k j' until' q u = rw (chunks-at, k, q, u, add-one)
 
 module _ (w : Words) (newer : Bool) where
@@ -168,41 +168,41 @@ module _ (w : Words) (newer : Bool) where
   -- ---- a bound of the length
 
   -- the longest that stands for an empty range
-  abbrev standLong : ℕ
-  standLong = length (bytes "eq 0 1")
+  abbrev stand_long : ℕ
+  stand_long = length (bytes "eq 0 1")
 
-  stand-≤ : (i : ℕ) → length (standIn w i) ≤ standLong
-  unfolding standIn
-  stand-≤ i = go (eqb (tokenCode w i) someCode)
+  stand-≤ : (i : ℕ) → length (stand_in w i) ≤ stand_long
+  unfolding stand_in
+  stand-≤ i = go (eqb (token_code w i) some_code)
     where
-      go : (t : Bool) → length (pick t (bytes "eq 0 1") (bytes "true")) ≤ standLong
+      go : (t : Bool) → length (pick t (bytes "eq 0 1") (bytes "true")) ≤ stand_long
       go true = omega arith
       go false = omega arith
 
-  spelling-≤ : (c : ℕ) (t : Bytes) → length (spelling newer c t) ≤ standLong + length t
+  spelling-≤ : (c : ℕ) (t : Bytes) → length (spelling newer c t) ≤ stand_long + length t
   unfolding spelling
-  spelling-≤ c t = go (eqb c quoCode) (eqb c remCode) newer
+  spelling-≤ c t = go (eqb c quo_code) (eqb c rem_code) newer
     where
       go : (q r n : Bool) →
-          length (pick q (pick n (bytes "quo") (bytes "div")) (pick r (pick n (bytes "rem") (bytes "mod")) t)) ≤ standLong + length t
+          length (pick q (pick n (bytes "quo") (bytes "div")) (pick r (pick n (bytes "rem") (bytes "mod")) t)) ≤ stand_long + length t
       go true r true = omega arith
       go true r false = omega arith
       go false true true = omega arith
       go false true false = omega arith
       go false false n = omega arith
 
-  word-≤ : (i until : ℕ) (t : Bytes) → length (word_piece w newer i until t) ≤ standLong + length t
+  word-≤ : (i until : ℕ) (t : Bytes) → length (word_piece w newer i until t) ≤ stand_long + length t
   unfolding word_piece
   word-≤ i until t = go (ltb i until) (empty_at w i)
     where
-      go : (d e : Bool) → length (pick d [] (pick e (standIn w i) (spelling newer (tokenCode w i) t))) ≤ standLong + length t
+      go : (d e : Bool) → length (pick d [] (pick e (stand_in w i) (spelling newer (token_code w i) t))) ≤ stand_long + length t
       go true e = omega arith
       go false true = omega (arith, stand-≤ i)
-      go false false = spelling-≤ (tokenCode w i) t
+      go false false = spelling-≤ (token_code w i) t
 
-  mark-≤ : (i until : ℕ) (m : Bytes) → length (markPiece w i until m) ≤ length m
-  unfolding markPiece
-  mark-≤ i until m = go (ltb (suc i) (untilAfter w i until))
+  mark-≤ : (i until : ℕ) (m : Bytes) → length (mark_piece w i until m) ≤ length m
+  unfolding mark_piece
+  mark-≤ i until m = go (ltb (suc i) (until_after w i until))
     where
       go : (d : Bool) → length (pick d [] m) ≤ length m
       go true = omega arith
@@ -210,36 +210,36 @@ module _ (w : Words) (newer : Bool) where
 
   abbrev weight : List Chunk → ℕ
   weight [] = 0
-  weight (c ∷ cs) = standLong + length c.letters + length c.mark + weight cs
+  weight (c ∷ cs) = stand_long + length c.letters + length c.mark + weight cs
 
   weight-≤ : (i until : ℕ) (cs : List Chunk) → length (rewritten w newer i until cs) ≤ weight cs
   unfolding rewritten
   weight-≤ i until [] = omega arith
-  weight-≤ i until (c ∷ cs) = go (is_key c) (weight-≤ i until cs) (weight-≤ (suc i) (untilAfter w i until) cs)
+  weight-≤ i until (c ∷ cs) = go (is_key c) (weight-≤ i until cs) (weight-≤ (suc i) (until_after w i until) cs)
     where
-      both : (x y r : Bytes) → length x ≤ standLong + length c.letters → length y ≤ length c.mark → length r ≤ weight cs →
+      both : (x y r : Bytes) → length x ≤ stand_long + length c.letters → length y ≤ length c.mark → length r ≤ weight cs →
           length (x ++ (y ++ r)) ≤ weight (c ∷ cs)
       both x y r h k l = omega (arith, length-append x (y ++ r), length-append y r)
 
       go : (t : Bool) →
           let same = rewritten w newer i until cs in
-          let later = rewritten w newer (suc i) (untilAfter w i until) cs in
+          let later = rewritten w newer (suc i) (until_after w i until) cs in
           length same ≤ weight cs → length later ≤ weight cs →
-          length (pick t (c.letters ++ (c.mark ++ same)) (word_piece w newer i until c.letters ++ (markPiece w i until c.mark ++ later)))
+          length (pick t (c.letters ++ (c.mark ++ same)) (word_piece w newer i until c.letters ++ (mark_piece w i until c.mark ++ later)))
           ≤ weight (c ∷ cs)
       go true h k = both c.letters c.mark (rewritten w newer i until cs) (omega arith) (omega arith) h
       go false h k =
-          both (word_piece w newer i until c.letters) (markPiece w i until c.mark) (rewritten w newer (suc i) (untilAfter w i until) cs)
+          both (word_piece w newer i until c.letters) (mark_piece w i until c.mark) (rewritten w newer (suc i) (until_after w i until) cs)
           (word-≤ i until c.letters) (mark-≤ i until c.mark) k
 
   -- each chunk has a byte at least
-  weight-chunks : (bs : Bytes) → weight (chunks bs) ≤ suc standLong * length bs
+  weight-chunks : (bs : Bytes) → weight (chunks bs) ≤ suc stand_long * length bs
   unfolding chunks
   weight-chunks [] = omega arith
   weight-chunks (b ∷ bs) = go (in_word b) (chunks bs) (weight-chunks bs)
     where
-      go : (t : Bool) (cs : List Chunk) → weight cs ≤ suc standLong * length bs →
-          weight (pick t (extended b cs) (chunk [] (b ∷ []) ∷ cs)) ≤ suc standLong * suc (length bs)
+      go : (t : Bool) (cs : List Chunk) → weight cs ≤ suc stand_long * length bs →
+          weight (pick t (extended b cs) (chunk [] (b ∷ []) ∷ cs)) ≤ suc stand_long * suc (length bs)
       go true [] h = omega arith
       go true (c ∷ cs) h = omega arith
       go false cs h = omega arith

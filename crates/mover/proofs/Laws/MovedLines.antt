@@ -15,12 +15,12 @@ use Rattle.specification.specs.Number.{printℕ, printℤ}
 use Rattle.specification.specs.Lines.{Range, Declared, CellName, scalar, element}
 use Rattle.specification.specs.Given.{Item}
 use Rattle.specification.specs.Lists.{Each}
-use Rattle.specification.specs.Listing.{cellLabel, labelText}
-use Rattle.specification.specs.Text.{led, parted, numberLine, arraysText, rangeText, name_of, itemText, givenText, headText}
+use Rattle.specification.specs.Listing.{cell_label, label_text}
+use Rattle.specification.specs.Text.{led, parted, number_line, arrays_text, range_text, name_of, item_text, given_text, head_text}
 use Rattle.specification.proofs.Laws.Parser.{and-true}
 use Rattle.specification.proofs.Laws.Lists.{each-++}
 use Rattle.specification.proofs.Laws.Print.{IsDigit, Lacks, printℕ-nonempty, printℕ-lacks, printℤ-lacks}
-use Rattle.mover.specs.Model.{lineLength, linesLength, headLines}
+use Rattle.mover.specs.Model.{line_length, lines_length, head_lines}
 
 -- ---- what does not stand in bytes and lists
 
@@ -56,48 +56,48 @@ feedless-number n = printℕ-lacks 10 (λ h. omega (arith, h.0)) n
 feedless-value : (z : ℤ) → Lacks 10 (printℤ z)
 feedless-value z = printℤ-lacks 10 (λ h. omega (arith, h.0)) refl z
 
-feedless-range : (r : Range) → Lacks 10 (rangeText r)
+feedless-range : (r : Range) → Lacks 10 (range_text r)
 unfolding Each
 feedless-range r =
     each-++ (λ b. eqb b 10 ≡ false) (printℤ r.low) (58 ∷ printℤ r.high) (feedless-value r.low) (refl, feedless-value r.high)
 
 -- a given item has digits and few other bytes
 module _ (c : ℕ) (d : ¬ IsDigit c) (o : lacking c (bytes "va.:-") ≡ true) where
-  label-lacks : (n : CellName) → Lacks c (labelText (cellLabel n))
-  unfolding labelText Each
+  label-lacks : (n : CellName) → Lacks c (label_text (cell_label n))
+  unfolding label_text Each
   label-lacks (scalar n) = ((lacks c (bytes "va.:-") o).0, printℕ-lacks c d n)
   label-lacks (element a e) =
       let h = (lacks c (bytes "va.:-") o).1 in
       (h.0, each-++ (λ b. eqb b c ≡ false) (printℕ a) (46 ∷ printℕ e) (printℕ-lacks c d a) (h.1.0, printℕ-lacks c d e))
 
-  pub item-lacks : (D : Declared) (i : Item) → Lacks c (itemText D i)
-  unfolding itemText Each
+  pub item-lacks : (D : Declared) (i : Item) → Lacks c (item_text D i)
+  unfolding item_text Each
   item-lacks D i =
       let h = (lacks c (bytes "va.:-") o).1.1.1 in
       let n = name_of D i.cell in
-      each-++ (λ b. eqb b c ≡ false) (labelText (cellLabel n)) (58 ∷ printℤ i.value) (label-lacks n)
+      each-++ (λ b. eqb b c ≡ false) (label_text (cell_label n)) (58 ∷ printℤ i.value) (label-lacks n)
       (h.0, printℤ-lacks c d h.1.0 i.value)
 
 -- ---- lines
 
 -- the first line of itself and whatever follows
 abbrev pub Line : Bytes → Type 0
-Line x = (w : Bytes) → lineLength (x ++ w) ≡ length x
+Line x = (w : Bytes) → line_length (x ++ w) ≡ length x
 
 feed-line : Line (bytes "\n")
-unfolding lineLength
+unfolding line_length
 feed-line w = refl
 
 line-more : (t x : Bytes) → Lacks 10 t → Line x → Line (t ++ x)
-unfolding lineLength Each
+unfolding line_length Each
 line-more [] x h l w = l w
 line-more (b ∷ t) x h l w = rw (h.0, line-more t x h.1 l w)
 
-lines_more : (n : ℕ) (x w : Bytes) → Line x → linesLength (suc n) (x ++ w) ≡ length x + linesLength n w
-unfolding linesLength
+lines_more : (n : ℕ) (x w : Bytes) → Line x → lines_length (suc n) (x ++ w) ≡ length x + lines_length n w
+unfolding lines_length
 lines_more n x w l = rw (l w, drop-append_seam x w)
 
-number-line : (key : Bytes) (n : ℕ) → Lacks 10 key → Line (numberLine key n)
+number-line : (key : Bytes) (n : ℕ) → Lacks 10 key → Line (number_line key n)
 number-line key n h = line-more key (printℕ n ++ bytes "\n") h (line-more (printℕ n) (bytes "\n") (feedless-number n) feed-line)
 
 -- a list after its key, with commas between
@@ -111,14 +111,14 @@ list-line key h text t xs =
 -- ---- those of a sheet
 
 -- the lines before that of ranges, after the edition's
-abbrev pub countsText : Declared → Bytes
-countsText D = numberLine (bytes "scalars=") D.scalars ++ (numberLine (bytes "locals=") D.locals ++ arraysText D.arrays)
+abbrev pub counts_text : Declared → Bytes
+counts_text D = number_line (bytes "scalars=") D.scalars ++ (number_line (bytes "locals=") D.locals ++ arrays_text D.arrays)
 
-arrays-line : (ns : List ℕ) → Line (arraysText ns)
+arrays-line : (ns : List ℕ) → Line (arrays_text ns)
 arrays-line ns = list-line (bytes "arrays=") (lacks 10 (bytes "arrays=") refl) printℕ feedless-number ns
 
 four-lines : (a b c d : Bytes) → Line a → Line b → Line c → Line d → (n : ℕ) (w : Bytes) →
-    linesLength (suc (suc (suc (suc n)))) (a ++ (b ++ (c ++ d)) ++ w) ≡ length (a ++ (b ++ (c ++ d))) + linesLength n w
+    lines_length (suc (suc (suc (suc n)))) (a ++ (b ++ (c ++ d)) ++ w) ≡ length (a ++ (b ++ (c ++ d))) + lines_length n w
 four-lines a b c d i j k l n w =
     rw (
       append_assoc a (b ++ (c ++ d)) w,
@@ -135,14 +135,14 @@ four-lines a b c d i j k l n w =
 
 -- and n lines more
 head-lines : (D : Declared) (n : ℕ) (w : Bytes) →
-    linesLength (suc (suc (suc (suc n)))) (headText D ++ w) ≡ length (headText D) + linesLength n w
-unfolding headText
+    lines_length (suc (suc (suc (suc n)))) (head_text D ++ w) ≡ length (head_text D) + lines_length n w
+unfolding head_text
 head-lines D n w =
     four-lines
-    (numberLine (bytes "edition=") D.edition)
-    (numberLine (bytes "scalars=") D.scalars)
-    (numberLine (bytes "locals=") D.locals)
-    (arraysText D.arrays)
+    (number_line (bytes "edition=") D.edition)
+    (number_line (bytes "scalars=") D.scalars)
+    (number_line (bytes "locals=") D.locals)
+    (arrays_text D.arrays)
     (number-line (bytes "edition=") D.edition (lacks 10 (bytes "edition=") refl))
     (number-line (bytes "scalars=") D.scalars (lacks 10 (bytes "scalars=") refl))
     (number-line (bytes "locals=") D.locals (lacks 10 (bytes "locals=") refl))
@@ -150,40 +150,40 @@ head-lines D n w =
     n
     w
 
-no_lines : (w : Bytes) → linesLength 0 w ≡ 0
-unfolding linesLength
+no_lines : (w : Bytes) → lines_length 0 w ≡ 0
+unfolding lines_length
 no_lines w = refl
 
 -- all before that of ranges
-pub head-length : (D : Declared) (w : Bytes) → linesLength headLines (headText D ++ w) ≡ length (headText D)
-head-length D w = rw (head-lines D 0 w, no_lines w) (add-zero (length (headText D)))
+pub head-length : (D : Declared) (w : Bytes) → lines_length head_lines (head_text D ++ w) ≡ length (head_text D)
+head-length D w = rw (head-lines D 0 w, no_lines w) (add-zero (length (head_text D)))
 
 -- and with a line more
 pub longer-length : (D : Declared) (x : Bytes) → Line x → (w : Bytes) →
-    linesLength (suc headLines) (headText D ++ (x ++ w)) ≡ length (headText D ++ x)
+    lines_length (suc head_lines) (head_text D ++ (x ++ w)) ≡ length (head_text D ++ x)
 longer-length D x l w =
-    rw (head-lines D 1 (x ++ w), lines_more 0 x w l, no_lines w, add-zero (length x)) (sym (length-append (headText D) x))
+    rw (head-lines D 1 (x ++ w), lines_more 0 x w l, no_lines w, add-zero (length x)) (sym (length-append (head_text D) x))
 
 -- and with two
 pub longest-length : (D : Declared) (x y : Bytes) → Line x → Line y → (w : Bytes) →
-    linesLength (suc (suc headLines)) (headText D ++ (x ++ (y ++ w))) ≡ length (headText D ++ x ++ y)
+    lines_length (suc (suc head_lines)) (head_text D ++ (x ++ (y ++ w))) ≡ length (head_text D ++ x ++ y)
 longest-length D x y k l w =
     rw (head-lines D 2 (x ++ (y ++ w)), lines_more 1 x (y ++ w) k, lines_more 0 y w l, no_lines w)
-    (omega (arith, length-append (headText D ++ x) y, length-append (headText D) x))
+    (omega (arith, length-append (head_text D ++ x) y, length-append (head_text D) x))
 
-pub ranges-line : (rs : List Range) → Line (bytes "ranges=" ++ (parted (bytes ",") rangeText rs ++ bytes "\n"))
-ranges-line rs = list-line (bytes "ranges=") (lacks 10 (bytes "ranges=") refl) rangeText feedless-range rs
+pub ranges-line : (rs : List Range) → Line (bytes "ranges=" ++ (parted (bytes ",") range_text rs ++ bytes "\n"))
+ranges-line rs = list-line (bytes "ranges=") (lacks 10 (bytes "ranges=") refl) range_text feedless-range rs
 
-pub given-line : (D : Declared) (is : List Item) → Line (givenText D is)
-given-line D is = list-line (bytes "given=") (lacks 10 (bytes "given=") refl) (itemText D) (item-lacks 10 (λ h. omega (arith, h.0)) refl D) is
+pub given-line : (D : Declared) (is : List Item) → Line (given_text D is)
+given-line D is = list-line (bytes "given=") (lacks 10 (bytes "given=") refl) (item_text D) (item-lacks 10 (λ h. omega (arith, h.0)) refl D) is
 
 nonempty : (t : Bytes) → ¬ (t ≡ []) → 1 ≤ length t
 nonempty [] h = absurd (h refl)
 nonempty (b ∷ t) h = omega arith
 
 -- the edition's line is long enough with any number
-pub head-size : (D : Declared) → length (bytes "edition=2\n") ≤ length (headText D)
-unfolding headText
+pub head-size : (D : Declared) → length (bytes "edition=2\n") ≤ length (head_text D)
+unfolding head_text
 head-size D =
-    rw (append_assoc (printℕ D.edition) (bytes "\n") (countsText D), length-append (printℕ D.edition) (bytes "\n" ++ countsText D))
+    rw (append_assoc (printℕ D.edition) (bytes "\n") (counts_text D), length-append (printℕ D.edition) (bytes "\n" ++ counts_text D))
     (omega (arith, nonempty (printℕ D.edition) (printℕ-nonempty D.edition)))

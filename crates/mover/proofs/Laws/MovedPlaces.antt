@@ -10,11 +10,11 @@ use lib.ListN.{length, length-append}
 use Rattle.specification.specs.Bytes.{Bytes, bytes, pick}
 use Rattle.specification.specs.Lists.{Each}
 use Rattle.specification.specs.Ast.{Formula, Procedure}
-use Rattle.specification.specs.Words.{Word, formulaWord}
-use Rattle.specification.specs.Text.{led, parted, formulaWordText, wordText, formulaWords, spelt, procedureKey, procedureText, proceduresText, formulaText}
-use Rattle.specification.specs.Moves.{newer, isRounding, roundingAt, or_else, roundingFrom}
+use Rattle.specification.specs.Words.{Word, formula_word}
+use Rattle.specification.specs.Text.{led, parted, formula_word_text, word_text, formula_words, spelt, procedure_key, procedure_text, procedures_text, formula_text}
+use Rattle.specification.specs.Moves.{newer, is_rounding, rounding_at, or_else, rounding_from}
 use Rattle.specification.proofs.Laws.Print.{Lacks}
-use Rattle.mover.specs.Model.{roundingPlace}
+use Rattle.mover.specs.Model.{rounding_place}
 use Rattle.mover.proofs.Laws.MovedLines.{lacks}
 use Rattle.mover.proofs.Laws.MovedWords.{spaceless-word, spaceless-key, Known, word-found, Written, written, formula-written, place-past, line-parts}
 
@@ -23,64 +23,64 @@ found-or true p q x y z e h = ap just e
 found-or false p q x y z e h = h
 
 place-led : (ws : List Word) → Each Known ws → (p : ℕ) (rest : Bytes) →
-    roundingPlace p (led (bytes " ") (wordText newer) ws ++ rest)
-    ≡ or_else (roundingAt (p + 1) ws) (roundingPlace (p + length (led (bytes " ") (wordText newer) ws)) rest)
-unfolding roundingPlace roundingAt led Each
+    rounding_place p (led (bytes " ") (word_text newer) ws ++ rest)
+    ≡ or_else (rounding_at (p + 1) ws) (rounding_place (p + length (led (bytes " ") (word_text newer) ws)) rest)
+unfolding rounding_place rounding_at led Each
 place-led [] k p rest = rw (add-zero p)
 place-led (w ∷ ws) k p rest =
-    let t = wordText newer w in
-    let l = led (bytes " ") (wordText newer) ws in
+    let t = word_text newer w in
+    let l = led (bytes " ") (word_text newer) ws in
     let e : suc p + length t + 1 ≡ p + 1 + length t + 1 = omega arith in
     let f : suc p + length t + length l ≡ p + suc (length (t ++ l)) = omega (arith, length-append t l) in
-    let later : roundingPlace (suc p) (t ++ (l ++ rest))
-    ≡ or_else (roundingAt (p + 1 + length t + 1) ws) (roundingPlace (p + suc (length (t ++ l))) rest) =
+    let later : rounding_place (suc p) (t ++ (l ++ rest))
+    ≡ or_else (rounding_at (p + 1 + length t + 1) ws) (rounding_place (p + suc (length (t ++ l))) rest) =
     place-past (suc p) t (l ++ rest) (spaceless-word w) ∙ place-led ws k.1 (suc p + length t) rest
-    ∙ ap (λ (q : ℕ). or_else (roundingAt q ws) (roundingPlace (suc p + length t + length l) rest)) e
-    ∙ ap (λ (q : ℕ). or_else (roundingAt (p + 1 + length t + 1) ws) (roundingPlace q rest)) f in
+    ∙ ap (λ (q : ℕ). or_else (rounding_at q ws) (rounding_place (suc p + length t + length l) rest)) e
+    ∙ ap (λ (q : ℕ). or_else (rounding_at (p + 1 + length t + 1) ws) (rounding_place q rest)) f in
     rw (append_assoc t l rest, word-found w k.0 (l ++ rest))
-    (found-or (isRounding w) (suc p) (p + 1) (roundingPlace (suc p) (t ++ (l ++ rest))) (roundingAt (p + 1 + length t + 1) ws)
-    (roundingPlace (p + suc (length (t ++ l))) rest) (omega arith) later)
+    (found-or (is_rounding w) (suc p) (p + 1) (rounding_place (suc p) (t ++ (l ++ rest))) (rounding_at (p + 1 + length t + 1) ws)
+    (rounding_place (p + suc (length (t ++ l))) rest) (omega arith) later)
 
 place-spelt : (ws : List Word) → Written ws → (p : ℕ) (rest : Bytes) →
-    roundingPlace p (spelt newer ws ++ rest) ≡ or_else (roundingAt p ws) (roundingPlace (p + length (spelt newer ws)) rest)
-unfolding parted wordText roundingAt isRounding
+    rounding_place p (spelt newer ws ++ rest) ≡ or_else (rounding_at p ws) (rounding_place (p + length (spelt newer ws)) rest)
+unfolding parted word_text rounding_at is_rounding
 place-spelt ws (written f us k) p rest =
-    let t = formulaWordText f in
-    let l = led (bytes " ") (wordText newer) us in
+    let t = formula_word_text f in
+    let l = led (bytes " ") (word_text newer) us in
     let e : p + length t + length l ≡ p + length (t ++ l) = omega (arith, length-append t l) in
     rw (append_assoc t l rest)
-    (place-past p t (l ++ rest) (spaceless-word (formulaWord f)) ∙ place-led us k (p + length t) rest
-    ∙ ap (λ (q : ℕ). or_else (roundingAt (p + length t + 1) us) (roundingPlace q rest)) e)
+    (place-past p t (l ++ rest) (spaceless-word (formula_word f)) ∙ place-led us k (p + length t) rest
+    ∙ ap (λ (q : ℕ). or_else (rounding_at (p + length t + 1) us) (rounding_place q rest)) e)
 
 place-line : (key : Bytes) → Lacks 32 key → (F : Formula) (p : ℕ) (rest : Bytes) →
-    roundingPlace p (key ++ (spelt newer (formulaWords F) ++ 10 ∷ rest))
-    ≡ or_else (roundingAt (p + length key) (formulaWords F)) (roundingPlace (p + length (key ++ (spelt newer (formulaWords F) ++ bytes "\n"))) rest)
+    rounding_place p (key ++ (spelt newer (formula_words F) ++ 10 ∷ rest))
+    ≡ or_else (rounding_at (p + length key) (formula_words F)) (rounding_place (p + length (key ++ (spelt newer (formula_words F) ++ bytes "\n"))) rest)
 unfolding Each
 place-line key h F p rest =
-    let ws = formulaWords F in
+    let ws = formula_words F in
     let t = spelt newer ws in
     let e : p + length key + length t + 1 ≡ p + length (key ++ (t ++ bytes "\n")) =
     omega (arith, length-append key (t ++ bytes "\n"), length-append t (bytes "\n")) in
     place-past p key (t ++ 10 ∷ rest) h ∙ place-spelt ws (formula-written F) (p + length key) (10 ∷ rest)
-    ∙ ap (or_else (roundingAt (p + length key) ws)) (place-past (p + length key + length t) (bytes "\n") rest (refl, tt))
-    ∙ ap (λ (q : ℕ). or_else (roundingAt (p + length key) ws) (roundingPlace q rest)) e
+    ∙ ap (or_else (rounding_at (p + length key) ws)) (place-past (p + length key + length t) (bytes "\n") rest (refl, tt))
+    ∙ ap (λ (q : ℕ). or_else (rounding_at (p + length key) ws) (rounding_place q rest)) e
 
-place_end : (p : ℕ) (x : Option ℕ) → or_else x (roundingPlace p []) ≡ x
-unfolding roundingPlace
+place_end : (p : ℕ) (x : Option ℕ) → or_else x (rounding_place p []) ≡ x
+unfolding rounding_place
 place_end p none = refl
 place_end p (just q) = refl
 
 -- in the lines of procedures and of the formula
 pub place-formulas : (Ps : List Procedure) (F : Formula) (p : ℕ) →
-    roundingPlace p (proceduresText newer Ps ++ formulaText newer F) ≡ roundingFrom p Ps F
-unfolding proceduresText procedureText roundingFrom
+    rounding_place p (procedures_text newer Ps ++ formula_text newer F) ≡ rounding_from p Ps F
+unfolding procedures_text procedure_text rounding_from
 place-formulas [] F p =
     place-line (bytes "formula=") (lacks 32 (bytes "formula=") refl) F p []
-    ∙ place_end (p + length (formulaText newer F)) (roundingAt (p + length (bytes "formula=")) (formulaWords F))
+    ∙ place_end (p + length (formula_text newer F)) (rounding_at (p + length (bytes "formula=")) (formula_words F))
 place-formulas (P ∷ Ps) F p =
-    let key = procedureKey P in
-    let t = spelt newer (formulaWords P.formula) in
-    let rest = proceduresText newer Ps ++ formulaText newer F in
-    rw (append_assoc (procedureText newer P) (proceduresText newer Ps) (formulaText newer F), line-parts key t rest)
+    let key = procedure_key P in
+    let t = spelt newer (formula_words P.formula) in
+    let rest = procedures_text newer Ps ++ formula_text newer F in
+    rw (append_assoc (procedure_text newer P) (procedures_text newer Ps) (formula_text newer F), line-parts key t rest)
     (place-line key (spaceless-key P) P.formula p rest
-    ∙ ap (or_else (roundingAt (p + length key) (formulaWords P.formula))) (place-formulas Ps F (p + length (procedureText newer P))))
+    ∙ ap (or_else (rounding_at (p + length key) (formula_words P.formula))) (place-formulas Ps F (p + length (procedure_text newer P))))

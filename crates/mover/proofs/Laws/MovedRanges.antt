@@ -14,15 +14,15 @@ use Rattle.specification.specs.Bytes.{Bytes, bytes, pick, begins}
 use Rattle.specification.specs.Number.{least, greatest, digits, printℕ, printℤ}
 use Rattle.specification.specs.Lines.{Range, everything}
 use Rattle.specification.specs.Lists.{Each}
-use Rattle.specification.specs.Arithmetic.{eqZ}
-use Rattle.specification.specs.Text.{led, parted, rangeText}
-use Rattle.specification.specs.Moves.{isEverything, narrowAt}
+use Rattle.specification.specs.Arithmetic.{eq_z}
+use Rattle.specification.specs.Text.{led, parted, range_text}
+use Rattle.specification.specs.Moves.{is_everything, narrow_at}
 use Rattle.specification.proofs.Laws.Contradiction.{contradiction}
 use Rattle.specification.proofs.Laws.Lists.{Begins}
 use Rattle.specification.proofs.Laws.Parser.{and-true, true-T}
 use Rattle.specification.proofs.Laws.Print.{IsDigit, Lacks, printℤ-lacks, printℤ-injective}
-use Rattle.specification.proofs.Laws.Range.{eqZ-eq}
-use Rattle.mover.specs.Model.{fullRange, fullRanges, fullLine, narrowPlace}
+use Rattle.specification.proofs.Laws.Range.{eq_z-eq}
+use Rattle.mover.specs.Model.{full_range, full_ranges, full_line, narrow_place}
 
 -- ---- all of 32 bits
 
@@ -34,18 +34,18 @@ greatest-text : printℤ greatest ≡ bytes "2147483647"
 unfolding printℤ printℕ digits
 greatest-text = refl
 
-everything-text : rangeText everything ≡ fullRange
+everything-text : range_text everything ≡ full_range
 everything-text = rw (least-text, greatest-text)
 
 -- ---- the full line
 
-full-ranges : (n : ℕ) → fullRanges (suc n) ≡ fullRange ++ (led (bytes ",") rangeText (replicate n everything) ++ bytes "\n")
-unfolding fullRanges led
+full-ranges : (n : ℕ) → full_ranges (suc n) ≡ full_range ++ (led (bytes ",") range_text (replicate n everything) ++ bytes "\n")
+unfolding full_ranges led
 full-ranges zero = refl
 full-ranges (suc n) = rw (least-text, greatest-text, full-ranges n)
 
-pub full-line : (n : ℕ) → fullLine n ≡ bytes "ranges=" ++ (parted (bytes ",") rangeText (replicate n everything) ++ bytes "\n")
-unfolding fullLine parted
+pub full-line : (n : ℕ) → full_line n ≡ bytes "ranges=" ++ (parted (bytes ",") range_text (replicate n everything) ++ bytes "\n")
+unfolding full_line parted
 full-line zero = refl
 full-line (suc n) = rw (full-ranges n, least-text, greatest-text)
 
@@ -77,17 +77,17 @@ split c (x ∷ xs) (y ∷ ys) us vs h k e =
 
 -- ---- a range
 
-everything-range : (r : Range) → isEverything r ≡ true → (r.low ≡ least) × (r.high ≡ greatest)
-unfolding isEverything
+everything-range : (r : Range) → is_everything r ≡ true → (r.low ≡ least) × (r.high ≡ greatest)
+unfolding is_everything
 everything-range r e =
-    let h = and-true (eqZ r.low least) (eqZ r.high greatest) e in
-    (eqZ-eq r.low least (true-T (eqZ r.low least) h.0), eqZ-eq r.high greatest (true-T (eqZ r.high greatest) h.1))
+    let h = and-true (eq_z r.low least) (eq_z r.high greatest) e in
+    (eq_z-eq r.low least (true-T (eq_z r.low least) h.0), eq_z-eq r.high greatest (true-T (eq_z r.high greatest) h.1))
 
-range-everything : (r : Range) → r.low ≡ least → r.high ≡ greatest → isEverything r ≡ true
-unfolding isEverything
+range-everything : (r : Range) → r.low ≡ least → r.high ≡ greatest → is_everything r ≡ true
+unfolding is_everything
 range-everything r h k = rw (h, k)
 
-range-full : (r : Range) → isEverything r ≡ true → rangeText r ≡ fullRange
+range-full : (r : Range) → is_everything r ≡ true → range_text r ≡ full_range
 range-full r e = let h = everything-range r e in rw (h.0, h.1, least-text, greatest-text)
 
 regroup : (xs ys : Bytes) (m : ℕ) (w : Bytes) → xs ++ 58 ∷ ys ++ m ∷ [] ++ w ≡ xs ++ 58 ∷ (ys ++ m ∷ w)
@@ -95,7 +95,7 @@ regroup xs ys m w = simp append_assoc
 
 -- a range and the mark after it, which is neither a digit nor a minus
 module _ (m : ℕ) (f : ¬ IsDigit m) (g : eqb 45 m ≡ false) (r : Range) where
-  same-range : (t w : Bytes) → rangeText everything ≡ t → Begins (t ++ m ∷ []) (rangeText r ++ m ∷ w) → isEverything r ≡ true
+  same-range : (t w : Bytes) → range_text everything ≡ t → Begins (t ++ m ∷ []) (range_text r ++ m ∷ w) → is_everything r ≡ true
   same-range t w e (more, b) =
       let low = printℤ r.low in
       let high = printℤ r.high in
@@ -108,25 +108,25 @@ module _ (m : ℕ) (f : ¬ IsDigit m) (g : eqb 45 m ≡ false) (r : Range) where
       range-everything r (printℤ-injective r.low least k.0) (printℤ-injective r.high greatest l.0)
 
   -- the full one stands here where this is it
-  begins-range : (w : Bytes) → begins (fullRange ++ m ∷ []) (rangeText r ++ m ∷ w) ≡ isEverything r
-  begins-range w = go (isEverything r) refl (begins (fullRange ++ m ∷ []) (rangeText r ++ m ∷ w)) refl
+  begins-range : (w : Bytes) → begins (full_range ++ m ∷ []) (range_text r ++ m ∷ w) ≡ is_everything r
+  begins-range w = go (is_everything r) refl (begins (full_range ++ m ∷ []) (range_text r ++ m ∷ w)) refl
     where
-      go : (b : Bool) → isEverything r ≡ b → (c : Bool) → begins (fullRange ++ m ∷ []) (rangeText r ++ m ∷ w) ≡ c → c ≡ b
+      go : (b : Bool) → is_everything r ≡ b → (c : Bool) → begins (full_range ++ m ∷ []) (range_text r ++ m ∷ w) ≡ c → c ≡ b
       go true e c h =
-          sym h ∙ ap (λ (u : Bytes). begins (fullRange ++ m ∷ []) (u ++ m ∷ w)) (range-full r e) ∙ begins-++ (fullRange ++ m ∷ []) w
+          sym h ∙ ap (λ (u : Bytes). begins (full_range ++ m ∷ []) (u ++ m ∷ w)) (range-full r e) ∙ begins-++ (full_range ++ m ∷ []) w
       go false e true h =
-          let k = same-range fullRange w everything-text (begins-true (fullRange ++ m ∷ []) (rangeText r ++ m ∷ w) h) in
+          let k = same-range full_range w everything-text (begins-true (full_range ++ m ∷ []) (range_text r ++ m ∷ w) h) in
           contradiction cc
       go false e false h = refl
 
   -- and the search goes on after it: it has 22 bytes, and the mark one
   narrow_step : (p : ℕ) (w : Bytes) (later : ℕ → Bytes → Option ℕ) (due : ℕ → Option ℕ) → ((q : ℕ) → later q w ≡ due q) →
-      pick (begins (fullRange ++ m ∷ []) (rangeText r ++ m ∷ w)) (later (p + 23) (drop 23 (rangeText r ++ m ∷ w))) (just p)
-      ≡ pick (isEverything r) (due (p + length (rangeText r) + 1)) (just p)
-  narrow_step p w later due h = rw (begins-range w) (go (isEverything r) refl)
+      pick (begins (full_range ++ m ∷ []) (range_text r ++ m ∷ w)) (later (p + 23) (drop 23 (range_text r ++ m ∷ w))) (just p)
+      ≡ pick (is_everything r) (due (p + length (range_text r) + 1)) (just p)
+  narrow_step p w later due h = rw (begins-range w) (go (is_everything r) refl)
     where
-      go : (b : Bool) → isEverything r ≡ b →
-          pick b (later (p + 23) (drop 23 (rangeText r ++ m ∷ w))) (just p) ≡ pick b (due (p + length (rangeText r) + 1)) (just p)
+      go : (b : Bool) → is_everything r ≡ b →
+          pick b (later (p + 23) (drop 23 (range_text r ++ m ∷ w))) (just p) ≡ pick b (due (p + length (range_text r) + 1)) (just p)
       go true e =
           let k : p + 23 ≡ p + 22 + 1 = omega arith in
           ap (λ (u : Bytes). later (p + 23) (drop 23 (u ++ m ∷ w))) (range-full r e) ∙ h (p + 23) ∙ ap due k
@@ -135,14 +135,14 @@ module _ (m : ℕ) (f : ¬ IsDigit m) (g : eqb 45 m ≡ false) (r : Range) where
 
 -- ---- the line
 
-pub narrow_at : (rs : List Range) (p : ℕ) (w : Bytes) →
-    narrowPlace p (length rs) (parted (bytes ",") rangeText rs ++ 10 ∷ w) ≡ narrowAt p rs
-unfolding narrowPlace narrowAt parted led
-narrow_at [] p w = refl
-narrow_at (r ∷ []) p w =
-    rw (append_assoc (rangeText r) [] (10 ∷ w))
+pub narrow-at : (rs : List Range) (p : ℕ) (w : Bytes) →
+    narrow_place p (length rs) (parted (bytes ",") range_text rs ++ 10 ∷ w) ≡ narrow_at p rs
+unfolding narrow_place narrow_at parted led
+narrow-at [] p w = refl
+narrow-at (r ∷ []) p w =
+    rw (append_assoc (range_text r) [] (10 ∷ w))
     (narrow_step 10 (λ d. omega (arith, d.0)) refl r p w (λ q bs. none) (λ q. none) (λ q. refl))
-narrow_at (r ∷ s ∷ rs) p w =
-    rw (append_assoc (rangeText r) (led (bytes ",") rangeText (s ∷ rs)) (10 ∷ w))
-    (narrow_step 44 (λ d. omega (arith, d.0)) refl r p (parted (bytes ",") rangeText (s ∷ rs) ++ 10 ∷ w)
-    (λ q bs. narrowPlace q (length (s ∷ rs)) bs) (λ q. narrowAt q (s ∷ rs)) (λ q. narrow_at (s ∷ rs) q w))
+narrow-at (r ∷ s ∷ rs) p w =
+    rw (append_assoc (range_text r) (led (bytes ",") range_text (s ∷ rs)) (10 ∷ w))
+    (narrow_step 44 (λ d. omega (arith, d.0)) refl r p (parted (bytes ",") range_text (s ∷ rs) ++ 10 ∷ w)
+    (λ q bs. narrow_place q (length (s ∷ rs)) bs) (λ q. narrow_at q (s ∷ rs)) (λ q. narrow-at (s ∷ rs) q w))

@@ -10,13 +10,13 @@ use lib.Seq.{drop-drop}
 use Rattle.specification.specs.Bytes.{Bytes, bytes, begins}
 use Rattle.listing.proofs.Laws.Put.{joined}
 use Rattle.text.proofs.Laws.Keys.{begins-long}
-use Rattle.mover.specs.Model.{fullRange, markAfter, fullRanges, fullLine, narrowPlace}
+use Rattle.mover.specs.Model.{full_range, mark_after, full_ranges, full_line, narrow_place}
 
 -- ---- one range
 
 -- with its mark
 abbrev pub marked : ℕ → Bytes
-marked n = fullRange ++ markAfter n
+marked n = full_range ++ mark_after n
 
 pub marked-last : (n : ℕ) → n ≡ 0 → marked n ≡ bytes "-2147483648:2147483647\n"
 marked-last zero e = refl
@@ -32,51 +32,51 @@ length_marked (suc n) = refl
 
 -- ---- the line
 
-pub full-none : (n : ℕ) → n ≡ 0 → fullRanges n ≡ []
-unfolding fullRanges
+pub full-none : (n : ℕ) → n ≡ 0 → full_ranges n ≡ []
+unfolding full_ranges
 full-none zero e = refl
 full-none (suc n) e = absurd (omega arith)
 
 -- the first, and the m after it
-pub full-more : (n m : ℕ) → n ≡ suc m → fullRanges n ≡ joined (marked m ∷ fullRanges m ∷ [])
-unfolding fullRanges
-full-more n m e = rw e (sym (append_assoc fullRange (markAfter m) (fullRanges m)))
+pub full-more : (n m : ℕ) → n ≡ suc m → full_ranges n ≡ joined (marked m ∷ full_ranges m ∷ [])
+unfolding full_ranges
+full-more n m e = rw e (sym (append_assoc full_range (mark_after m) (full_ranges m)))
 
-length-full : (n : ℕ) → length (fullRanges n) ≡ 23 * n
-unfolding fullRanges
+length-full : (n : ℕ) → length (full_ranges n) ≡ 23 * n
+unfolding full_ranges
 length-full zero = refl
 length-full (suc n) =
     let h = ap length (full-more (suc n) n refl) in
-    omega (arith, h, length-append (marked n) (fullRanges n), length_marked n, length-full n)
+    omega (arith, h, length-append (marked n) (full_ranges n), length_marked n, length-full n)
 
-pub line-none : (n : ℕ) → n ≡ 0 → fullLine n ≡ bytes "ranges=\n"
-unfolding fullLine
+pub line-none : (n : ℕ) → n ≡ 0 → full_line n ≡ bytes "ranges=\n"
+unfolding full_line
 line-none zero e = refl
 line-none (suc n) e = absurd (omega arith)
 
-pub line-some : (n : ℕ) → (n ≡ 0 → ⊥) → fullLine n ≡ joined (bytes "ranges=" ∷ fullRanges n ∷ [])
-unfolding fullLine
+pub line-some : (n : ℕ) → (n ≡ 0 → ⊥) → full_line n ≡ joined (bytes "ranges=" ∷ full_ranges n ∷ [])
+unfolding full_line
 line-some zero h = absurd (h refl)
 line-some (suc n) h = refl
 
-pub length-line-≤ : (n : ℕ) → length (fullLine n) ≤ 8 + 23 * n
+pub length-line-≤ : (n : ℕ) → length (full_line n) ≤ 8 + 23 * n
 length-line-≤ zero = omega (arith, ap length (line-none 0 refl))
 length-line-≤ (suc n) = omega (arith, ap length (line-some (suc n) (λ (e : suc n ≡ 0). omega arith)), length-full (suc n))
 
 -- ---- the first that is not full
 
 module _ (s : Bytes) (p n : ℕ) where
-  pub narrow-none : n ≡ 0 → narrowPlace p n (drop p s) ≡ none
-  unfolding narrowPlace
+  pub narrow-none : n ≡ 0 → narrow_place p n (drop p s) ≡ none
+  unfolding narrow_place
   narrow-none e = rw e
 
   module _ (m : ℕ) (h : n ≡ suc m) where
-    pub narrow-here : begins (marked m) (drop p s) ≡ false → narrowPlace p n (drop p s) ≡ just p
-    unfolding narrowPlace
+    pub narrow-here : begins (marked m) (drop p s) ≡ false → narrow_place p n (drop p s) ≡ just p
+    unfolding narrow_place
     narrow-here e = rw (h, e)
 
-    pub narrow-later : begins (marked m) (drop p s) ≡ true → narrowPlace p n (drop p s) ≡ narrowPlace (p + 23) m (drop (p + 23) s)
-    unfolding narrowPlace
+    pub narrow-later : begins (marked m) (drop p s) ≡ true → narrow_place p n (drop p s) ≡ narrow_place (p + 23) m (drop (p + 23) s)
+    unfolding narrow_place
     narrow-later e = rw (h, e, length_marked m, drop-drop)
 
 -- a full range ends within the sheet

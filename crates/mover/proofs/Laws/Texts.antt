@@ -10,16 +10,16 @@ use lib.ListN.{length, take, drop, length-append, length-drop}
 use lib.Seq.{length-take-le, take-add, drop_at, sets-eq}
 use borrow.Author.Tests.{le-leb, lt-leb}
 use Rattle.specification.specs.Bytes.{Bytes, bytes}
-use Rattle.specification.specs.Moves.{Result, fitted, unless, longestSheet, outputAfter}
+use Rattle.specification.specs.Moves.{Result, fitted, unless, longest_sheet, output_after}
 use Rattle.specification.specs.declared.Move.{Move}
 use Rattle.specification.specs.declared.Move.TheVariants.{Refused, Moved}
 use Rattle.tables.specs.Layout.{Words}
 use Rattle.listing.specs.Put.{Put}
 use Rattle.listing.proofs.Laws.Put.{joined}
-use Rattle.mover.specs.Model.{linesLength, headLines, fullLine, narrowPlace, chunks, rewritten, roundingPlace}
-use Rattle.mover.specs.Model.{headRest, restText, upText, tidyText, downText, narrowOf, roundingOf}
+use Rattle.mover.specs.Model.{lines_length, head_lines, full_line, narrow_place, chunks, rewritten, rounding_place}
+use Rattle.mover.specs.Model.{head_rest, rest_text, up_text, tidy_text, down_text, narrow_of, rounding_of}
 use Rattle.mover.specs.Steps.{Done}
-use Rattle.mover.proofs.Laws.Lines.{linesLength-≤, linesLength-suc}
+use Rattle.mover.proofs.Laws.Lines.{lines_length-≤, lines_length-suc}
 use Rattle.mover.proofs.Laws.Ranges.{length-line-≤}
 use Rattle.mover.proofs.Laws.Chunks.{part, rewritten-≤}
 
@@ -36,117 +36,117 @@ module _ (s : Bytes) where
       ap (λ (n : ℕ). drop a (take n s)) e ∙ ap (λ (x : Bytes). drop a x) (take-add a (b - a) s)
       ∙ drop_at (take a s) (take (b - a) (drop a s)) a (length-take-le a s (omega arith))
 
-  pub head-pieces : edition ≤ linesLength headLines s → (x : Bytes) (h : ℕ) → h ≡ linesLength headLines s →
-      x ++ headRest s ≡ joined (x ∷ part edition h s ∷ [])
-  head-pieces e x h q = rw (part-drop edition (linesLength headLines s) e (linesLength-≤ headLines s), q)
+  pub head-pieces : edition ≤ lines_length head_lines s → (x : Bytes) (h : ℕ) → h ≡ lines_length head_lines s →
+      x ++ head_rest s ≡ joined (x ∷ part edition h s ∷ [])
+  head-pieces e x h q = rw (part-drop edition (lines_length head_lines s) e (lines_length-≤ head_lines s), q)
 
   -- the line after the first n goes from k to e
-  pub rest-pieces : (w : Words) (newer : Bool) (n k e : ℕ) → k ≡ linesLength n s → e ≡ linesLength (n + 1) s →
-      restText w newer n s ≡ joined (part k e s ∷ rewritten w newer 0 0 (chunks (drop e s)) ∷ [])
-  unfolding restText
+  pub rest-pieces : (w : Words) (newer : Bool) (n k e : ℕ) → k ≡ lines_length n s → e ≡ lines_length (n + 1) s →
+      rest_text w newer n s ≡ joined (part k e s ∷ rewritten w newer 0 0 (chunks (drop e s)) ∷ [])
+  unfolding rest_text
   rest-pieces w newer n k e p q =
-      rw (q, p, add-one, part-drop (linesLength n s) (linesLength (suc n) s) (linesLength-suc n s) (linesLength-≤ (suc n) s))
+      rw (q, p, add-one, part-drop (lines_length n s) (lines_length (suc n) s) (lines_length-suc n s) (lines_length-≤ (suc n) s))
 
   -- ---- the texts
 
   pub up-pieces : (n : ℕ) (w : Words) →
-      upText n w s ≡ joined ((bytes "edition=3\n" ++ headRest s) ∷ fullLine n ∷ restText w true headLines s ∷ [])
-  unfolding upText
-  up-pieces n w = sym (append_assoc (bytes "edition=3\n") (headRest s) (fullLine n ++ restText w true headLines s))
+      up_text n w s ≡ joined ((bytes "edition=3\n" ++ head_rest s) ∷ full_line n ∷ rest_text w true head_lines s ∷ [])
+  unfolding up_text
+  up-pieces n w = sym (append_assoc (bytes "edition=3\n") (head_rest s) (full_line n ++ rest_text w true head_lines s))
 
-  pub tidy-pieces : (w : Words) (k : ℕ) → k ≡ linesLength (suc headLines) s →
-      tidyText w s ≡ joined (take k s ∷ restText w true (suc headLines) s ∷ [])
-  unfolding tidyText
+  pub tidy-pieces : (w : Words) (k : ℕ) → k ≡ lines_length (suc head_lines) s →
+      tidy_text w s ≡ joined (take k s ∷ rest_text w true (suc head_lines) s ∷ [])
+  unfolding tidy_text
   tidy-pieces w k e = rw e
 
-  pub down-pieces : (w : Words) → downText w s ≡ joined ((bytes "edition=2\n" ++ headRest s) ∷ restText w false (suc headLines) s ∷ [])
-  unfolding downText
-  down-pieces w = sym (append_assoc (bytes "edition=2\n") (headRest s) (restText w false (suc headLines) s))
+  pub down-pieces : (w : Words) → down_text w s ≡ joined ((bytes "edition=2\n" ++ head_rest s) ∷ rest_text w false (suc head_lines) s ∷ [])
+  unfolding down_text
+  down-pieces w = sym (append_assoc (bytes "edition=2\n") (head_rest s) (rest_text w false (suc head_lines) s))
 
   -- ---- bounds of lengths
 
-  lines-short : (n : ℕ) → length (take (linesLength n s) s) ≤ length s
-  lines-short n = omega (arith, length-take-le (linesLength n s) s (linesLength-≤ n s), linesLength-≤ n s)
+  lines-short : (n : ℕ) → length (take (lines_length n s) s) ≤ length s
+  lines-short n = omega (arith, length-take-le (lines_length n s) s (lines_length-≤ n s), lines_length-≤ n s)
 
-  pub head-short : length (headRest s) ≤ length s
-  head-short = omega (arith, length-drop edition (take (linesLength headLines s) s), lines-short headLines)
+  pub head-short : length (head_rest s) ≤ length s
+  head-short = omega (arith, length-drop edition (take (lines_length head_lines s) s), lines-short head_lines)
 
-  rest-short : (w : Words) (newer : Bool) (n : ℕ) → length (restText w newer n s) ≤ 8 * length s
-  unfolding restText
+  rest-short : (w : Words) (newer : Bool) (n : ℕ) → length (rest_text w newer n s) ≤ 8 * length s
+  unfolding rest_text
   rest-short w newer n =
-      let e = linesLength (suc n) s in
-      let given = drop (linesLength n s) (take e s) in
+      let e = lines_length (suc n) s in
+      let given = drop (lines_length n s) (take e s) in
       let after = drop e s in
       omega (
         arith,
         length-append given (rewritten w newer 0 0 (chunks after)),
-        length-drop (linesLength n s) (take e s),
+        length-drop (lines_length n s) (take e s),
         lines-short (suc n),
         rewritten-≤ w newer 0 0 after,
         length-drop e s,
       )
 
-  pub up-short : (n : ℕ) (w : Words) → length (upText n w s) ≤ 18 + 23 * n + 9 * length s
-  unfolding upText
+  pub up-short : (n : ℕ) (w : Words) → length (up_text n w s) ≤ 18 + 23 * n + 9 * length s
+  unfolding up_text
   up-short n w =
-      let r = restText w true headLines s in
+      let r = rest_text w true head_lines s in
       omega (
         arith,
-        length-append (headRest s) (fullLine n ++ r),
-        length-append (fullLine n) r,
+        length-append (head_rest s) (full_line n ++ r),
+        length-append (full_line n) r,
         head-short,
         length-line-≤ n,
-        rest-short w true headLines,
+        rest-short w true head_lines,
       )
 
-  pub tidy-short : (w : Words) → length (tidyText w s) ≤ 9 * length s
-  unfolding tidyText
+  pub tidy-short : (w : Words) → length (tidy_text w s) ≤ 9 * length s
+  unfolding tidy_text
   tidy-short w =
-      let r = restText w true (suc headLines) s in
+      let r = rest_text w true (suc head_lines) s in
       omega (
         arith,
-        length-append (take (linesLength (suc headLines) s) s) r,
-        lines-short (suc headLines),
-        rest-short w true (suc headLines),
+        length-append (take (lines_length (suc head_lines) s) s) r,
+        lines-short (suc head_lines),
+        rest-short w true (suc head_lines),
       )
 
-  pub down-short : (w : Words) → length (downText w s) ≤ 10 + 9 * length s
-  unfolding downText
+  pub down-short : (w : Words) → length (down_text w s) ≤ 10 + 9 * length s
+  unfolding down_text
   down-short w =
-      let r = restText w false (suc headLines) s in
-      omega (arith, length-append (headRest s) r, head-short, rest-short w false (suc headLines))
+      let r = rest_text w false (suc head_lines) s in
+      omega (arith, length-append (head_rest s) r, head-short, rest-short w false (suc head_lines))
 
 -- ---- places
 
-pub narrow-of : (s : Bytes) (n h : ℕ) (x : Option ℕ) → h ≡ linesLength headLines s →
-    x ≡ narrowPlace (h + 7) n (drop (h + 7) s) → x ≡ narrowOf n s
-unfolding narrowOf
+pub narrow-of : (s : Bytes) (n h : ℕ) (x : Option ℕ) → h ≡ lines_length head_lines s →
+    x ≡ narrow_place (h + 7) n (drop (h + 7) s) → x ≡ narrow_of n s
+unfolding narrow_of
 narrow-of s n h x eh e = rw (← eh) e
 
-pub rounding-of : (s : Bytes) (k : ℕ) (x : Option ℕ) → k ≡ linesLength (suc headLines) s →
-    x ≡ roundingPlace k (drop k s) → x ≡ roundingOf s
-unfolding roundingOf
+pub rounding-of : (s : Bytes) (k : ℕ) (x : Option ℕ) → k ≡ lines_length (suc head_lines) s →
+    x ≡ rounding_place k (drop k s) → x ≡ rounding_of s
+unfolding rounding_of
 rounding-of s k x ek e = rw (← ek) e
 
 -- ---- what is left
 
 module _ (o : Bytes) where
   module _ (t : Bytes) (n : ℕ) (size : n ≡ length t) where
-    pub done-long : longestSheet < n → Done (fitted t) (Refused 2 longestSheet) o o
-    unfolding fitted outputAfter
-    done-long h = rw (lt-leb (length t) longestSheet (omega arith)) (refl, refl)
+    pub done-long : longest_sheet < n → Done (fitted t) (Refused 2 longest_sheet) o o
+    unfolding fitted output_after
+    done-long h = rw (lt-leb (length t) longest_sheet (omega arith)) (refl, refl)
 
-    pub done-moved : (o' : Bytes) (k : ℕ) → n ≤ longestSheet → longestSheet ≤ length o → Put o o' 0 t k → Done (fitted t) (Moved n) o o'
-    unfolding fitted outputAfter
+    pub done-moved : (o' : Bytes) (k : ℕ) → n ≤ longest_sheet → longest_sheet ≤ length o → Put o o' 0 t k → Done (fitted t) (Moved n) o o'
+    unfolding fitted output_after
     done-moved o' k h l put =
-        rw (le-leb (length t) longestSheet (omega arith)) (
+        rw (le-leb (length t) longest_sheet (omega arith)) (
           ap (λ n. Moved n) size,
           put.bytes ∙ sets-eq t o 0 (omega arith) ∙ ap (λ n. t ++ drop n o) {x = 0 + length t} {y = length t} (omega arith),
         )
 
   -- another refusal
   pub done-some : (m p : ℕ) (x : Option ℕ) (r : Result) → just p ≡ x → Done (unless m x r) (Refused m p) o o
-  unfolding outputAfter
+  unfolding output_after
   done-some m p x r e = rw (← e) (refl, refl)
 
   -- or none

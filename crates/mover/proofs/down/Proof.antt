@@ -3,9 +3,9 @@ use native.Mathlib.Omega.{arith}
 use mathlib.Core.Path.{sym, ap, ◌∙◌}
 use borrow.Author.Rules.{rules}
 use Rattle.specification.specs.Moves.{unless, fitted}
-use Rattle.mover.specs.Model.{headLines, downText, narrowOf, roundingOf, downResult}
+use Rattle.mover.specs.Model.{head_lines, down_text, narrow_of, rounding_of, down_result}
 use Rattle.mover.specs.Steps.{placed}
-use Rattle.mover.proofs.Laws.Lines.{linesLength-≤}
+use Rattle.mover.proofs.Laws.Lines.{lines_length-≤}
 use Rattle.mover.proofs.Laws.Texts.{narrow-of, done-some, done_none}
 use Rattle.mover.proofs.down.Statement.{statement}
 use Rattle.mover.proofs.down.Tie as tie
@@ -16,7 +16,7 @@ lines-end-requires c κs = search rules
 add-narrow : tie.Need-overflow-add-narrow
 add-narrow c =
     let s = c.before.before.before.before in
-    omega (arith, c.lines_end.ensures, linesLength-≤ headLines s.args.s.now, s.requires.0.short)
+    omega (arith, c.lines_end.ensures, lines_length-≤ head_lines s.args.s.now, s.requires.0.short)
 
 narrow-requires : tie.Need-narrow-requires
 narrow-requires c κs = search rules
@@ -31,21 +31,21 @@ down-full-requires : tie.Need-down-full-requires
 down-full-requires c κs = search rules
 
 returns : tie.Need-returns
-unfolding downResult
+unfolding down_result
 returns c =
     let at_p = c.before in
     let at-narrow = at_p.before.before in
     let at-lines = at-narrow.before in
     let a = at-lines.before.before.before.before.args in
     let s = a.s.now in
-    done-some a.out.now 15 _ (narrowOf a.ranges s) (unless 16 (roundingOf s) (fitted (downText a.w.now s)))
+    done-some a.out.now 15 _ (narrow_of a.ranges s) (unless 16 (rounding_of s) (fitted (down_text a.w.now s)))
     (narrow-of s a.ranges _ _ at-lines.lines_end.ensures (ap placed (sym at_p.p.given.1) ∙ at-narrow.narrow.ensures))
 
 same_length : tie.Need-same-length
 same_length c = search rules
 
 returns-2 : tie.Need-returns-2
-unfolding downResult
+unfolding down_result
 returns-2 c =
     let at-full = c.before.before in
     let at_told = at-full.before.before in
@@ -53,7 +53,7 @@ returns-2 c =
     let at-lines = at-narrow.before in
     let a = at-lines.before.before.before.before.args in
     let s = a.s.now in
-    done_none a.out.now _ 15 (narrowOf a.ranges s) (unless 16 (roundingOf s) (fitted (downText a.w.now s))) _
+    done_none a.out.now _ 15 (narrow_of a.ranges s) (unless 16 (rounding_of s) (fitted (down_text a.w.now s))) _
     (narrow-of s a.ranges _ _ at-lines.lines_end.ensures (ap placed (sym at_told.enum_told.given.1) ∙ at-narrow.narrow.ensures))
     at-full.down-full.ensures
 

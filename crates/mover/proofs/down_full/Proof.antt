@@ -2,7 +2,7 @@
 use mathlib.Core.Path.{sym, ap, ◌∙◌}
 use borrow.Author.Rules.{rules}
 use Rattle.specification.specs.Moves.{fitted}
-use Rattle.mover.specs.Model.{downText, roundingOf}
+use Rattle.mover.specs.Model.{down_text, rounding_of}
 use Rattle.mover.specs.Steps.{placed}
 use Rattle.mover.proofs.Laws.Texts.{rounding-of, done-some, done_none}
 use Rattle.mover.proofs.down_full.Statement.{statement}
@@ -33,7 +33,7 @@ returns c =
     let at-lines = at-rounding.before in
     let a = at-lines.before.before.before.before.args in
     let s = a.s.now in
-    done-some a.out.now 16 _ (roundingOf s) (fitted (downText a.w.now s))
+    done-some a.out.now 16 _ (rounding_of s) (fitted (down_text a.w.now s))
     (rounding-of s _ _ at-lines.lines_end.ensures (ap placed (sym at_p.p.given.1) ∙ at-rounding.rounding.ensures))
 
 same_length : tie.Need-same-length
@@ -47,7 +47,7 @@ returns-2 c =
     let at-lines = at-rounding.before in
     let a = at-lines.before.before.before.before.args in
     let s = a.s.now in
-    done_none a.out.now _ 16 (roundingOf s) (fitted (downText a.w.now s)) _
+    done_none a.out.now _ 16 (rounding_of s) (fitted (down_text a.w.now s)) _
     (rounding-of s _ _ at-lines.lines_end.ensures (ap placed (sym at_told.enum_told.given.1) ∙ at-rounding.rounding.ensures))
     at-fit.fit.ensures
 

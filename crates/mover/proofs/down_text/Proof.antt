@@ -7,7 +7,7 @@ use borrow.Author.Rules.{rules}
 use Rattle.specification.specs.Bytes.{bytes}
 use Rattle.listing.specs.Put.{Room}
 use Rattle.listing.proofs.Laws.Put.{Left, pieces-left, less-left, last-left, room-left}
-use Rattle.mover.specs.Model.{headLines, headRest, restText, downText}
+use Rattle.mover.specs.Model.{head_lines, head_rest, rest_text, down_text}
 use Rattle.mover.proofs.Laws.Texts.{down-pieces, down-short}
 use Rattle.mover.proofs.down_text.Statement.{statement}
 use Rattle.mover.proofs.down_text.Tie as tie
@@ -18,11 +18,11 @@ start c = let arg = c.before.before in arg.before.before.before.before
 parted : (c : tie.Start) →
     let a = c.args in
     let s = a.s.now in
-    Left a.out.now 0 (downText a.w.now s) a.out.now 0
-    ((bytes "edition=2\n" ++ headRest s) ∷ restText a.w.now false (suc headLines) s ∷ [])
+    Left a.out.now 0 (down_text a.w.now s) a.out.now 0
+    ((bytes "edition=2\n" ++ head_rest s) ∷ rest_text a.w.now false (suc head_lines) s ∷ [])
 parted c = let a = c.args in pieces-left _ _ _ (down-pieces a.s.now a.w.now)
 
-room : (c : tie.Start) → Room 0 (downText c.args.w.now c.args.s.now)
+room : (c : tie.Start) → Room 0 (down_text c.args.w.now c.args.s.now)
 room c = let a = c.args in omega (arith, down-short a.s.now a.w.now, c.requires.short)
 
 slice-aggregate-head : tie.Need-slice-aggregate-head

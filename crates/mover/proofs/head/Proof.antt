@@ -5,8 +5,8 @@ use lib.ListN.{length-append}
 use borrow.Author.Rules.{rules}
 use Rattle.listing.specs.Put.{Room}
 use Rattle.listing.proofs.Laws.Put.{Left, pieces-left, less-left, last-left, room-left}
-use Rattle.mover.specs.Model.{headLines, headRest}
-use Rattle.mover.proofs.Laws.Lines.{linesLength-≤}
+use Rattle.mover.specs.Model.{head_lines, head_rest}
+use Rattle.mover.proofs.Laws.Lines.{lines_length-≤}
 use Rattle.mover.proofs.Laws.Chunks.{part}
 use Rattle.mover.proofs.Laws.Texts.{head-pieces, head-short}
 use Rattle.mover.proofs.head.Statement.{statement}
@@ -17,17 +17,17 @@ start c = c.before.before.before.before
 
 parted : (c : tie.After-lines-end) →
     let a = (start c).args in
-    Left a.out.now 0 (a.edition.now ++ headRest a.s.now) a.out.now 0
+    Left a.out.now 0 (a.edition.now ++ head_rest a.s.now) a.out.now 0
     (a.edition.now ∷ part 10 c.lines_end.result a.s.now ∷ [])
 parted c =
     let s = start c in
     pieces-left _ _ _ (head-pieces s.args.s.now s.pre.1 s.args.edition.now c.lines_end.result c.lines_end.ensures)
 
-room : (c : tie.Start) → Room 0 (c.args.edition.now ++ headRest c.args.s.now)
+room : (c : tie.Start) → Room 0 (c.args.edition.now ++ head_rest c.args.s.now)
 room c =
     let e = c.args.edition.now in
     let s = c.args.s.now in
-    omega (arith, length-append e (headRest s), head-short s, c.requires.0, c.requires.2)
+    omega (arith, length-append e (head_rest s), head-short s, c.requires.0, c.requires.2)
 
 lines-end-requires : tie.Need-lines-end-requires
 lines-end-requires c κs = search rules
@@ -45,7 +45,7 @@ part-text-end : tie.Need-slice-bounds-text-end
 part-text-end c =
     let at-lines = c.before.before.before.before.before in
     let s = start at-lines in
-    omega (arith, at-lines.lines_end.ensures, linesLength-≤ headLines s.args.s.now)
+    omega (arith, at-lines.lines_end.ensures, lines_length-≤ head_lines s.args.s.now)
 
 text-requires-2 : tie.Need-text-requires-2
 text-requires-2 c κs =

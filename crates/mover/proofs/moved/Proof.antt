@@ -1,6 +1,6 @@
 -- By the way. Assumes nothing.
 use borrow.Author.Rules.{rules}
-use Rattle.mover.specs.Model.{upResult, tidyResult}
+use Rattle.mover.specs.Model.{up_result, tidy_result}
 use Rattle.mover.proofs.moved.Statement.{statement}
 use Rattle.mover.proofs.moved.Tie as tie
 
@@ -26,14 +26,14 @@ same_length : tie.Need-same-length
 same_length c = search rules
 
 returns : tie.Need-returns
-unfolding upResult
+unfolding up_result
 returns c = let u = c.before.before in rw u.before.before.enum_told.given.1 u.fit.ensures
 
 same-length-2 : tie.Need-same-length-2
 same-length-2 c = search rules
 
 returns-2 : tie.Need-returns-2
-unfolding tidyResult
+unfolding tidy_result
 returns-2 c = let u = c.before.before in rw u.before.before.enum-told2.given.1 u.fit2.ensures
 
 same-length-3 : tie.Need-same-length-3

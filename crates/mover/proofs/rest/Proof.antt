@@ -5,8 +5,8 @@ use mathlib.Core.List.{[], ◌∷◌}
 use lib.ListN.{length, drop}
 use borrow.Author.Rules.{rules}
 use Rattle.listing.proofs.Laws.Put.{Left, pieces-left, less-left, last-left, room-left}
-use Rattle.mover.specs.Model.{chunks, rewritten, restText}
-use Rattle.mover.proofs.Laws.Lines.{linesLength-≤, linesLength-next}
+use Rattle.mover.specs.Model.{chunks, rewritten, rest_text}
+use Rattle.mover.proofs.Laws.Lines.{lines_length-≤, lines_length-next}
 use Rattle.mover.proofs.Laws.Chunks.{part}
 use Rattle.mover.proofs.Laws.Texts.{rest-pieces}
 use Rattle.mover.proofs.rest.Statement.{statement}
@@ -23,12 +23,12 @@ within c =
     let a = (start c).args in
     let k = c.before.lines_end.ensures in
     let e = c.lines-end2.ensures in
-    (omega (arith, k, e, linesLength-next a.lines a.s.now), omega (arith, e, linesLength-≤ (a.lines + 1) a.s.now))
+    (omega (arith, k, e, lines_length-next a.lines a.s.now), omega (arith, e, lines_length-≤ (a.lines + 1) a.s.now))
 
 parted : (c : tie.After-lines-end2) →
     let a = (start c).args in
     let e = c.lines-end2.result in
-    Left a.out.now a.at (restText a.w.now a.newer a.lines a.s.now) a.out.now a.at
+    Left a.out.now a.at (rest_text a.w.now a.newer a.lines a.s.now) a.out.now a.at
     (part c.before.lines_end.result e a.s.now ∷ rewritten a.w.now a.newer 0 0 (chunks (drop e a.s.now)) ∷ [])
 parted c =
     let a = (start c).args in

@@ -9,8 +9,8 @@ use lib.Seq.{length-take-le}
 use borrow.Author.Rules.{rules}
 use Rattle.listing.specs.Put.{Room}
 use Rattle.listing.proofs.Laws.Put.{Left, pieces-left, less-left, last-left, room-left}
-use Rattle.mover.specs.Model.{headLines, restText, tidyText}
-use Rattle.mover.proofs.Laws.Lines.{linesLength-≤}
+use Rattle.mover.specs.Model.{head_lines, rest_text, tidy_text}
+use Rattle.mover.proofs.Laws.Lines.{lines_length-≤}
 use Rattle.mover.proofs.Laws.Texts.{tidy-pieces, tidy-short}
 use Rattle.mover.proofs.tidy_text.Statement.{statement}
 use Rattle.mover.proofs.tidy_text.Tie as tie
@@ -21,11 +21,11 @@ start c = c.before.before.before.before
 parted : (c : tie.After-lines-end) →
     let a = (start c).args in
     let s = a.s.now in
-    Left a.out.now 0 (tidyText a.w.now s) a.out.now 0
-    (take c.lines_end.result s ∷ restText a.w.now true (suc headLines) s ∷ [])
+    Left a.out.now 0 (tidy_text a.w.now s) a.out.now 0
+    (take c.lines_end.result s ∷ rest_text a.w.now true (suc head_lines) s ∷ [])
 parted c = let a = (start c).args in pieces-left _ _ _ (tidy-pieces a.s.now a.w.now _ c.lines_end.ensures)
 
-room : (c : tie.Start) → Room 0 (tidyText c.args.w.now c.args.s.now)
+room : (c : tie.Start) → Room 0 (tidy_text c.args.w.now c.args.s.now)
 room c = let a = c.args in omega (arith, tidy-short a.s.now a.w.now, c.requires.short)
 
 add-lines-end : tie.Need-overflow-add-lines-end
@@ -38,7 +38,7 @@ slice-aggregate-text : tie.Need-slice-aggregate-text
 slice-aggregate-text c =
     let l = c.before.before in
     let s = (start l).args.s.now in
-    sym (length-take-le l.lines_end.result s (omega (arith, l.lines_end.ensures, linesLength-≤ (suc headLines) s)))
+    sym (length-take-le l.lines_end.result s (omega (arith, l.lines_end.ensures, lines_length-≤ (suc head_lines) s)))
 
 text-requires : tie.Need-text-requires
 text-requires c κs =

@@ -6,7 +6,7 @@ use borrow.Author.Rules.{rules}
 use Rattle.specification.specs.Bytes.{bytes}
 use Rattle.listing.specs.Put.{Room}
 use Rattle.listing.proofs.Laws.Put.{Left, pieces-left, less-left, last-left, room-left}
-use Rattle.mover.specs.Model.{headLines, fullLine, headRest, restText, upText}
+use Rattle.mover.specs.Model.{head_lines, full_line, head_rest, rest_text, up_text}
 use Rattle.mover.proofs.Laws.Texts.{up-pieces, up-short}
 use Rattle.mover.proofs.up_text.Statement.{statement}
 use Rattle.mover.proofs.up_text.Tie as tie
@@ -17,11 +17,11 @@ start c = let arg = c.before.before in arg.before.before.before.before
 parted : (c : tie.Start) →
     let a = c.args in
     let s = a.s.now in
-    Left a.out.now 0 (upText a.ranges a.w.now s) a.out.now 0
-    ((bytes "edition=3\n" ++ headRest s) ∷ fullLine a.ranges ∷ restText a.w.now true headLines s ∷ [])
+    Left a.out.now 0 (up_text a.ranges a.w.now s) a.out.now 0
+    ((bytes "edition=3\n" ++ head_rest s) ∷ full_line a.ranges ∷ rest_text a.w.now true head_lines s ∷ [])
 parted c = let a = c.args in pieces-left _ _ _ (up-pieces a.s.now a.ranges a.w.now)
 
-room : (c : tie.Start) → Room 0 (upText c.args.ranges c.args.w.now c.args.s.now)
+room : (c : tie.Start) → Room 0 (up_text c.args.ranges c.args.w.now c.args.s.now)
 room c = let a = c.args in omega (arith, up-short a.s.now a.ranges a.w.now, c.requires.0.short, c.requires.1)
 
 slice-aggregate-head : tie.Need-slice-aggregate-head

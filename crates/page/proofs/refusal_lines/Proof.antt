@@ -6,7 +6,7 @@ use mathlib.Core.List.{[], ◌∷◌}
 use lib.ListN.{length}
 use borrow.Author.Rules.{rules}
 use Rattle.specification.specs.Bytes.{bytes}
-use Rattle.specification.specs.Printed.{fieldText, refusalLines}
+use Rattle.specification.specs.Printed.{field_text, refusal_lines}
 use Rattle.listing.specs.Put.{Room}
 use Rattle.listing.proofs.Laws.Put.{Left, pieces-left, less-left, last-left, room-left}
 use Rattle.page.proofs.Lines.{refusal-bound}
@@ -16,14 +16,14 @@ use Rattle.page.proofs.refusal_lines.Tie as tie
 -- the two lines
 parted : (c : tie.Start) →
     let a = c.args in
-    Left a.lines.now 0 (refusalLines a.number a.place) a.lines.now 0
-    (fieldText (bytes "refused=") a.number ∷ fieldText (bytes "at=") a.place ∷ [])
+    Left a.lines.now 0 (refusal_lines a.number a.place) a.lines.now 0
+    (field_text (bytes "refused=") a.number ∷ field_text (bytes "at=") a.place ∷ [])
 parted c = pieces-left _ _ _ refl
 
-bound : (c : tie.Start) → length (refusalLines c.args.number c.args.place) ≤ 43
+bound : (c : tie.Start) → length (refusal_lines c.args.number c.args.place) ≤ 43
 bound c = refusal-bound c.args.number c.args.place c.ranges.number.fits c.ranges.place.fits
 
-room : (c : tie.Start) → Room 0 (refusalLines c.args.number c.args.place)
+room : (c : tie.Start) → Room 0 (refusal_lines c.args.number c.args.place)
 room c = omega (arith, bound c)
 
 slice-aggregate-field : tie.Need-slice-aggregate-field

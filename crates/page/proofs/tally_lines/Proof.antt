@@ -4,25 +4,25 @@ use native.Mathlib.Omega.{arith}
 use mathlib.Core.Path.{refl}
 use lib.ListN.{length}
 use borrow.Author.Rules.{rules}
-use Rattle.specification.specs.Printed.{tallyLines}
+use Rattle.specification.specs.Printed.{tally_lines}
 use Rattle.listing.specs.Put.{Room}
 use Rattle.listing.proofs.Laws.Put.{Left, pieces-left, less-left, last-left, room-left}
-use Rattle.page.proofs.Lines.{tallyPieces, tally-bound}
+use Rattle.page.proofs.Lines.{tally_pieces, tally-bound}
 use Rattle.page.proofs.tally_lines.Statement.{statement}
 use Rattle.page.proofs.tally_lines.Tie as tie
 
 -- the four lines
 parted : (c : tie.Start) →
     let a = c.args in
-    Left a.lines.now a.at (tallyLines a.t) a.lines.now a.at (tallyPieces a.t)
+    Left a.lines.now a.at (tally_lines a.t) a.lines.now a.at (tally_pieces a.t)
 parted c = pieces-left _ _ _ refl
 
-bound : (c : tie.After-struct-known) → length (tallyLines c.before.before.before.before.args.t) ≤ 71
+bound : (c : tie.After-struct-known) → length (tally_lines c.before.before.before.before.args.t) ≤ 71
 bound c =
     let f = c.struct_known.given in
     tally-bound c.before.before.before.before.args.t f.0.fits f.1.0.fits f.1.1.0.fits f.1.1.1.0.fits
 
-room : (c : tie.After-struct-known) → let a = c.before.before.before.before.args in Room a.at (tallyLines a.t)
+room : (c : tie.After-struct-known) → let a = c.before.before.before.before.args in Room a.at (tally_lines a.t)
 room c = omega (arith, bound c, c.before.before.before.before.requires)
 
 -- the line before one

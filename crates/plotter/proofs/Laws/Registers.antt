@@ -3,8 +3,8 @@ use Rattle.std.proofs.Common.{◌≡◌, ℕ, ◌+◌, ◌%◌, ◌<◌, Bool, t
 use Rattle.specification.specs.Lists.{Each}
 use Rattle.specification.specs.Bytes.{Bytes}
 use Rattle.plotter.specs.declared.Port.{Port}
-use Rattle.plotter.specs.Port.{After, attempt, step, takes, acknowledged, send, Event, readyAgain, outOfPaper, paperIn, interruptsOn, interruptsOff, occur}
-use Rattle.plotter.specs.History.{Action, aStep, event, History, action, then, play, total}
+use Rattle.plotter.specs.Port.{After, attempt, step, takes, acknowledged, send, Event, ready_again, out_of_paper, paper_in, interrupts_on, interrupts_off, occur}
+use Rattle.plotter.specs.History.{Action, a_step, event, History, action, then, play, total}
 use Rattle.plotter.proofs.Laws.Histories.{every}
 use Rattle.plotter.proofs.Laws.Sent.{in_order}
 use Rattle.plotter.proofs.Laws.Unnamed.{status-byte, control-byte}
@@ -29,15 +29,15 @@ attempt-sum true p (b ∷ bs) h = omega arith
 -- an event leaves sum and data
 occur-keeps : (e : Event) (p : Port) → ((occur e p).sum ≡ p.sum) × ((occur e p).«data» ≡ p.«data»)
 unfolding occur
-occur-keeps readyAgain p = (refl, refl)
-occur-keeps outOfPaper p = (refl, refl)
-occur-keeps paperIn p = (refl, refl)
-occur-keeps interruptsOn p = (refl, refl)
-occur-keeps interruptsOff p = (refl, refl)
+occur-keeps ready_again p = (refl, refl)
+occur-keeps out_of_paper p = (refl, refl)
+occur-keeps paper_in p = (refl, refl)
+occur-keeps interrupts_on p = (refl, refl)
+occur-keeps interrupts_off p = (refl, refl)
 
 action-sum : (x : Action) (p : Port) (u : Bytes) → Summed p (action x p u)
 unfolding action step total
-action-sum aStep p u h = attempt-sum (takes p) p u h
+action-sum a_step p u h = attempt-sum (takes p) p u h
 action-sum (event e) p u h = omega (arith, (occur-keeps e p).0)
 
 -- the sum register is its first value and the bytes sent, added, modulo 256
@@ -70,7 +70,7 @@ attempt-data true p (b ∷ bs) = refl
 
 action-data : (x : Action) (p : Port) (u : Bytes) → (action x p u).port.«data» ≡ last_of p.«data» (action x p u).sent
 unfolding action step last_of
-action-data aStep p u = attempt-data (takes p) p u
+action-data a_step p u = attempt-data (takes p) p u
 action-data (event e) p u = (occur-keeps e p).1
 
 -- the data register holds the byte sent last, or its first value

@@ -5,8 +5,8 @@ use lib.Seq.{take-append_seam}
 use Rattle.specification.specs.Bytes.{Bytes, pick}
 use Rattle.specification.proofs.Laws.Parser.{and-true}
 use Rattle.plotter.specs.declared.Port.{Port}
-use Rattle.plotter.specs.Port.{bit, is_set, put, ready, paperOut, pending, attempt, step, takes, acknowledged, send, Event, readyAgain, outOfPaper, paperIn, interruptsOn, interruptsOff, occur}
-use Rattle.plotter.specs.History.{Action, aStep, event, History, action, then, play, chances}
+use Rattle.plotter.specs.Port.{bit, is_set, put, ready, paper_out, pending, attempt, step, takes, acknowledged, send, Event, ready_again, out_of_paper, paper_in, interrupts_on, interrupts_off, occur}
+use Rattle.plotter.specs.History.{Action, a_step, event, History, action, then, play, chances}
 use Rattle.plotter.proofs.Laws.Bits.{bit-put, bit_below}
 use Rattle.plotter.proofs.Laws.Step.{step-idle}
 use Rattle.plotter.proofs.Laws.Histories.{every, one_more}
@@ -21,7 +21,7 @@ attempt-in-order true p (b ∷ bs) = refl
 
 action-in-order : (x : Action) (p : Port) (u : Bytes) → (action x p u).sent ++ (action x p u).unsent ≡ u
 unfolding action step
-action-in-order aStep p u = attempt-in-order (takes p) p u
+action-in-order a_step p u = attempt-in-order (takes p) p u
 action-in-order (event e) p u = refl
 
 -- the bytes sent, with what is left unsent behind them, are the listing: each byte is sent once and in order
@@ -57,7 +57,7 @@ step_fits p u = omega (arith, attempt-counts (takes p) p u)
 pub counts : (h : History) (p : Port) (u : Bytes) → length (play h p u).sent ≡ min (chances h p u) (length u)
 unfolding play then action step chances
 counts [] p u = omega arith
-counts (aStep ∷ h) p u =
+counts (a_step ∷ h) p u =
     let first = step p u in
     let rest = play h first.port first.unsent in
     omega (
@@ -96,34 +96,34 @@ pub event-sends-nothing : (h : History) (e : Event) (p : Port) (u : Bytes) → (
 unfolding then action
 event-sends-nothing h e p u = rw (one_more h (event e) p u) (append-nil (play h p u).sent)
 
-not_taken : (p : Port) → (is_set ready p.status ≡ false) ⊎ (is_set paperOut p.status ≡ true) → takes p ≡ false
+not_taken : (p : Port) → (is_set ready p.status ≡ false) ⊎ (is_set paper_out p.status ≡ true) → takes p ≡ false
 unfolding takes
 not_taken p (inl e) = rw e
 not_taken p (inr e) = rw e (and-false (is_set ready p.status))
 
 -- and neither does a step that finds ready clear or paper out
 pub step-sends-nothing :
-    (h : History) (p : Port) (u : Bytes) → (is_set ready (play h p u).port.status ≡ false) ⊎ (is_set paperOut (play h p u).port.status ≡ true) →
-    (play (h ++ (aStep ∷ [])) p u).sent ≡ (play h p u).sent
+    (h : History) (p : Port) (u : Bytes) → (is_set ready (play h p u).port.status ≡ false) ⊎ (is_set paper_out (play h p u).port.status ≡ true) →
+    (play (h ++ (a_step ∷ [])) p u).sent ≡ (play h p u).sent
 unfolding then action
 step-sends-nothing h p u why =
     let a = play h p u in
-    rw (one_more h aStep p u, step-idle a.port a.unsent (not_taken a.port why)) (append-nil a.sent)
+    rw (one_more h a_step p u, step-idle a.port a.unsent (not_taken a.port why)) (append-nil a.sent)
 
 -- ---- each byte has a ready of its own
 
 -- how often the device sets ready
-abbrev pub setsReady : Event → ℕ
-setsReady readyAgain = 1
-setsReady outOfPaper = 0
-setsReady paperIn = 0
-setsReady interruptsOn = 0
-setsReady interruptsOff = 0
+abbrev pub sets_ready : Event → ℕ
+sets_ready ready_again = 1
+sets_ready out_of_paper = 0
+sets_ready paper_in = 0
+sets_ready interrupts_on = 0
+sets_ready interrupts_off = 0
 
 unfoldable pub readies : History → ℕ
 readies [] = 0
-readies (aStep ∷ h) = readies h
-readies (event e ∷ h) = setsReady e + readies h
+readies (a_step ∷ h) = readies h
+readies (event e ∷ h) = sets_ready e + readies h
 
 taken-ready : (p : Port) → takes p ≡ true → bit ready p.status ≡ 1
 unfolding takes is_set
@@ -137,13 +137,13 @@ attempt-ready false p u e = omega (arith, bit-put ready pending 0 p.status (omeg
 attempt-ready true p [] e = omega (arith, bit-put ready pending 0 p.status (omega arith))
 attempt-ready true p (b ∷ bs) e = omega (arith, taken-ready p e, bit-put ready ready 0 (put pending 0 p.status) (omega arith))
 
-occur-ready : (e : Event) (p : Port) → bit ready (occur e p).status ≤ bit ready p.status + setsReady e
+occur-ready : (e : Event) (p : Port) → bit ready (occur e p).status ≤ bit ready p.status + sets_ready e
 unfolding occur
-occur-ready readyAgain p = omega (arith, bit_below ready (occur readyAgain p).status)
-occur-ready outOfPaper p = omega (arith, bit-put ready paperOut 1 p.status (omega arith))
-occur-ready paperIn p = omega (arith, bit-put ready paperOut 0 p.status (omega arith))
-occur-ready interruptsOn p = omega arith
-occur-ready interruptsOff p = omega arith
+occur-ready ready_again p = omega (arith, bit_below ready (occur ready_again p).status)
+occur-ready out_of_paper p = omega (arith, bit-put ready paper_out 1 p.status (omega arith))
+occur-ready paper_in p = omega (arith, bit-put ready paper_out 0 p.status (omega arith))
+occur-ready interrupts_on p = omega arith
+occur-ready interrupts_off p = omega arith
 
 -- a byte goes for each time that ready is set, or fewer: the plotter is never sent two for one
 pub one-for-each-ready :
@@ -151,7 +151,7 @@ pub one-for-each-ready :
     length (play h p u).sent + bit ready (play h p u).port.status ≤ bit ready p.status + readies h
 unfolding play then action step readies
 one-for-each-ready [] p u = omega arith
-one-for-each-ready (aStep ∷ h) p u =
+one-for-each-ready (a_step ∷ h) p u =
     let first = step p u in
     omega (
       arith,

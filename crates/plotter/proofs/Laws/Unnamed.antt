@@ -3,8 +3,8 @@
 use Rattle.std.proofs.Common.{◌≡◌, ℕ, ◌<◌, ◌≤◌, Bool, true, false, [], ◌∷◌, refl, ◌∙◌, arith, ne_eqb}
 use Rattle.specification.specs.Bytes.{Bytes, pick}
 use Rattle.plotter.specs.declared.Port.{Port}
-use Rattle.plotter.specs.Port.{bit, is_set, put, ready, paperOut, pending, interrupts, attempt, step, takes, acknowledged, send, Event, readyAgain, outOfPaper, paperIn, interruptsOn, interruptsOff, occur}
-use Rattle.plotter.specs.History.{Action, aStep, event, History, action, then, play}
+use Rattle.plotter.specs.Port.{bit, is_set, put, ready, paper_out, pending, interrupts, attempt, step, takes, acknowledged, send, Event, ready_again, out_of_paper, paper_in, interrupts_on, interrupts_off, occur}
+use Rattle.plotter.specs.History.{Action, a_step, event, History, action, then, play}
 use Rattle.plotter.proofs.Laws.Bits.{bit-put, put-below}
 use Rattle.plotter.proofs.Laws.Histories.{every}
 
@@ -41,19 +41,19 @@ attempt-changes true p (b ∷ bs) = puts ready 0 (omega arith) (omega arith) (ac
 
 occur-changes : (e : Event) (p : Port) → Changed pending p.status (occur e p).status
 unfolding occur
-occur-changes readyAgain p = by (is_set interrupts p.control) (puts ready 1 (omega arith) (omega arith) same)
+occur-changes ready_again p = by (is_set interrupts p.control) (puts ready 1 (omega arith) (omega arith) same)
   where
     by : {s s' : ℕ} (t : Bool) → Changed pending s s' → Changed pending s (pick t (put pending 1 s') s')
     by true c = puts pending 1 (omega arith) (omega arith) c
     by false c = c
-occur-changes outOfPaper p = puts paperOut 1 (omega arith) (omega arith) same
-occur-changes paperIn p = puts paperOut 0 (omega arith) (omega arith) same
-occur-changes interruptsOn p = same
-occur-changes interruptsOff p = same
+occur-changes out_of_paper p = puts paper_out 1 (omega arith) (omega arith) same
+occur-changes paper_in p = puts paper_out 0 (omega arith) (omega arith) same
+occur-changes interrupts_on p = same
+occur-changes interrupts_off p = same
 
 action-changes : (x : Action) (p : Port) (u : Bytes) → Changed pending p.status (action x p u).port.status
 unfolding action step
-action-changes aStep p u = attempt-changes (takes p) p u
+action-changes a_step p u = attempt-changes (takes p) p u
 action-changes (event e) p u = occur-changes e p
 
 status-changes : (h : History) (p : Port) (u : Bytes) → Changed pending p.status (play h p u).port.status
@@ -75,12 +75,12 @@ attempt-control true p (b ∷ bs) = same
 
 action-control : (x : Action) (p : Port) (u : Bytes) → Changed interrupts p.control (action x p u).port.control
 unfolding action step occur
-action-control aStep p u = attempt-control (takes p) p u
-action-control (event readyAgain) p u = same
-action-control (event outOfPaper) p u = same
-action-control (event paperIn) p u = same
-action-control (event interruptsOn) p u = puts interrupts 1 (omega arith) (omega arith) same
-action-control (event interruptsOff) p u = puts interrupts 0 (omega arith) (omega arith) same
+action-control a_step p u = attempt-control (takes p) p u
+action-control (event ready_again) p u = same
+action-control (event out_of_paper) p u = same
+action-control (event paper_in) p u = same
+action-control (event interrupts_on) p u = puts interrupts 1 (omega arith) (omega arith) same
+action-control (event interrupts_off) p u = puts interrupts 0 (omega arith) (omega arith) same
 
 control-changes : (h : History) (p : Port) (u : Bytes) → Changed interrupts p.control (play h p u).port.control
 unfolding then

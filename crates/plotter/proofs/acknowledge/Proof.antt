@@ -1,6 +1,6 @@
 -- `plotter::acknowledge` meets its contract: its mask clears the bit.
 use Rattle.std.proofs.Common.{ℕ, ap, arith}
-use Rattle.plotter.specs.Port.{pending, withStatus, acknowledged}
+use Rattle.plotter.specs.Port.{pending, with_status, acknowledged}
 use Rattle.plotter.proofs.Laws.Bits.{mask-clears}
 use Rattle.plotter.proofs.acknowledge.Statement.{statement}
 use Rattle.plotter.proofs.acknowledge.Tie as tie
@@ -9,7 +9,7 @@ returns : tie.Need-returns
 unfolding acknowledged
 returns c =
     let port = c.before.args.port in
-    ap (λ (r : ℕ). withStatus r port) (mask-clears 8 pending port.status (omega arith) (omega arith))
+    ap (λ (r : ℕ). with_status r port) (mask-clears 8 pending port.status (omega arith) (omega arith))
 
 pub acknowledge-spec : {M : Type 1} → statement M
 acknowledge-spec = tie.close (tie.spec returns)

@@ -1,5 +1,5 @@
 -- `plotter::takes` meets its contract: its masks test the two bits.
-use Rattle.plotter.specs.Port.{ready, paperOut, takes}
+use Rattle.plotter.specs.Port.{ready, paper_out, takes}
 use Rattle.plotter.proofs.Laws.Bits.{mask-zero, set_if, clear-if}
 use Rattle.plotter.proofs.takes.Statement.{statement}
 use Rattle.plotter.proofs.takes.Tie as tie
@@ -8,7 +8,7 @@ returns : tie.Need-returns
 unfolding takes
 returns c =
     let status = c.before.before.before.args.port.status in
-    rw (set_if ready status c.before.if1.true) (mask-zero paperOut status)
+    rw (set_if ready status c.before.if1.true) (mask-zero paper_out status)
 
 returns-2 : tie.Need-returns-2
 unfolding takes

@@ -2,7 +2,7 @@
 use mathlib.Core.Path.{refl}
 use lib.ListN.{length}
 use borrow.Author.Rules.{rules}
-use Rattle.specification.specs.Bytes.{classNumber, feed}
+use Rattle.specification.specs.Bytes.{class_number, feed}
 use Rattle.sheet.proofs.Only.{only-refused, only-found}
 use Rattle.sheet.proofs.read_only.Statement.{statement}
 use Rattle.sheet.proofs.read_only.Tie as tie
@@ -33,7 +33,7 @@ same_length : tie.Need-same-length
 same_length c = search rules
 
 returns : tie.Need-returns
-unfolding classNumber
+unfolding class_number
 returns c =
     let number = c.before.before.before.before.before in
     let line = number.before.before in
@@ -46,7 +46,7 @@ same-length-2 : tie.Need-same-length-2
 same-length-2 c = search rules
 
 returns-2 : tie.Need-returns-2
-unfolding classNumber
+unfolding class_number
 returns-2 c =
     let call = c.before.before in
     let told = call.before.before in

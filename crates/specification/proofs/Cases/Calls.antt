@@ -3,18 +3,18 @@ use Prim.Native.String.{String}
 use mathlib.Core.Path.{◌≡◌, refl}
 use mathlib.Core.List.{List, [], ◌∷◌, ◌++◌, map}
 use Rattle.specification.specs.Bytes.{Bytes, bytes}
-use Rattle.specification.proofs.Cases.Bundles.{read-defs, tree-defs, run-defs}
+use Rattle.specification.proofs.Cases.Bundles.{ReadDefs, TreeDefs, RunDefs}
 use Rattle.specification.proofs.Cases.Case.{Case, boxed, given, due}
 use Rattle.specification.proofs.Cases.Decided.{repeated}
 
 -- a sheet of this edition with two scalars, two locals and an array of two, the lines of its procedures and its formula
-abbrev sheetWith : String → Bytes → String → Bytes
-sheetWith edition procedures formula =
+abbrev sheet_with : String → Bytes → String → Bytes
+sheet_with edition procedures formula =
     bytes "edition=" ++ bytes edition ++ bytes "\nscalars=2\nlocals=2\narrays=2\ngiven=\n" ++ procedures ++ bytes "formula=" ++ bytes formula ++ bytes "\n"
 
 -- of edition 2, at the box
 abbrev library : String → String → String → Case
-library procedures formula page = boxed (sheetWith "2" (bytes procedures) formula) page
+library procedures formula page = boxed (sheet_with "2" (bytes procedures) formula) page
 
 unfoldable pub calls : List Case
 calls =
@@ -61,12 +61,12 @@ calls =
     ∷ library "proc=0:true \n" "true" "refused=5\nat=56\n"
     ∷ library "prod=0:true\n" "true" "refused=3\nat=45\n"
     ∷ library "proc=0:ex l0 true\n" "ex l0 true" "refused=8\nat=74\n"
-    ∷ boxed (sheetWith "2" (repeated 17 (bytes "proc=0:true\n")) "true") "refused=3\nat=237\n"
-    ∷ boxed (sheetWith "1" (bytes "") "call 0") "refused=6\nat=53\n"
-    ∷ boxed (sheetWith "1" (bytes "") "eq p0 1") "refused=6\nat=56\n"
-    ∷ boxed (sheetWith "1" (bytes "proc=0:true\n") "true") "refused=3\nat=45\n"
+    ∷ boxed (sheet_with "2" (repeated 17 (bytes "proc=0:true\n")) "true") "refused=3\nat=237\n"
+    ∷ boxed (sheet_with "1" (bytes "") "call 0") "refused=6\nat=53\n"
+    ∷ boxed (sheet_with "1" (bytes "") "eq p0 1") "refused=6\nat=56\n"
+    ∷ boxed (sheet_with "1" (bytes "proc=0:true\n") "true") "refused=3\nat=45\n"
     ∷ []
 
 pub decided-calls : map given calls ≡ map due calls
-unfolding calls repeated read-defs tree-defs run-defs
+unfolding calls repeated ReadDefs TreeDefs RunDefs
 decided-calls = refl

@@ -5,7 +5,7 @@ use mathlib.Core.List.{◌++◌}
 use Rattle.specification.specs.declared.Setting.{Setting}
 use Rattle.specification.specs.Bytes.{Bytes, bytes}
 use Rattle.specification.specs.Outcome.{call}
-use Rattle.specification.specs.Printed.{printed, boxSkip, boxWords, boxOutput, box}
+use Rattle.specification.specs.Printed.{printed, box_skip, box_words, box_output, box}
 
 -- the box with this input; or a call under a setting, with so many work words and output bytes
 pub data Case : Type 0 where
@@ -23,14 +23,14 @@ due (called sheet S words size page) = bytes page
 
 -- under a path limit and a budget, with the box's memory
 abbrev pub under : ℕ → ℕ → Bytes → String → Case
-under path budget sheet page = called sheet (record { path = path; budget = budget; skip = boxSkip }) boxWords boxOutput page
+under path budget sheet page = called sheet (record { path = path; budget = budget; skip = box_skip }) box_words box_output page
 
 -- a sheet with so many scalars, locals and arrays, nothing given, and its formula
-abbrev pub sheetOf : String → String → String → String → Bytes
-sheetOf scalars locals arrays formula =
+abbrev pub sheet_of : String → String → String → String → Bytes
+sheet_of scalars locals arrays formula =
     bytes "edition=1\nscalars="
     ++ bytes scalars ++ bytes "\nlocals=" ++ bytes locals ++ bytes "\narrays=" ++ bytes arrays ++ bytes "\ngiven=\nformula=" ++ bytes formula ++ bytes "\n"
 
 -- one scalar and one local, at the box
 abbrev pub single : String → String → Case
-single formula page = boxed (sheetOf "1" "1" "" formula) page
+single formula page = boxed (sheet_of "1" "1" "" formula) page

@@ -3,7 +3,7 @@ use Prim.Native.String.{String}
 use mathlib.Core.Path.{◌≡◌, refl}
 use mathlib.Core.List.{List, [], ◌∷◌, ◌++◌, map}
 use Rattle.specification.specs.Bytes.{bytes}
-use Rattle.specification.proofs.Cases.Bundles.{read-defs, tree-defs, run-defs}
+use Rattle.specification.proofs.Cases.Bundles.{ReadDefs, TreeDefs, RunDefs}
 use Rattle.specification.proofs.Cases.Case.{Case, boxed, given, due, single}
 
 -- one scalar and one local, of edition 3, where the scalar may have every value, and of edition 2
@@ -14,8 +14,8 @@ third formula page =
 abbrev second : String → String → Case
 second formula page = boxed (bytes "edition=2\nscalars=1\nlocals=1\narrays=\ngiven=\nformula=" ++ bytes formula ++ bytes "\n") page
 
-unfoldable pub divisionCases : List Case
-divisionCases =
+unfoldable pub division_cases : List Case
+division_cases =
     -- rounded down: both signs of both operands, and what is left goes with it by the equation
     third "eq v0 div -7 2" "answer=1\nv0=-4\nend=done\nnodes=3\nanswers=1\nerrors=0\nfails=0\n"
     ∷ third "eq v0 mod -7 2" "answer=1\nv0=1\nend=done\nnodes=3\nanswers=1\nerrors=0\nfails=0\n"
@@ -62,6 +62,6 @@ divisionCases =
     ∷ boxed (bytes "edition=2\nscalars=1\nlocals=0\narrays=\ngiven=\nproc=2:eq p0 mod sub p1 1 12\nformula=call 0 v0 0\n") "answer=1\nv0=-1\nend=done\nnodes=4\nanswers=1\nerrors=0\nfails=0\n"
     ∷ []
 
-pub decided-division : map given divisionCases ≡ map due divisionCases
-unfolding divisionCases read-defs tree-defs run-defs
+pub decided-division : map given division_cases ≡ map due division_cases
+unfolding division_cases ReadDefs TreeDefs RunDefs
 decided-division = refl

@@ -3,19 +3,19 @@
 use mathlib.Core.Path.{◌≡◌, refl}
 use mathlib.Core.List.{List, [], ◌∷◌, map}
 use Rattle.specification.specs.Bytes.{Bytes}
-use Rattle.specification.specs.Printed.{boxPath, boxBudget}
-use Rattle.specification.proofs.Cases.Bundles.{read-defs, tree-defs, run-defs}
-use Rattle.specification.proofs.Cases.Case.{Case, boxed, given, due, under, sheetOf, single}
+use Rattle.specification.specs.Printed.{box_path, box_budget}
+use Rattle.specification.proofs.Cases.Bundles.{ReadDefs, TreeDefs, RunDefs}
+use Rattle.specification.proofs.Cases.Case.{Case, boxed, given, due, under, sheet_of, single}
 
 -- formula (1.1) of the paper
 abbrev pub formula11 : Bytes
-formula11 = sheetOf "2" "0" "" "and and or eq v0 2 eq v0 3 or eq v1 add v0 1 eq 2 v1 eq mul 2 v0 mul 3 v1"
+formula11 = sheet_of "2" "0" "" "and and or eq v0 2 eq v0 3 or eq v1 add v0 1 eq 2 v1 eq mul 2 v0 mul 3 v1"
 
 unfoldable pub marked : List Case
 marked =
     boxed formula11 "answer=1\nv0=3\nv1=2\nend=done\nnodes=20\nanswers=1\nerrors=0\nfails=3\n"
-    ∷ under boxPath 19 formula11 "end=spent\nnodes=19\nanswers=0\nerrors=0\nfails=3\n"
-    ∷ under 8 boxBudget formula11 "end=path\nnodes=19\nanswers=0\nerrors=0\nfails=3\n"
+    ∷ under box_path 19 formula11 "end=spent\nnodes=19\nanswers=0\nerrors=0\nfails=3\n"
+    ∷ under 8 box_budget formula11 "end=path\nnodes=19\nanswers=0\nerrors=0\nfails=3\n"
     ∷ under 9 20 formula11 "answer=1\nv0=3\nv1=2\nend=done\nnodes=20\nanswers=1\nerrors=0\nfails=3\n"
     ∷ single "true" "answer=1\nend=done\nnodes=3\nanswers=1\nerrors=0\nfails=0\n"
     ∷ single "and eq v0 0 lt v0 1" "answer=1\nv0=0\nend=done\nnodes=5\nanswers=1\nerrors=0\nfails=0\n"
@@ -26,7 +26,7 @@ marked =
     ∷ single "not or eq 1 2 eq 1 div 1 0" "error=1\nkind=6\nat=0\nend=done\nnodes=7\nanswers=0\nerrors=1\nfails=0\n"
     ∷ single "all l0 1 0 eq 1 2" "answer=1\nend=done\nnodes=3\nanswers=1\nerrors=0\nfails=0\n"
     ∷ single "some l0 1 0 true" "end=done\nnodes=2\nanswers=0\nerrors=0\nfails=1\n"
-    ∷ boxed (sheetOf "1" "1" "3" "all l0 0 2 eq a0 l0 mul l0 l0") "answer=1\na0.0=0\na0.1=1\na0.2=4\nend=done\nnodes=9\nanswers=1\nerrors=0\nfails=0\n"
+    ∷ boxed (sheet_of "1" "1" "3" "all l0 0 2 eq a0 l0 mul l0 l0") "answer=1\na0.0=0\na0.1=1\na0.2=4\nend=done\nnodes=9\nanswers=1\nerrors=0\nfails=0\n"
     ∷ single "eq v0 div -7 2" "answer=1\nv0=-3\nend=done\nnodes=3\nanswers=1\nerrors=0\nfails=0\n"
     ∷ single "eq v0 mod -7 2" "answer=1\nv0=-1\nend=done\nnodes=3\nanswers=1\nerrors=0\nfails=0\n"
     ∷ single "eq v0 add 2147483647 1" "error=1\nkind=2\nat=0\nend=done\nnodes=2\nanswers=0\nerrors=1\nfails=0\n"
@@ -34,5 +34,5 @@ marked =
     ∷ []
 
 pub marked-cases : map given marked ≡ map due marked
-unfolding marked read-defs tree-defs run-defs
+unfolding marked ReadDefs TreeDefs RunDefs
 marked-cases = refl

@@ -3,9 +3,9 @@ use Prim.Native.String.{String}
 use mathlib.Core.Path.{◌≡◌, refl}
 use mathlib.Core.List.{List, [], ◌∷◌, ◌++◌, map}
 use Rattle.specification.specs.Bytes.{Bytes, bytes}
-use Rattle.specification.specs.Moves.{Result, refusal, moved, longestSheet, wordsToMove, moveUp, tidy, moveDown}
+use Rattle.specification.specs.Moves.{Result, refusal, moved, longest_sheet, words_to_move, move_up, tidy, move_down}
 use Rattle.specification.specs.Moving.{Way}
-use Rattle.specification.proofs.Cases.Bundles.{read-defs, move-defs}
+use Rattle.specification.proofs.Cases.Bundles.{ReadDefs, MoveDefs}
 
 -- a sheet, which way it goes, and what is due
 pub record Case : Type 0 where
@@ -14,10 +14,10 @@ pub record Case : Type 0 where
   pub due : Result
 
 abbrev up : String → Result → Case
-up sheet due = record { way = moveUp; sheet = bytes sheet; due = due }
+up sheet due = record { way = move_up; sheet = bytes sheet; due = due }
 
 abbrev down : String → Result → Case
-down sheet due = record { way = moveDown; sheet = bytes sheet; due = due }
+down sheet due = record { way = move_down; sheet = bytes sheet; due = due }
 
 abbrev pass : String → Result → Case
 pass sheet due = record { way = tidy; sheet = bytes sheet; due = due }
@@ -25,8 +25,8 @@ pass sheet due = record { way = tidy; sheet = bytes sheet; due = due }
 abbrev to : String → Result
 to sheet = moved (bytes sheet)
 
-unfoldable pub moveCases : List Case
-moveCases =
+unfoldable pub move_cases : List Case
+move_cases =
     -- all of 32 bits for each scalar and each array, and the words of the older pair
     up "edition=2\nscalars=1\nlocals=0\narrays=3\ngiven=v0:7\nproc=1:eq p0 div v0 2\nformula=call 0 mod a0 1 4\n"
     (moved (bytes "edition=3\nscalars=1\nlocals=0\narrays=3\nranges=-2147483648:2147483647,-2147483648:2147483647\n"
@@ -67,14 +67,14 @@ moveCases =
 
 -- with as much memory as a move asks for
 abbrev given : Case → Result
-given c = c.way c.sheet wordsToMove longestSheet
+given c = c.way c.sheet words_to_move longest_sheet
 
-pub moves-decided : map given moveCases ≡ map (λ c. c.due) moveCases
-unfolding moveCases read-defs move-defs
+pub moves-decided : map given move_cases ≡ map (λ c. c.due) move_cases
+unfolding move_cases ReadDefs MoveDefs
 moves-decided = refl
 
 -- with less of either it is 1 at place 0, whatever the sheet
 pub little-memory : (sheet : Bytes) →
-    (moveUp sheet 6143 4096 ≡ refusal 1 0) × (tidy sheet 6143 4096 ≡ refusal 1 0) × (moveDown sheet 6144 4095 ≡ refusal 1 0)
-unfolding move-defs
+    (move_up sheet 6143 4096 ≡ refusal 1 0) × (tidy sheet 6143 4096 ≡ refusal 1 0) × (move_down sheet 6144 4095 ≡ refusal 1 0)
+unfolding MoveDefs
 little-memory sheet = (refl, refl, refl)

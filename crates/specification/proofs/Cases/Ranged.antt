@@ -3,33 +3,33 @@ use Prim.Native.String.{String}
 use mathlib.Core.Path.{◌≡◌, refl}
 use mathlib.Core.List.{List, [], ◌∷◌, ◌++◌, map}
 use Rattle.specification.specs.Bytes.{Bytes, bytes}
-use Rattle.specification.proofs.Cases.Bundles.{read-defs, tree-defs, run-defs}
+use Rattle.specification.proofs.Cases.Bundles.{ReadDefs, TreeDefs, RunDefs}
 use Rattle.specification.proofs.Cases.Case.{Case, boxed, given, due}
 
 -- a sheet of edition 3 with so many scalars, one local and these arrays, its lines of ranges and of given values, and its formula
-abbrev sheetWith : String → String → String → String → String → Bytes
-sheetWith scalars arrays ranges given formula =
+abbrev sheet_with : String → String → String → String → String → Bytes
+sheet_with scalars arrays ranges given formula =
     bytes "edition=3\nscalars="
     ++ bytes scalars ++ bytes "\nlocals=1\narrays=" ++ bytes arrays ++ bytes "\nranges=" ++ bytes ranges ++ bytes "\ngiven=" ++ bytes given ++ bytes "\nformula=" ++ bytes formula ++ bytes "\n"
 
 -- one scalar with this range, at the box
 abbrev ranged : String → String → String → Case
-ranged range formula page = boxed (sheetWith "1" "" range "" formula) page
+ranged range formula page = boxed (sheet_with "1" "" range "" formula) page
 
 -- and a given value
-abbrev givenIn : String → String → String → Case
-givenIn range given page = boxed (sheetWith "1" "" range given "true") page
+abbrev given_in : String → String → String → Case
+given_in range given page = boxed (sheet_with "1" "" range given "true") page
 
 -- one scalar and an array of two
 abbrev both : String → String → String → String → Case
-both ranges given formula page = boxed (sheetWith "1" "2" ranges given formula) page
+both ranges given formula page = boxed (sheet_with "1" "2" ranges given formula) page
 
 -- no cell
 abbrev none : String → String → Case
-none ranges page = boxed (sheetWith "0" "" ranges "" "true") page
+none ranges page = boxed (sheet_with "0" "" ranges "" "true") page
 
-unfoldable pub rangeCases : List Case
-rangeCases =
+unfoldable pub range_cases : List Case
+range_cases =
     -- a value of the range is given, on either border; one outside is a failure leaf, from either side of the `eq`
     ranged "0:4" "eq v0 4" "answer=1\nv0=4\nend=done\nnodes=3\nanswers=1\nerrors=0\nfails=0\n"
     ∷ ranged "0:4" "eq 0 v0" "answer=1\nv0=0\nend=done\nnodes=3\nanswers=1\nerrors=0\nfails=0\n"
@@ -48,10 +48,10 @@ rangeCases =
     ∷ both "0:4,7:9" "" "and eq v0 4 eq a0 1 7" "answer=1\nv0=4\na0.1=7\nend=done\nnodes=5\nanswers=1\nerrors=0\nfails=0\n"
     ∷ both "0:4,7:9" "" "or eq a0 0 6 eq a0 1 10" "end=done\nnodes=5\nanswers=0\nerrors=0\nfails=2\n"
     -- given values: on the border; outside it, after 7 and 10, before a bad byte after it
-    ∷ givenIn "0:4" "v0:4" "answer=1\nv0=4\nend=done\nnodes=3\nanswers=1\nerrors=0\nfails=0\n"
-    ∷ givenIn "0:4" "v0:5x" "refused=13\nat=54\n"
-    ∷ givenIn "0:4" "v0:-1" "refused=13\nat=54\n"
-    ∷ givenIn "0:4" "v1:5" "refused=7\nat=54\n"
+    ∷ given_in "0:4" "v0:4" "answer=1\nv0=4\nend=done\nnodes=3\nanswers=1\nerrors=0\nfails=0\n"
+    ∷ given_in "0:4" "v0:5x" "refused=13\nat=54\n"
+    ∷ given_in "0:4" "v0:-1" "refused=13\nat=54\n"
+    ∷ given_in "0:4" "v1:5" "refused=7\nat=54\n"
     ∷ both "0:4,7:9" "a0.1:8,a0.0:5" "true" "refused=10\nat=66\n"
     ∷ both "0:4,7:9" "v0:0,a0.0:6" "true" "refused=13\nat=64\n"
     -- lo above hi, once hi is read
@@ -73,6 +73,6 @@ rangeCases =
     ∷ boxed (bytes "edition=2\nscalars=0\nlocals=0\narrays=\nranges=\ngiven=\nformula=true\n") "refused=3\nat=37\n"
     ∷ []
 
-pub decided-ranges : map given rangeCases ≡ map due rangeCases
-unfolding rangeCases read-defs tree-defs run-defs
+pub decided-ranges : map given range_cases ≡ map due range_cases
+unfolding range_cases ReadDefs TreeDefs RunDefs
 decided-ranges = refl

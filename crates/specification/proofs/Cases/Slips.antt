@@ -4,8 +4,8 @@ use Prim.Native.String.{String}
 use mathlib.Core.Path.{◌≡◌, refl}
 use mathlib.Core.List.{List, [], ◌∷◌, ◌++◌, map}
 use Rattle.specification.specs.Bytes.{Bytes, bytes}
-use Rattle.specification.specs.Printed.{boxSetting, boxWords}
-use Rattle.specification.proofs.Cases.Bundles.{read-defs, tree-defs, run-defs}
+use Rattle.specification.specs.Printed.{box_setting, box_words}
+use Rattle.specification.proofs.Cases.Bundles.{ReadDefs, TreeDefs, RunDefs}
 use Rattle.specification.proofs.Cases.Case.{Case, boxed, called, given, due}
 
 -- the lines of edition 3 up to the procedures, with one scalar and two locals
@@ -25,8 +25,8 @@ abbrev older : String → String → String → Case
 older edition formula page =
     boxed (bytes "edition=" ++ bytes edition ++ bytes "\nscalars=1\nlocals=2\narrays=\ngiven=\nformula=" ++ bytes formula ++ bytes "\n") page
 
-unfoldable pub slipCases : List Case
-slipCases =
+unfoldable pub slip_cases : List Case
+slip_cases =
     -- 17 at the quantifier, of either sort, by as little as one; equal bounds have one value between them
     newer "some l0 8 1 true" "refused=17\nat=63\n"
     ∷ newer "all l0 2147483647 2147483646 true" "refused=17\nat=63\n"
@@ -49,11 +49,11 @@ slipCases =
     ∷ older "2" "all l0 8 1 eq v0 1" "answer=1\nend=done\nnodes=3\nanswers=1\nerrors=0\nfails=0\n"
     -- a sheet before its move and after it: only the `at=` line is another, and with too little output only the second has an answer
     ∷ called (bytes "edition=2\nscalars=1\nlocals=1\narrays=\ngiven=\nformula=or some l0 8 1 and eq 1 1 eq 1 1 or lt v0 1 true\n")
-    boxSetting boxWords 29 "error=1\nkind=1\nat=13\nend=output\nnodes=9\nanswers=0\nerrors=1\nfails=1\n"
+    box_setting box_words 29 "error=1\nkind=1\nat=13\nend=output\nnodes=9\nanswers=0\nerrors=1\nfails=1\n"
     ∷ called (bytes "edition=3\nscalars=1\nlocals=1\narrays=\nranges=-2147483648:2147483647\ngiven=\nformula=or eq 0 1 or lt v0 1 true\n")
-    boxSetting boxWords 29 "error=1\nkind=1\nat=5\nanswer=1\nend=done\nnodes=9\nanswers=1\nerrors=1\nfails=1\n"
+    box_setting box_words 29 "error=1\nkind=1\nat=5\nanswer=1\nend=done\nnodes=9\nanswers=1\nerrors=1\nfails=1\n"
     ∷ []
 
-pub decided-slips : map given slipCases ≡ map due slipCases
-unfolding slipCases read-defs tree-defs run-defs
+pub decided-slips : map given slip_cases ≡ map due slip_cases
+unfolding slip_cases ReadDefs TreeDefs RunDefs
 decided-slips = refl

@@ -13,19 +13,19 @@ use borrow.Author.Tests.{leb-false, not-true, eqb-false}
 use lib.IntN.{ℤ, pos, negsuc, ◌+ℤ◌}
 use lib.Signed.{le_z}
 use Rattle.specification.specs.Bytes.{pick}
-use Rattle.specification.specs.Lines.{Declared, procedureOf}
-use Rattle.specification.specs.Ast.{Rel, Term, constant, scalarAt, local_at, parameter, elementAt, apply, Formula, truth, and, or, imp, neg, eq, compare, ex, some, all, call, Procedure}
-use Rattle.specification.specs.Fill.{fillTerm, fill}
-use Rattle.specification.specs.Formula.{above, emptyRange}
-use Rattle.specification.specs.Sheet.{withProcedures, Sheet}
-use Rattle.specification.specs.Arithmetic.{undecidedInside, eqZ, test, count}
+use Rattle.specification.specs.Lines.{Declared, procedure_of}
+use Rattle.specification.specs.Ast.{Rel, Term, constant, scalar_at, local_at, parameter, element_at, apply, Formula, truth, and, or, imp, neg, eq, compare, ex, some, all, call, Procedure}
+use Rattle.specification.specs.Fill.{fill_term, fill}
+use Rattle.specification.specs.Formula.{above, empty_range}
+use Rattle.specification.specs.Sheet.{with_procedures, Sheet}
+use Rattle.specification.specs.Arithmetic.{undecided_inside, eq_z, test, count}
 use Rattle.specification.specs.Place.{Place, cell, local, put}
 use Rattle.specification.specs.Value.{Slot, empty, full, Valuation, allowed, Side, val, bare, err, Pair, values, faulty, pair_of, side}
 use Rattle.specification.specs.Outside.{binds, gained, gave}
-use Rattle.specification.specs.Tree.{Tree, successLeaf, failureLeaf, errorLeaf, step, fork, fan, ask, Verdict, succeeds, fails, undecided, joined, verdict, Rest, check, assign, equate, compared, bounded, sons, rounds, denied, implied, enquire, done, doneInside, grow, tree_of}
-use Rattle.specification.specs.Outcome.{start, rootOf}
+use Rattle.specification.specs.Tree.{Tree, success_leaf, failure_leaf, error_leaf, step, fork, fan, ask, Verdict, succeeds, fails, undecided, joined, verdict, Rest, check, assign, equate, compared, bounded, sons, rounds, denied, implied, enquire, done, done_inside, grow, tree_of}
+use Rattle.specification.specs.Outcome.{start, root_of}
 use Rattle.specification.specs.WellFormed.{Scope, nowhere, enter, Ok, line_of, OkProcedures, WellFormed}
-use Rattle.specification.specs.Tidy.{falsehood, dropped, numbered, tokensBefore, tidiedProcedure, tidiedProcedures, tidied}
+use Rattle.specification.specs.Tidy.{falsehood, dropped, numbered, tokens_before, tidied_procedure, tidied_procedures, tidied}
 use Rattle.specification.proofs.Laws.Contradiction.{contradiction}
 use Rattle.specification.proofs.Laws.Scope.{In}
 use Rattle.specification.proofs.Laws.Outside.{Within, and-within, or-within, imp-within, binds-fresh}
@@ -52,7 +52,7 @@ data Like : Formula → Formula → Type 0 where
 
 -- terms in place of parameters change no constant
 like-fill : (ts : List Term) {F G : Formula} → Like F G → Like (fill ts F) (fill ts G)
-unfolding fill fillTerm
+unfolding fill fill_term
 like-fill ts truths = truths
 like-fill ts (ands f g) = ands (like-fill ts f) (like-fill ts g)
 like-fill ts (ors f g) = ors (like-fill ts f) (like-fill ts g)
@@ -82,19 +82,19 @@ data None : Term → Term → Type 0 where
 above-none : (x : ℤ) (b : Term) → above x b ≡ true → None (constant x) b
 unfolding above
 above-none x (constant y) e = none (none_between x y e)
-above-none x (scalarAt n) e = contradiction cc
+above-none x (scalar_at n) e = contradiction cc
 above-none x (local_at l) e = contradiction cc
 above-none x (parameter n) e = contradiction cc
-above-none x (elementAt a t) e = contradiction cc
+above-none x (element_at a t) e = contradiction cc
 above-none x (apply o s t) e = contradiction cc
 
-empty-none : (a b : Term) → emptyRange a b ≡ true → None a b
-unfolding emptyRange
+empty-none : (a b : Term) → empty_range a b ≡ true → None a b
+unfolding empty_range
 empty-none (constant x) b e = above-none x b e
-empty-none (scalarAt n) b e = contradiction cc
+empty-none (scalar_at n) b e = contradiction cc
 empty-none (local_at l) b e = contradiction cc
 empty-none (parameter n) b e = contradiction cc
-empty-none (elementAt a t) b e = contradiction cc
+empty-none (element_at a t) b e = contradiction cc
 empty-none (apply o s t) b e = contradiction cc
 
 -- ---- a formula of D, without its empty ranges and numbered anew where the procedures are Ps
@@ -104,7 +104,7 @@ abbrev nothing : Procedure
 nothing = record { parameters = 0; formula = truth }
 
 module _ (D : Declared) (Ps : List Procedure)
-    (procedures : (K : ℕ) → Like (procedureOf D K).formula (get_or Ps K nothing).formula) where
+    (procedures : (K : ℕ) → Like (procedure_of D K).formula (get_or Ps K nothing).formula) where
   no-some-like : {a b : Term} → None a b → (n tok l : ℕ) (F : Formula) → Like (some tok l a b F) (numbered Ps n (falsehood tok))
   unfolding numbered
   no-some-like (none e) n tok l F = no-some e
@@ -130,10 +130,10 @@ module _ (D : Declared) (Ps : List Procedure)
   numbered-like S (compare tok r s t) n o = compares
   numbered-like S (ex l F) n o = exs (numbered-like _ F _ o.2)
   numbered-like S (some tok l a b F) n o =
-      either-like (some tok l a b F) (falsehood tok) (some tok l a b (dropped F)) n (emptyRange a b)
+      either-like (some tok l a b F) (falsehood tok) (some tok l a b (dropped F)) n (empty_range a b)
       (λ e. no-some-like (empty-none a b e) n tok l F) (somes (numbered-like _ F _ o.4))
   numbered-like S (all tok l a b F) n o =
-      either-like (all tok l a b F) truth (all tok l a b (dropped F)) n (emptyRange a b)
+      either-like (all tok l a b F) truth (all tok l a b (dropped F)) n (empty_range a b)
       (λ e. no-all-like (empty-none a b e) n tok l F) (alls (numbered-like _ F _ o.4))
   numbered-like S (call K ts F) n o =
       let P : Procedure = get_or Ps K nothing in
@@ -165,46 +165,46 @@ paired-more (O ∷ Os) (R ∷ Rs) P Q h f = (h.0, paired-more Os Rs P Q h.1 f)
 
 module _ (E : Declared) where
   -- the line of P is well scoped behind those before it, so P is like the tidied one behind what these became
-  next_like : (before : List Procedure) (P : Procedure) (rest done : List Procedure) → OkProcedures (withProcedures (before ++ P ∷ rest) E) →
-      Paired before done → Like P.formula (tidiedProcedure done P).formula
+  next_like : (before : List Procedure) (P : Procedure) (rest done : List Procedure) → OkProcedures (with_procedures (before ++ P ∷ rest) E) →
+      Paired before done → Like P.formula (tidied_procedure done P).formula
   next_like before P rest done ok h =
-      let D : Declared = withProcedures (before ++ P ∷ rest) E in
+      let D : Declared = with_procedures (before ++ P ∷ rest) E in
       let K : ℕ = length before in
       let among : K < length (before ++ P ∷ rest) = omega (arith, length-append before (P ∷ rest)) in
       let scoped : Ok (line_of D K) nowhere P.formula =
       subst (λ (Q : Procedure). Ok (line_of D K) nowhere Q.formula) (get_or-append_seam before P rest nothing) (ok K among) in
-      let earlier : (J : ℕ) → Like (procedureOf (line_of D K) J).formula (get_or done J nothing).formula = λ J.
+      let earlier : (J : ℕ) → Like (procedure_of (line_of D K) J).formula (get_or done J nothing).formula = λ J.
       subst (λ Ps. Like (get_or Ps J nothing).formula (get_or done J nothing).formula) (sym (take-append_seam before (P ∷ rest)))
       (paired_at before done h J) in
-      numbered-like (line_of D K) done earlier nowhere P.formula (tokensBefore done) scoped
+      numbered-like (line_of D K) done earlier nowhere P.formula (tokens_before done) scoped
 
-  procedures-like : (before rest done : List Procedure) → OkProcedures (withProcedures (before ++ rest) E) → Paired before done →
-      Paired (before ++ rest) (tidiedProcedures done rest)
-  unfolding tidiedProcedures
+  procedures-like : (before rest done : List Procedure) → OkProcedures (with_procedures (before ++ rest) E) → Paired before done →
+      Paired (before ++ rest) (tidied_procedures done rest)
+  unfolding tidied_procedures
   procedures-like before [] done ok h = rw (append-nil before) h
   procedures-like before (P ∷ rest) done ok h =
       let same = append_snoc before P rest in
-      subst (λ Ps. Paired Ps (tidiedProcedures (done ++ (tidiedProcedure done P ∷ [])) rest)) same
-      (procedures-like (before ++ (P ∷ [])) rest (done ++ (tidiedProcedure done P ∷ []))
-      (subst (λ Ps. OkProcedures (withProcedures Ps E)) (sym same) ok)
-      (paired-more before done P (tidiedProcedure done P) h (next_like before P rest done ok h)))
+      subst (λ Ps. Paired Ps (tidied_procedures (done ++ (tidied_procedure done P ∷ [])) rest)) same
+      (procedures-like (before ++ (P ∷ [])) rest (done ++ (tidied_procedure done P ∷ []))
+      (subst (λ Ps. OkProcedures (with_procedures Ps E)) (sym same) ok)
+      (paired-more before done P (tidied_procedure done P) h (next_like before P rest done ok h)))
 
 -- ---- the sheet
 
 tidied-like : (s : Sheet) → WellFormed s → Like s.formula (tidied s).formula
 unfolding tidied Paired
 tidied-like s w =
-    let Ps = tidiedProcedures [] s.declared.procedures in
+    let Ps = tidied_procedures [] s.declared.procedures in
     let h : Paired s.declared.procedures Ps = procedures-like s.declared [] s.declared.procedures [] w.procedures tt in
-    numbered-like s.declared Ps (paired_at s.declared.procedures Ps h) nowhere s.formula (tokensBefore Ps) w.formula
+    numbered-like s.declared Ps (paired_at s.declared.procedures Ps h) nowhere s.formula (tokens_before Ps) w.formula
 
 -- ---- trees
 
 -- the same but for the tokens of error leaves
 pub data Same : Tree → Tree → Type 0 where
-  successes : {β : Valuation} → Same (successLeaf β) (successLeaf β)
-  failures : Same failureLeaf failureLeaf
-  errors : {κ t t' : ℕ} {β : Valuation} → Same (errorLeaf κ t β) (errorLeaf κ t' β)
+  successes : {β : Valuation} → Same (success_leaf β) (success_leaf β)
+  failures : Same failure_leaf failure_leaf
+  errors : {κ t t' : ℕ} {β : Valuation} → Same (error_leaf κ t β) (error_leaf κ t' β)
   steps : {T T' : Tree} → Same T T' → Same (step T) (step T')
   forks : {T T' U U' : Tree} → Same T T' → Same U U' → Same (fork T U) (fork T' U')
   fans : {x : ℤ} {n : ℕ} (f f' : ℕ → Tree) → ((i : ℕ) → Same (f i) (f' i)) → Same (fan x n f) (fan x n f')
@@ -275,11 +275,11 @@ module _ (D : Declared) (S : Scope) {F G : Formula} (like : Like F G) (ok : Ok D
   unfolding gave
   same-gave = rw (fun_ext same-got)
 
-  same-done : Same (doneInside D F α β) (doneInside D G α β)
-  unfolding doneInside
+  same-done : Same (done_inside D F α β) (done_inside D G α β)
+  unfolding done_inside
   same-done = rw same-gave (steps (go (gave D G α β)))
     where
-      go : (b : Bool) → Same (pick b (errorLeaf undecidedInside 0 β) (successLeaf β)) (pick b (errorLeaf undecidedInside 0 β) (successLeaf β))
+      go : (b : Bool) → Same (pick b (error_leaf undecided_inside 0 β) (success_leaf β)) (pick b (error_leaf undecided_inside 0 β) (success_leaf β))
       go true = errors
       go false = successes
 
@@ -371,7 +371,7 @@ module _ (D : Declared) where
   same-equate : (S : Scope) (F : Formula) (tok tok' : ℕ) (x y : Side) (k k' : Rest) (α : Valuation) → Bare S x → Bare S y → Goes S F α k k' →
       Same (equate D tok x y k α) (equate D tok' x y k' α)
   unfolding equate
-  same-equate S F tok tok' (val x) (val y) k k' α i j h = same_check (eqZ x y) k k' α (h α (keeps_self S F α))
+  same-equate S F tok tok' (val x) (val y) k k' α i j h = same_check (eq_z x y) k k' α (h α (keeps_self S F α))
   same-equate S F tok tok' (val x) (bare q) k k' α i j h = same-assign S F q x k k' α (j q refl) h
   same-equate S F tok tok' (val x) (err κ) k k' α i j h = errors
   same-equate S F tok tok' (bare p) (val y) k k' α i j h = same-assign S F p y k k' α (i p refl) h
@@ -409,15 +409,15 @@ module _ (D : Declared) where
       (grow-same g S o.1 k k' α (goes-within S (or F' G') G' α k k' w.1 h))
   grow-same (imps {tok = tok} {tok' = tok'} {F = F} {F' = F'} {G = G} {G' = G'} f g) S o k k' α h =
       let w = imp-within tok' F' G' in
-      same-enquire (λ β. grow D F (doneInside D F α) β) (λ β. grow D F' (doneInside D F' α) β)
+      same-enquire (λ β. grow D F (done_inside D F α) β) (λ β. grow D F' (done_inside D F' α) β)
       (λ v. implied tok v (λ β. grow D G k β) k) (λ v. implied tok' v (λ β. grow D G' k' β) k') α
-      (grow-same f S o.0 (doneInside D F α) (doneInside D F' α) α (λ β e. same-done D S f o.0 α β e))
+      (grow-same f S o.0 (done_inside D F α) (done_inside D F' α) α (λ β e. same-done D S f o.0 α β e))
       (λ v. same-implied tok tok' v (λ β. grow D G k β) (λ β. grow D G' k' β) k k' α
       (grow-same g S o.1 k k' α (goes-within S (imp tok' F' G') G' α k k' w.1 h)) (h α (keeps_self S (imp tok' F' G') α)))
   grow-same (negs {tok = tok} {tok' = tok'} {F = F} {F' = F'} f) S o k k' α h =
-      same-enquire (λ β. grow D F (doneInside D F α) β) (λ β. grow D F' (doneInside D F' α) β)
+      same-enquire (λ β. grow D F (done_inside D F α) β) (λ β. grow D F' (done_inside D F' α) β)
       (λ v. denied tok v k) (λ v. denied tok' v k') α
-      (grow-same f S o (doneInside D F α) (doneInside D F' α) α (λ β e. same-done D S f o α β e))
+      (grow-same f S o (done_inside D F α) (done_inside D F' α) α (λ β e. same-done D S f o α β e))
       (λ v. same-denied tok tok' v k k' α (h α (keeps_self S (neg tok' F') α)))
   grow-same (eqs {tok = tok} {tok' = tok'} {s = s} {t = t}) S o k k' α h =
       steps (same-equate S (eq tok' s t) tok tok' (side D α s) (side D α t) k k' α
@@ -442,7 +442,7 @@ module _ (D : Declared) where
 abbrev pub reformed : Sheet → Sheet
 reformed s = record { declared = s.declared; given = s.given; formula = (tidied s).formula }
 
-pub same-root : (s : Sheet) → WellFormed s → Same (rootOf s) (rootOf (reformed s))
-unfolding rootOf tree_of
+pub same-root : (s : Sheet) → WellFormed s → Same (root_of s) (root_of (reformed s))
+unfolding root_of tree_of
 same-root s w =
     grow-same s.declared (tidied-like s w) nowhere w.formula done done (start s.given) (λ β e. steps successes)

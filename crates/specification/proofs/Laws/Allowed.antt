@@ -30,6 +30,6 @@ module _ (D : Declared) where
   -- ---- where there is no line of ranges
 
   module _ (none : D.ranges ≡ []) where
-    pub in32-inRange : (c : ℕ) (v : ℤ) → T (in32 v) → T (in_range D c v)
+    pub in32-in_range : (c : ℕ) (v : ℤ) → T (in32 v) → T (in_range D c v)
     unfolding in_range range_of contains
-    in32-inRange c v t = rw none (yes_and (in32 v) (in32 v) t t)
+    in32-in_range c v t = rw none (yes_and (in32 v) (in32 v) t t)

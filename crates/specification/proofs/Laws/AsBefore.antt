@@ -8,10 +8,10 @@ use borrow.Author.Tests.{le-leb}
 use Rattle.specification.specs.declared.Setting.{Setting}
 use Rattle.specification.specs.Bytes.{Bytes, pick}
 use Rattle.specification.specs.Parser.{Reader, found}
-use Rattle.specification.specs.Sheet.{Sheet, readWith, read}
-use Rattle.specification.specs.Outcome.{Result, refusal, result_of, run_of, enoughMemory, callWith, call}
+use Rattle.specification.specs.Sheet.{Sheet, read_with, read}
+use Rattle.specification.specs.Outcome.{Result, refusal, result_of, run_of, enough_memory, call_with, call}
 use Rattle.specification.specs.Tidy.{tidied}
-use Rattle.specification.specs.Moves.{newer, raised, moved, longestSheet, moveUp, tidy}
+use Rattle.specification.specs.Moves.{newer, raised, moved, longest_sheet, move_up, tidy}
 use Rattle.specification.specs.Moving.{RunsAlike, HadRoom, RunsAsBefore}
 use Rattle.specification.proofs.Laws.ReadSheet.{read-well-formed}
 use Rattle.specification.proofs.Laws.Strict.{older-alike}
@@ -20,14 +20,14 @@ use Rattle.specification.proofs.Laws.RunsAlike.{tidied-runs}
 use Rattle.specification.proofs.Laws.Moves.{no-ranges, up-moves, tidy-moves}
 
 -- both are read, and the second runs as the first one tidied
-as_before : (sheet t : Bytes) (s s' : Sheet) (r r' : Reader) → readWith false sheet ≡ found s r → read t ≡ found s' r' →
-    length sheet ≤ longestSheet → length t ≤ longestSheet →
+as_before : (sheet t : Bytes) (s s' : Sheet) (r r' : Reader) → read_with false sheet ≡ found s r → read t ≡ found s' r' →
+    length sheet ≤ longest_sheet → length t ≤ longest_sheet →
     (S : Setting) (words size : ℕ) → run_of s' S size ≡ run_of (tidied s) S size →
-    HadRoom (callWith false sheet S words size) → HadRoom (call t S words size) → RunsAlike (callWith false sheet S words size) (call t S words size)
-unfolding callWith
+    HadRoom (call_with false sheet S words size) → HadRoom (call t S words size) → RunsAlike (call_with false sheet S words size) (call t S words size)
+unfolding call_with
 as_before sheet t s s' r r' e e' long short S words size f =
-    rw (e, e', le-leb (length sheet) longestSheet long, le-leb (length t) longestSheet short, f)
-    (go (enoughMemory S words) (result_of (run_of s S size)) (result_of (run_of (tidied s) S size))
+    rw (e, e', le-leb (length sheet) longest_sheet long, le-leb (length t) longest_sheet short, f)
+    (go (enough_memory S words) (result_of (run_of s S size)) (result_of (run_of (tidied s) S size))
     (tidied-runs s (read-well-formed false sheet s r e) S size))
   where
     go : (b : Bool) (x y : Result) → (HadRoom x → HadRoom y → RunsAlike x y) →
@@ -40,7 +40,7 @@ tidy-as-before sheet t words size e S words' size' =
     let (c, long, short) = tidy-moves sheet t words size e in
     as_before sheet t c.what (tidied c.what) c.reader c.reader' c.from c.to long short S words' size' refl
 
-pub up-as-before : RunsAsBefore moveUp
+pub up-as-before : RunsAsBefore move_up
 unfolding tidied
 up-as-before sheet t words size e S words' size' =
     let (c, long, short) = up-moves sheet t words size e in
@@ -50,9 +50,9 @@ up-as-before sheet t words size e S words' size' =
     (run-alike newer (raised s).declared.ranges (tidied s) wide S size')
 
 -- of edition 2 the run before is the run of today
-pub up-still-run : (sheet t : Bytes) (words size : ℕ) → moveUp sheet words size ≡ moved t → (S : Setting) (words' size' : ℕ) →
-    callWith false sheet S words' size' ≡ call sheet S words' size'
-unfolding callWith
+pub up-still-run : (sheet t : Bytes) (words size : ℕ) → move_up sheet words size ≡ moved t → (S : Setting) (words' size' : ℕ) →
+    call_with false sheet S words' size' ≡ call sheet S words' size'
+unfolding call_with
 up-still-run sheet t words size e S words' size' =
     let (c, long, short) = up-moves sheet t words size e in
     rw (c.from, older-alike sheet c.from (rw c.written))

@@ -5,7 +5,7 @@ use lib.Dec.{T}
 use lib.IntN.{ℤ}
 use Rattle.specification.specs.Lines.{Declared}
 use Rattle.specification.specs.Ast.{Rel, Term, eq, compare}
-use Rattle.specification.specs.Arithmetic.{eqZ}
+use Rattle.specification.specs.Arithmetic.{eq_z}
 use Rattle.specification.specs.Place.{Place, put}
 use Rattle.specification.specs.Value.{full, Valuation, allowed, Side, val, bare, err, side}
 use Rattle.specification.specs.WellFormed.{Scope, OkTerm, Ok, Valid}
@@ -14,7 +14,7 @@ use Rattle.specification.specs.Plain.{Env, Has, Truth}
 use Rattle.specification.proofs.Laws.Allowed.{fits-allowed}
 use Rattle.specification.proofs.Laws.Scope.{Every, Any, Agree, Ext}
 use Rattle.specification.proofs.Laws.Place.{put_same, valid-put, ext_refl, agree-ext, ext-put, agree-put}
-use Rattle.specification.proofs.Laws.Range.{eqZ-eq, eqZ-refl}
+use Rattle.specification.proofs.Laws.Range.{eq_z-eq, eq_z-refl}
 use Rattle.specification.proofs.Laws.Value.{has-val, has-bare, same-val, sane-val, sane-bare}
 use Rattle.specification.proofs.Laws.Every.{check-every, compared-every, check-any, compared-any}
 use Rattle.specification.proofs.Laws.Correct.{Sound, Complete}
@@ -57,8 +57,8 @@ module _ (D : Declared) (S : Scope) (tok : ℕ) (k : Rest) (α : Valuation) (v :
         (x y : Side) → side D α s ≡ x → side D α t ≡ y → Every P (equate D tok x y k α)
     unfolding Every equate Truth
     equate-sound P go (val x) (val y) e f =
-        check-every P (eqZ x y) k α (λ q. go α (ext_refl D S α) v (λ ρ a.
-        (x, has-val D S ρ α a s os x e, rw (eqZ-eq x y q) (has-val D S ρ α a t ot y f))))
+        check-every P (eq_z x y) k α (λ q. go α (ext_refl D S α) v (λ ρ a.
+        (x, has-val D S ρ α a s os x e, rw (eq_z-eq x y q) (has-val D S ρ α a t ot y f))))
     equate-sound P go (val x) (bare p) e f =
         assigned-sound s t os ot x p e f P (λ β w vb h. go β w vb (λ ρ a. let g = h ρ a in (x, g.0, g.1)))
     equate-sound P go (val x) (err κ) e f = tt
@@ -74,7 +74,7 @@ module _ (D : Declared) (S : Scope) (tok : ℕ) (k : Rest) (α : Valuation) (v :
     unfolding Any equate
     equate-complete ρ a z hs ht Q q go (val x) (val y) e f =
         let i : x ≡ y = cc (same-val D S ρ α a s os x z e hs, same-val D S ρ α a t ot y z f ht) in
-        check-any Q (eqZ x y) k α (subst (λ (w : ℤ). T (eqZ x w)) i (eqZ-refl x)) (go α v a)
+        check-any Q (eq_z x y) k α (subst (λ (w : ℤ). T (eq_z x w)) i (eq_z-refl x)) (go α v a)
     equate-complete ρ a z hs ht Q q go (val x) (bare p) e f = assigned-complete s t os ot x p e f ρ a z hs ht Q go
     equate-complete ρ a z hs ht Q q go (val x) (err κ) e f = q
     equate-complete ρ a z hs ht Q q go (bare p) (val y) e f = assigned-complete t s ot os y p f e ρ a z ht hs Q go

@@ -3,7 +3,7 @@ use Prim.Native.Nat.{ℕ}
 use mathlib.Core.Path.{◌≡◌, refl, sym, ◌∙◌, ap}
 use mathlib.Core.List.{List, [], ◌∷◌, ◌++◌, append_assoc}
 use lib.IntN.{ℤ, pos, negsuc}
-use Rattle.specification.specs.Listing.{Head, answerHead, errorHead, Named, Block, Label, answerLabel, errorLabel, kindLabel, tokenLabel, cellLabel, Line, headLines, cellLines, block_lines, linesText, blockText, listingText}
+use Rattle.specification.specs.Listing.{Head, answer_head, error_head, Named, Block, Label, answer_label, error_label, kind_label, token_label, cell_label, Line, head_lines, cell_lines, block_lines, lines_text, block_text, listing_text}
 use Rattle.specification.proofs.Laws.Text.{text-injective}
 
 -- ---- lines, read from the last to the first
@@ -27,11 +27,11 @@ nat_of (negsuc n) = 0
 
 -- one line more, before those that are read
 abbrev onto : Label → ℤ → Partly → Partly
-onto answerLabel z p = headed (answerHead (nat_of z)) p
-onto errorLabel z p = headed (errorHead (nat_of z) p.kind p.token) p
-onto kindLabel z p = record { token = p.token; kind = nat_of z; cells = p.cells; blocks = p.blocks }
-onto tokenLabel z p = record { token = nat_of z; kind = p.kind; cells = p.cells; blocks = p.blocks }
-onto (cellLabel n) z p =
+onto answer_label z p = headed (answer_head (nat_of z)) p
+onto error_label z p = headed (error_head (nat_of z) p.kind p.token) p
+onto kind_label z p = record { token = p.token; kind = nat_of z; cells = p.cells; blocks = p.blocks }
+onto token_label z p = record { token = nat_of z; kind = p.kind; cells = p.cells; blocks = p.blocks }
+onto (cell_label n) z p =
     record { token = p.token; kind = p.kind; cells = record { name = n; value = z } ∷ p.cells; blocks = p.blocks }
 
 gather : List Line → Partly
@@ -39,49 +39,49 @@ gather [] = holding [] []
 gather (l ∷ ls) = onto l.label l.value (gather ls)
 
 gather-cells : (cs : List Named) (ls : List Line) (bs : List Block) → gather ls ≡ holding [] bs →
-    gather (cellLines cs ++ ls) ≡ holding cs bs
-unfolding gather cellLines
+    gather (cell_lines cs ++ ls) ≡ holding cs bs
+unfolding gather cell_lines
 gather-cells [] ls bs e = e
-gather-cells (c ∷ cs) ls bs e = ap (onto (cellLabel c.name) c.value) (gather-cells cs ls bs e)
+gather-cells (c ∷ cs) ls bs e = ap (onto (cell_label c.name) c.value) (gather-cells cs ls bs e)
 
 gather-head : (h : Head) (ls : List Line) (cs : List Named) (bs : List Block) → gather ls ≡ holding cs bs →
-    gather (headLines h ++ ls) ≡ holding [] (record { head = h; cells = cs } ∷ bs)
-unfolding gather headLines
-gather-head (answerHead n) ls cs bs e = ap (headed (answerHead n)) e
-gather-head (errorHead n kind token) ls cs bs e = rw e
+    gather (head_lines h ++ ls) ≡ holding [] (record { head = h; cells = cs } ∷ bs)
+unfolding gather head_lines
+gather-head (answer_head n) ls cs bs e = ap (headed (answer_head n)) e
+gather-head (error_head n kind token) ls cs bs e = rw e
 
-listingLines : List Block → List Line
-listingLines [] = []
-listingLines (b ∷ bs) = block_lines b ++ listingLines bs
+listing_lines : List Block → List Line
+listing_lines [] = []
+listing_lines (b ∷ bs) = block_lines b ++ listing_lines bs
 
-gather-blocks : (bs : List Block) → gather (listingLines bs) ≡ holding [] bs
-unfolding gather listingLines block_lines
+gather-blocks : (bs : List Block) → gather (listing_lines bs) ≡ holding [] bs
+unfolding gather listing_lines block_lines
 gather-blocks [] = refl
 gather-blocks (b ∷ bs) =
     rw append_assoc
-    (gather-head b.head (cellLines b.cells ++ listingLines bs) b.cells bs
-    (gather-cells b.cells (listingLines bs) bs (gather-blocks bs)))
+    (gather-head b.head (cell_lines b.cells ++ listing_lines bs) b.cells bs
+    (gather-cells b.cells (listing_lines bs) bs (gather-blocks bs)))
 
 -- ---- the bytes
 
-pub linesText-++ : (ls ms : List Line) → linesText (ls ++ ms) ≡ linesText ls ++ linesText ms
-unfolding linesText
-linesText-++ [] ms = refl
-linesText-++ (l ∷ ls) ms = simp (linesText-++ ls ms, append_assoc)
+pub lines_text-++ : (ls ms : List Line) → lines_text (ls ++ ms) ≡ lines_text ls ++ lines_text ms
+unfolding lines_text
+lines_text-++ [] ms = refl
+lines_text-++ (l ∷ ls) ms = simp (lines_text-++ ls ms, append_assoc)
 
-listing-lines : (bs : List Block) → listingText bs ≡ linesText (listingLines bs)
-unfolding listingText blockText listingLines linesText
+listing-lines : (bs : List Block) → listing_text bs ≡ lines_text (listing_lines bs)
+unfolding listing_text block_text listing_lines lines_text
 listing-lines [] = refl
-listing-lines (b ∷ bs) = ap (blockText b ++◌) (listing-lines bs) ∙ sym (linesText-++ (block_lines b) (listingLines bs))
+listing-lines (b ∷ bs) = ap (block_text b ++◌) (listing-lines bs) ∙ sym (lines_text-++ (block_lines b) (listing_lines bs))
 
-pub listing-injective : (bs cs : List Block) → listingText bs ≡ listingText cs → bs ≡ cs
+pub listing-injective : (bs cs : List Block) → listing_text bs ≡ listing_text cs → bs ≡ cs
 listing-injective bs cs e =
-    let q : listingLines bs ≡ listingLines cs =
-    text-injective (listingLines bs) (listingLines cs) (sym (listing-lines bs) ∙ e ∙ listing-lines cs) in
+    let q : listing_lines bs ≡ listing_lines cs =
+    text-injective (listing_lines bs) (listing_lines cs) (sym (listing-lines bs) ∙ e ∙ listing-lines cs) in
     ap (λ (p : Partly). p.blocks) (sym (gather-blocks bs) ∙ ap gather q ∙ gather-blocks cs)
 
-pub listingText-++ : (bs cs : List Block) → listingText (bs ++ cs) ≡ listingText bs ++ listingText cs
-unfolding listingText
-listingText-++ [] cs = refl
-listingText-++ (b ∷ bs) cs =
-    ap (blockText b ++◌) (listingText-++ bs cs) ∙ sym (append_assoc (blockText b) (listingText bs) (listingText cs))
+pub listing_text-++ : (bs cs : List Block) → listing_text (bs ++ cs) ≡ listing_text bs ++ listing_text cs
+unfolding listing_text
+listing_text-++ [] cs = refl
+listing_text-++ (b ∷ bs) cs =
+    ap (block_text b ++◌) (listing_text-++ bs cs) ∙ sym (append_assoc (block_text b) (listing_text bs) (listing_text cs))

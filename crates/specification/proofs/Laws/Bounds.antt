@@ -10,7 +10,7 @@ use lib.Dec.{eqb}
 use Rattle.specification.specs.Bytes.{Bytes, Class, pick, run, begins}
 use Rattle.specification.specs.Parser.{Reader, Read, Parser, past, next, mark, exactly, taken, ended, finish}
 use Rattle.specification.proofs.Laws.Contradiction.{contradiction}
-use Rattle.specification.proofs.Laws.Parser.{refusesWith, and-true, Reading, refusal, holds, pick_post}
+use Rattle.specification.proofs.Laws.Parser.{refuses_with, and-true, Reading, refusal, holds, pick_post}
 
 -- ---- a sheet of N bytes
 
@@ -20,7 +20,7 @@ Inside N r = r.place + length r.rest ≡ N
 
 -- a number from 3 to 12, and a place up to the end
 abbrev pub Refusal : ℕ → ℕ → ℕ → Type 0
-Refusal N n p = (refusesWith n ≡ true) × (p ≤ N)
+Refusal N n p = (refuses_with n ≡ true) × (p ≤ N)
 
 -- refused so, or read and still inside
 abbrev pub Safe : ℕ → {A : Type 0} → Read A → Type 0
@@ -59,7 +59,7 @@ module _ (N : ℕ) where
 
   module _ (r : Reader) (i : Inside N r) where
     -- a refusal here
-    pub refused-here : (n : ℕ) → refusesWith n ≡ true → Refusal N n r.place
+    pub refused-here : (n : ℕ) → refuses_with n ≡ true → Refusal N n r.place
     refused-here n t = (t, omega arith)
 
     pub mark-safe : (c : Class) → Safe N (mark c r)
@@ -68,7 +68,7 @@ module _ (N : ℕ) where
         pick_post (next c r.rest) _ _ (λ e. holds (past-inside 1 r (next_one c r.rest e) i))
         (λ e. refusal (refused-here 5 refl))
 
-    pub exactly-safe : (n : ℕ) (k : Bytes) → refusesWith n ≡ true → Safe N (exactly n k r)
+    pub exactly-safe : (n : ℕ) (k : Bytes) → refuses_with n ≡ true → Safe N (exactly n k r)
     unfolding exactly
     exactly-safe n k t =
         pick_post (begins k r.rest) _ _ (λ e. holds (past-inside (length k) r (begins-length k r.rest e) i))

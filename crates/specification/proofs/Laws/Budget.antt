@@ -11,10 +11,10 @@ use Rattle.specification.specs.declared.End.{End}
 use Rattle.specification.specs.declared.End.TheVariants.{Done, Spent, Path, Output}
 use Rattle.specification.specs.Sheet.{Sheet}
 use Rattle.specification.specs.Listing.{Block}
-use Rattle.specification.specs.Leaves.{isAnswer, isError, isFail}
+use Rattle.specification.specs.Leaves.{is_answer, is_error, is_fail}
 use Rattle.specification.specs.Visits.{Visit}
 use Rattle.specification.specs.Run.{setting}
-use Rattle.specification.specs.Outcome.{visitsOf}
+use Rattle.specification.specs.Outcome.{visits_of}
 use Rattle.specification.specs.Demand2.{Next, Ends, visited, ReadLeftToRight}
 use Rattle.specification.proofs.Laws.Lists.{Begins}
 use Rattle.specification.proofs.Laws.Determined.{next-early, next-same}
@@ -23,14 +23,14 @@ use Rattle.specification.proofs.Laws.Places.{listed-grows, counts-grow}
 -- ---- a run visits no more than its budget
 
 module _ (s : Sheet) (S : Setting) (size : ℕ) where
-  next-at : (n : ℕ) → n < length (visitsOf s) → (v : Visit) × Next s n v
-  next-at n l = go (drop n (visitsOf s)) refl
+  next-at : (n : ℕ) → n < length (visits_of s) → (v : Visit) × Next s n v
+  next-at n l = go (drop n (visits_of s)) refl
     where
-      go : (vs : List Visit) → drop n (visitsOf s) ≡ vs → (v : Visit) × Next s n v
-      go [] h = absurd (omega (arith, ap length h, length-drop n (visitsOf s)))
+      go : (vs : List Visit) → drop n (visits_of s) ≡ vs → (v : Visit) × Next s n v
+      go [] h = absurd (omega (arith, ap length h, length-drop n (visits_of s)))
       go (v ∷ later) h = (v, (later, h))
 
-  ends-within : (e : End) (n : ℕ) → Ends s S size e n → n ≤ length (visitsOf s)
+  ends-within : (e : End) (n : ℕ) → Ends s S size e n → n ≤ length (visits_of s)
   ends-within Done n h = omega arith
   ends-within Spent n h = omega (arith, next-early s S size n h.0 h.1)
   ends-within Path n h = omega (arith, next-early s S size n h.0 h.1)
@@ -41,7 +41,7 @@ module _ (s : Sheet) (S : Setting) (size : ℕ) where
     place-within =
         let not-past : ¬ (S.budget < p.place) = λ l.
         let (v, next) = next-at S.budget (omega (arith, l, ends-within e p.place p.ends)) in
-        p.nowhere-before S.budget l Spent (v, next, refl) in
+        p.nowhere_before S.budget l Spent (v, next, refl) in
         omega (arith, not-past)
 
 -- ---- two budgets
@@ -84,7 +84,7 @@ module _ (s : Sheet) (limit skip budget budget' : ℕ) (more : budget ≤ budget
     no-earlier =
         let not-before : ¬ (q.place < p.place) = λ l.
         let below : q.place < budget = omega (arith, l, place-within s S size p) in
-        p.nowhere-before q.place l f (same-below size size' q.place below f enough q.ends) in
+        p.nowhere_before q.place l f (same-below size size' q.place below f enough q.ends) in
         omega (arith, not-before)
 
     -- a leaf whose block finds no room is among the nodes; there the other run ends so too, or goes on
@@ -108,9 +108,9 @@ module _ (s : Sheet) (limit skip budget budget' : ℕ) (more : budget ≤ budget
         record {
           blocks = (later, q.blocks ∙ h ∙ ap (◌++ later) (sym p.blocks));
           nodes = omega (arith, p.nodes, q.nodes, visited-more e p.ends f q.ends);
-          answers = omega (arith, p.answers, q.answers, grows isAnswer);
-          errors = omega (arith, p.errors, q.errors, grows isError);
-          fails = omega (arith, p.fails, q.fails, grows isFail);
+          answers = omega (arith, p.answers, q.answers, grows is_answer);
+          errors = omega (arith, p.errors, q.errors, grows is_error);
+          fails = omega (arith, p.fails, q.fails, grows is_fail);
         }
 
   -- ---- a run that did not end spent
@@ -131,7 +131,7 @@ module _ (s : Sheet) (limit skip budget budget' : ℕ) (more : budget ≤ budget
           place = p.place;
           blocks = p.blocks;
           ends = ends-still e other p.ends;
-          nowhere-before = λ n l g h. p.nowhere-before n l g (same-below size size n (omega (arith, l, within)) g (λ full. omega arith) h);
+          nowhere_before = λ n l g h. p.nowhere_before n l g (same-below size size n (omega (arith, l, within)) g (λ full. omega arith) h);
           nodes = p.nodes;
           answers = p.answers;
           errors = p.errors;

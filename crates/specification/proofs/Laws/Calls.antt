@@ -3,7 +3,7 @@
 use Prim.Native.Nat.{ℕ}
 use mathlib.Core.Path.{◌≡◌, ap}
 use mathlib.Core.List.{List, ◌∷◌}
-use Rattle.specification.specs.Lines.{Declared, procedureOf}
+use Rattle.specification.specs.Lines.{Declared, procedure_of}
 use Rattle.specification.specs.Ast.{Term, Formula, call}
 use Rattle.specification.specs.Fill.{fill}
 use Rattle.specification.specs.Value.{Valuation}
@@ -13,7 +13,7 @@ use Rattle.specification.specs.WellFormed.{Scope, Ok}
 
 module _ (D : Declared) (S : Scope) (K : ℕ) (ts : List Term) (F : Formula) (ok : Ok D S (call K ts F)) where
   abbrev filled : Formula
-  filled = fill ts (procedureOf D K).formula
+  filled = fill ts (procedure_of D K).formula
 
   -- one node, then the filled formula
   pub call-tree : (Fs : List Formula) (α : Valuation) → tree_of D (call K ts F ∷ Fs) α ≡ step (tree_of D (filled ∷ Fs) α)

@@ -11,8 +11,8 @@ use lib.IntN.{ℤ, pos, negsuc}
 use lib.ListN.{length, drop}
 use lib.Seq.{append_snoc}
 use borrow.Author.Tests.{ltb-true, ltb-false, lt-ltb, le-ltb, leb-true, eqb-true, eqb-false, not-true}
-use Rattle.specification.specs.Bytes.{Bytes, pick, between, Class, letter, digit, space, feed, minus, equals, comma, colon, point, other, class_of, classNumber, isIn, inNumber, inToken, run}
-use Rattle.specification.specs.Number.{allDigits, decimal, wellFormed, natural, negated, unsigned, integer, digits, printℕ, printℤ}
+use Rattle.specification.specs.Bytes.{Bytes, pick, between, Class, letter, digit, space, feed, minus, equals, comma, colon, point, other, class_of, class_number, is_in, in_number, in_token, run}
+use Rattle.specification.specs.Number.{all_digits, decimal, well_formed, natural, negated, unsigned, integer, digits, printℕ, printℤ}
 use Rattle.specification.specs.Lists.{Each}
 use Rattle.specification.proofs.Laws.Contradiction.{contradiction}
 use Rattle.specification.proofs.Laws.Lists.{each_map}
@@ -66,9 +66,9 @@ print-digit m d p l =
 module _ (b : ℕ) where
   -- what the class of b tells of it
   abbrev Told : Class → Type 0
-  Told c = (eqb (classNumber digit) (classNumber c) ≡ true → IsDigit b) × (eqb (classNumber minus) (classNumber c) ≡ true → b ≡ 45)
+  Told c = (eqb (class_number digit) (class_number c) ≡ true → IsDigit b) × (eqb (class_number minus) (class_number c) ≡ true → b ≡ 45)
 
-  nothing : (c : Class) → eqb (classNumber digit) (classNumber c) ≡ false → eqb (classNumber minus) (classNumber c) ≡ false → Told c
+  nothing : (c : Class) → eqb (class_number digit) (class_number c) ≡ false → eqb (class_number minus) (class_number c) ≡ false → Told c
   nothing c d m = (λ e. contradiction cc, λ e. contradiction cc)
 
   told-pick : (t : Bool) (c d : Class) → (t ≡ true → Told c) → Told d → Told (pick t c d)
@@ -76,7 +76,7 @@ module _ (b : ℕ) where
   told-pick false c d h k = k
 
   told : Told (class_of b)
-  unfolding class_of classNumber
+  unfolding class_of class_number
   told =
       told-pick (between 97 122 b) letter _ (λ t. nothing letter refl refl)
       (told-pick (between 48 57 b) digit _ (λ t. (λ e. by-range t, λ e. contradiction cc))
@@ -91,37 +91,37 @@ module _ (b : ℕ) where
       by-range : between 48 57 b ≡ true → IsDigit b
       by-range t = let r = and-true (leb 48 b) (leb b 57) t in (leb-true 48 b r.0, leb-true b 57 r.1)
 
-  pub digit-byte : isIn digit b ≡ true → IsDigit b
-  unfolding isIn
+  pub digit-byte : is_in digit b ≡ true → IsDigit b
+  unfolding is_in
   digit-byte = told.0
 
-  pub minus-byte : isIn minus b ≡ true → b ≡ 45
-  unfolding isIn
+  pub minus-byte : is_in minus b ≡ true → b ≡ 45
+  unfolding is_in
   minus-byte = told.1
 
 -- ---- what is read as a number is what is printed for it
 
 -- digits after a number that is not 0
-print-decimal : (m : ℕ) (bs : Bytes) → 0 < m → allDigits bs ≡ true → printℕ (decimal m bs) ≡ printℕ m ++ bs
-unfolding allDigits decimal
+print-decimal : (m : ℕ) (bs : Bytes) → 0 < m → all_digits bs ≡ true → printℕ (decimal m bs) ≡ printℕ m ++ bs
+unfolding all_digits decimal
 print-decimal m [] p h = sym (append-nil (printℕ m))
 print-decimal m (b ∷ bs) p h =
-    let a = and-true (isIn digit b) (allDigits bs) h in
+    let a = and-true (is_in digit b) (all_digits bs) h in
     let r : IsDigit b = digit-byte b a.0 in
     let s : 48 + (b - 48) ≡ b = omega (arith, r.0) in
     let q : printℕ (m * 10 + (b - 48)) ≡ printℕ m ++ b ∷ [] = print-digit m (b - 48) p (omega (arith, r.1)) ∙ rw s in
     print-decimal (m * 10 + (b - 48)) bs (omega arith) a.1 ∙ ap (λ ds. ds ++ bs) q ∙ append_snoc (printℕ m) b bs
 
-canonical : (bs : Bytes) → wellFormed bs ≡ true → bs ≡ printℕ (decimal 0 bs)
-unfolding wellFormed allDigits decimal
+canonical : (bs : Bytes) → well_formed bs ≡ true → bs ≡ printℕ (decimal 0 bs)
+unfolding well_formed all_digits decimal
 canonical [] f = contradiction cc
 canonical (b ∷ []) f =
-    let r : IsDigit b = digit-byte b (and-true (isIn digit b) true f).0 in
+    let r : IsDigit b = digit-byte b (and-true (is_in digit b) true f).0 in
     let s : 48 + (0 * 10 + (b - 48)) ≡ b = omega (arith, r.0) in
     sym (print-one (0 * 10 + (b - 48)) (omega (arith, r.1)) ∙ ap (λ d. d ∷ []) s)
 canonical (b ∷ c ∷ bs) f =
-    let a = and-true (not (eqb b 48)) (allDigits (b ∷ c ∷ bs)) f in
-    let d = and-true (isIn digit b) (allDigits (c ∷ bs)) a.1 in
+    let a = and-true (not (eqb b 48)) (all_digits (b ∷ c ∷ bs)) f in
+    let d = and-true (is_in digit b) (all_digits (c ∷ bs)) a.1 in
     let r : IsDigit b = digit-byte b d.0 in
     let n : b ≡ 48 → ⊥ = eqb-false b 48 (not-true (eqb b 48) a.0) in
     let p : 0 < 0 * 10 + (b - 48) = positive r n in
@@ -134,18 +134,18 @@ canonical (b ∷ c ∷ bs) f =
 
 pub natural-canonical : (bs : Bytes) (n : ℕ) → natural bs ≡ some n → bs ≡ printℕ n
 unfolding natural
-natural-canonical bs n e = go (wellFormed bs) refl e
+natural-canonical bs n e = go (well_formed bs) refl e
   where
-    go : (t : Bool) → wellFormed bs ≡ t → pick t (some (decimal 0 bs)) none ≡ some n → bs ≡ printℕ n
+    go : (t : Bool) → well_formed bs ≡ t → pick t (some (decimal 0 bs)) none ≡ some n → bs ≡ printℕ n
     go true f q = let s : decimal 0 bs ≡ n = cc in canonical bs f ∙ ap printℕ s
     go false f q = contradiction cc
 
 pub integer-canonical : (bs : Bytes) (z : ℤ) → integer bs ≡ some z → bs ≡ printℤ z
 unfolding integer printℤ
 integer-canonical [] z e = contradiction cc
-integer-canonical (b ∷ bs) z e = go (isIn minus b) refl e
+integer-canonical (b ∷ bs) z e = go (is_in minus b) refl e
   where
-    below : (o : Option ℕ) → natural bs ≡ o → isIn minus b ≡ true → negated o ≡ some z → b ∷ bs ≡ printℤ z
+    below : (o : Option ℕ) → natural bs ≡ o → is_in minus b ≡ true → negated o ≡ some z → b ∷ bs ≡ printℤ z
     below none f m q = contradiction cc
     below (some zero) f m q = contradiction cc
     below (some (suc n)) f m q =
@@ -156,7 +156,7 @@ integer-canonical (b ∷ bs) z e = go (isIn minus b) refl e
     above none f q = contradiction cc
     above (some n) f q = let s : pos n ≡ z = cc in natural-canonical (b ∷ bs) n f ∙ ap printℤ s
 
-    go : (t : Bool) → isIn minus b ≡ t → pick t (negated (natural bs)) (unsigned (natural (b ∷ bs))) ≡ some z → b ∷ bs ≡ printℤ z
+    go : (t : Bool) → is_in minus b ≡ t → pick t (negated (natural bs)) (unsigned (natural (b ∷ bs))) ≡ some z → b ∷ bs ≡ printℤ z
     go true m q = below (natural bs) refl m q
     go false m q = above (natural (b ∷ bs)) refl q
 
@@ -172,27 +172,27 @@ module _ (f : ℕ → Bool) (d : (b : ℕ) → IsDigit b → f b ≡ true) where
   printℤ-each m (pos n) = printℕ-each n
   printℤ-each m (negsuc n) = (m, printℕ-each (suc n))
 
-digit-number : (b : ℕ) → IsDigit b → inNumber b ≡ true
-unfolding inNumber isIn classNumber
+digit-number : (b : ℕ) → IsDigit b → in_number b ≡ true
+unfolding in_number is_in class_number
 digit-number b h = rw (digit-class b h)
 
-digit-token : (b : ℕ) → IsDigit b → inToken b ≡ true
-unfolding inToken isIn classNumber
+digit-token : (b : ℕ) → IsDigit b → in_token b ≡ true
+unfolding in_token is_in class_number
 digit-token b h = rw (digit-class b h)
 
-pub printℕ-number : (n : ℕ) → Each (λ b. inNumber b ≡ true) (printℕ n)
-printℕ-number = printℕ-each inNumber digit-number
+pub printℕ-number : (n : ℕ) → Each (λ b. in_number b ≡ true) (printℕ n)
+printℕ-number = printℕ-each in_number digit-number
 
-pub printℤ-number : (z : ℤ) → Each (λ b. inNumber b ≡ true) (printℤ z)
-unfolding inNumber isIn classNumber class_of
-printℤ-number = printℤ-each inNumber digit-number refl
+pub printℤ-number : (z : ℤ) → Each (λ b. in_number b ≡ true) (printℤ z)
+unfolding in_number is_in class_number class_of
+printℤ-number = printℤ-each in_number digit-number refl
 
-pub printℕ-token : (n : ℕ) → Each (λ b. inToken b ≡ true) (printℕ n)
-printℕ-token = printℕ-each inToken digit-token
+pub printℕ-token : (n : ℕ) → Each (λ b. in_token b ≡ true) (printℕ n)
+printℕ-token = printℕ-each in_token digit-token
 
-pub printℤ-token : (z : ℤ) → Each (λ b. inToken b ≡ true) (printℤ z)
-unfolding inToken isIn classNumber class_of
-printℤ-token = printℤ-each inToken digit-token refl
+pub printℤ-token : (z : ℤ) → Each (λ b. in_token b ≡ true) (printℤ z)
+unfolding in_token is_in class_number class_of
+printℤ-token = printℤ-each in_token digit-token refl
 
 -- ---- runs of bytes that pass a test; the bytes after one are by `drop-append_seam` of lib.Seq
 

@@ -7,10 +7,10 @@ use mathlib.Core.Bool.{true}
 use mathlib.Core.Logic.{inl, inr}
 use mathlib.Core.List.{List, [], ◌∷◌, map}
 use lib.IntN.{ℤ}
-use Rattle.specification.specs.Lines.{Declared, CellName, cells, isDeclared, cell_of}
+use Rattle.specification.specs.Lines.{Declared, CellName, cells, is_declared, cell_of}
 use Rattle.specification.specs.Place.{cell}
 use Rattle.specification.specs.Value.{Slot, empty, full, Valuation}
-use Rattle.specification.specs.Listing.{Named, cellNames, namedIf, valued}
+use Rattle.specification.specs.Listing.{Named, cell_names, named_if, valued}
 use Rattle.specification.specs.Plain.{Filling}
 use Rattle.specification.specs.Lists.{Each, Some}
 use Rattle.specification.proofs.Laws.Contradiction.{contradiction}
@@ -35,13 +35,13 @@ module _ (D : Declared) (β : Valuation) where
   valued-each P (n ∷ ns) h = go (β (cell (cell_of D n))) refl (valued-each P ns h.1)
     where
       go : (s : Slot) → β (cell (cell_of D n)) ≡ s → Each (λ m. P m.name × HasValue m) (valued D β ns) →
-          Each (λ m. P m.name × HasValue m) (namedIf n s (valued D β ns))
+          Each (λ m. P m.name × HasValue m) (named_if n s (valued D β ns))
       go empty e k = k
       go (full v) e k = ((h.0, e), k)
 
   pub valued-only :
-      Each (λ n. (isDeclared D n.name ≡ true) × (β (cell (cell_of D n.name)) ≡ full n.value)) (valued D β (cellNames D))
-  valued-only = valued-each (Known D) (cellNames D) (names-declared D)
+      Each (λ n. (is_declared D n.name ≡ true) × (β (cell (cell_of D n.name)) ≡ full n.value)) (valued D β (cell_names D))
+  valued-only = valued-each (Known D) (cell_names D) (names-declared D)
 
   -- ---- each cell that has a value has its line
 
@@ -50,7 +50,7 @@ module _ (D : Declared) (β : Valuation) where
     abbrev Here : Named → Type 0
     Here n = (cell_of D n.name ≡ c) × (n.value ≡ v)
 
-    some-later : (n : CellName) (s : Slot) (ms : List Named) → Some Here ms → Some Here (namedIf n s ms)
+    some-later : (n : CellName) (s : Slot) (ms : List Named) → Some Here ms → Some Here (named_if n s ms)
     unfolding Some
     some-later n empty ms h = h
     some-later n (full z) ms h = inr h
@@ -62,27 +62,27 @@ module _ (D : Declared) (β : Valuation) where
     valued-some (n ∷ ns) (inr h) = some-later n (β (cell (cell_of D n))) (valued D β ns) (valued-some ns h)
 
   pub names-valued : (c : ℕ) → c < cells D → (v : ℤ) → β (cell c) ≡ full v →
-      Some (λ n. (cell_of D n.name ≡ c) × (n.value ≡ v)) (valued D β (cellNames D))
+      Some (λ n. (cell_of D n.name ≡ c) × (n.value ≡ v)) (valued D β (cell_names D))
   names-valued c l v e =
-      valued-some c v e (cellNames D)
-      (some-of-map (λ d. d ≡ c) (cell_of D) (cellNames D) (rw (name-cells D) (some-from 0 (cells D) c (omega arith) (omega arith))))
+      valued-some c v e (cell_names D)
+      (some-of-map (λ d. d ≡ c) (cell_of D) (cell_names D) (rw (name-cells D) (some-from 0 (cells D) c (omega arith) (omega arith))))
 
   -- ---- a filling that agrees with the lines
 
   -- it has the value of each cell that has one
-  pub agrees-matches : (φ : Filling) → Each (λ n. φ (cell_of D n.name) ≡ n.value) (valued D β (cellNames D)) →
+  pub agrees-matches : (φ : Filling) → Each (λ n. φ (cell_of D n.name) ≡ n.value) (valued D β (cell_names D)) →
       (c : ℕ) → c < cells D → (v : ℤ) → β (cell c) ≡ full v → φ c ≡ v
   agrees-matches φ h c l v e =
-      some-elim (λ n k. ap φ (sym k.0.0) ∙ k.1 ∙ k.0.1) (valued D β (cellNames D))
+      some-elim (λ n k. ap φ (sym k.0.0) ∙ k.1 ∙ k.0.1) (valued D β (cell_names D))
       (some-and-each (λ n. (cell_of D n.name ≡ c) × (n.value ≡ v)) (λ n. φ (cell_of D n.name) ≡ n.value)
-      (valued D β (cellNames D)) (names-valued c l v e) h)
+      (valued D β (cell_names D)) (names-valued c l v e) h)
 
   -- and a filling that has those agrees
   pub matches-agrees : (φ : Filling) → ((c : ℕ) → c < cells D → (v : ℤ) → β (cell c) ≡ full v → φ c ≡ v) →
-      Each (λ n. φ (cell_of D n.name) ≡ n.value) (valued D β (cellNames D))
+      Each (λ n. φ (cell_of D n.name) ≡ n.value) (valued D β (cell_names D))
   matches-agrees φ f =
-      each_map (λ n h. f (cell_of D n.name) h.0 n.value h.1) (valued D β (cellNames D))
-      (valued-each (λ n. cell_of D n < cells D) (cellNames D) (names-below D))
+      each_map (λ n h. f (cell_of D n.name) h.0 n.value h.1) (valued D β (cell_names D))
+      (valued-each (λ n. cell_of D n < cells D) (cell_names D) (names-below D))
 
   -- ---- the order of the lines
 
@@ -100,9 +100,9 @@ module _ (D : Declared) (β : Valuation) where
       (rises ns (suc i) k q)
     where
       go : (s : Slot) → Each (λ m. cell_of D n < cell_of D m.name) (valued D β ns) →
-          Rising D (valued D β ns) → Rising D (namedIf n s (valued D β ns))
+          Rising D (valued D β ns) → Rising D (named_if n s (valued D β ns))
       go empty a r = r
       go (full v) a r = (a, r)
 
-  pub valued-rises : Rising D (valued D β (cellNames D))
-  valued-rises = rises (cellNames D) 0 (cells D) (name-cells D)
+  pub valued-rises : Rising D (valued D β (cell_names D))
+  valued-rises = rises (cell_names D) 0 (cells D) (name-cells D)

@@ -11,15 +11,15 @@ use Rattle.specification.specs.declared.Setting.{Setting}
 use Rattle.specification.specs.declared.Tallies.{Tallies}
 use Rattle.specification.specs.Bytes.{Bytes}
 use Rattle.specification.specs.Lines.{Declared}
-use Rattle.specification.specs.Listing.{answerHead, errorHead, Block, block_of, blockText, listingText}
+use Rattle.specification.specs.Listing.{answer_head, error_head, Block, block_of, block_text, listing_text}
 use Rattle.specification.specs.Leaves.{Leaf, answer, error, fail, blocks}
 use Rattle.specification.specs.Visits.{Event, node, leaf, Visit}
-use Rattle.specification.specs.Run.{tallies, blockCount, Conditions, conditions, Stop, spent, path, output, Run, going, stopped, scan}
+use Rattle.specification.specs.Run.{tallies, block_count, Conditions, conditions, Stop, spent, path, output, Run, going, stopped, scan}
 use Rattle.specification.specs.Lists.{Each}
 use Rattle.specification.proofs.Laws.Lists.{Begins}
-use Rattle.specification.proofs.Laws.Stops.{unless, dueText, added, addedUnder, counted, counted-nodes, atStop, Meets, Passes}
+use Rattle.specification.proofs.Laws.Stops.{unless, due_text, added, added_under, counted, counted-nodes, at_stop, Meets, Passes}
 use Rattle.specification.proofs.Laws.Run.{written_by, then-is-++, scan-append, scan-stops, scan-passes, scan-going, scan-induction, scan-nodes, scan-grows}
-use Rattle.specification.proofs.Laws.Leaves.{leafOf, leavesIn}
+use Rattle.specification.proofs.Laws.Leaves.{leaf_of, leaves_in}
 
 -- ---- a listing under limits is a beginning of the one without
 
@@ -44,54 +44,54 @@ module _ (C : Conditions) (S' : Setting) (size' : ℕ) (same : C.setting.skip �
 -- ---- a run that meets no limit
 
 -- what a visit adds, and the blocks that come after it, take no more bytes than all blocks
-due-size : (c : Bool) (b : Block) (bs : List Block) → length (dueText (unless c b)) + length (listingText bs) ≤ length (listingText (b ∷ bs))
-unfolding listingText
-due-size true b bs = omega (arith, length-append (blockText b) (listingText bs))
-due-size false b bs = omega (arith, length-append (blockText b) (listingText bs))
+due-size : (c : Bool) (b : Block) (bs : List Block) → length (due_text (unless c b)) + length (listing_text bs) ≤ length (listing_text (b ∷ bs))
+unfolding listing_text
+due-size true b bs = omega (arith, length-append (block_text b) (listing_text bs))
+due-size false b bs = omega (arith, length-append (block_text b) (listing_text bs))
 
 added-size : (D : Declared) (skip : ℕ) (t : Tallies) (ev : Event) (ls : List Leaf) →
-    length (added D skip t ev) + length (listingText (blocks D (counted ev t).answers (counted ev t).errors ls)) ≤
-    length (listingText (blocks D t.answers t.errors (leafOf ev ++ ls)))
+    length (added D skip t ev) + length (listing_text (blocks D (counted ev t).answers (counted ev t).errors ls)) ≤
+    length (listing_text (blocks D t.answers t.errors (leaf_of ev ++ ls)))
 unfolding blocks
 added-size D skip t node ls = omega arith
 added-size D skip t (leaf fail) ls = omega arith
 added-size D skip t (leaf (answer β)) ls =
-    due-size (ltb (blockCount t) skip) (block_of D (answerHead (suc t.answers)) β) (blocks D (suc t.answers) t.errors ls)
+    due-size (ltb (block_count t) skip) (block_of D (answer_head (suc t.answers)) β) (blocks D (suc t.answers) t.errors ls)
 added-size D skip t (leaf (error κ i β)) ls =
-    due-size (ltb (blockCount t) skip) (block_of D (errorHead (suc t.errors) κ i) β) (blocks D t.answers (suc t.errors) ls)
+    due-size (ltb (block_count t) skip) (block_of D (error_head (suc t.errors) κ i) β) (blocks D t.answers (suc t.errors) ls)
 
 -- the bytes of all blocks of these visits
-abbrev pub roomOf : Declared → Tallies → List Visit → ℕ
-roomOf D t vs = length (listingText (blocks D t.answers t.errors (leavesIn vs)))
+abbrev pub room_of : Declared → Tallies → List Visit → ℕ
+room_of D t vs = length (listing_text (blocks D t.answers t.errors (leaves_in vs)))
 
 module _ (C : Conditions) where
   -- budget, path limit and output are enough for these visits
   abbrev pub Ample : Tallies → Bytes → List Visit → Type 0
   Ample t w vs =
       (t.nodes + length vs ≤ C.setting.budget) × Each (λ v. v.depth ≤ C.setting.path) vs ×
-      (length w + roomOf C.declared t vs ≤ C.size)
+      (length w + room_of C.declared t vs ≤ C.size)
 
   abbrev Goes : Tallies → Bytes → List Visit → Run → Type 0
   Goes t w vs r = Ample t w vs → (t' : Tallies) × (w' : Bytes) × (r ≡ going t' w')
 
   module _ (v : Visit) (vs : List Visit) (t : Tallies) (w : Bytes) (p : Ample t w (v ∷ vs)) where
     rest-fits :
-        length w + (length (addedUnder C t v.event) + roomOf C.declared (counted v.event t) vs) ≤ C.size
-    unfolding leavesIn
-    rest-fits = omega (arith, p.2, added-size C.declared C.setting.skip t v.event (leavesIn vs))
+        length w + (length (added_under C t v.event) + room_of C.declared (counted v.event t) vs) ≤ C.size
+    unfolding leaves_in
+    rest-fits = omega (arith, p.2, added-size C.declared C.setting.skip t v.event (leaves_in vs))
 
     none-met : (e : Stop) → ¬ Meets C e v t w
     unfolding Each
     none-met spent m = omega (arith, p.0)
     none-met path m = omega (arith, p.1.0, m.1)
-    none-met output m = omega (arith, rest-fits, m.2.2, ap (λ o. length (dueText o)) m.2.1)
+    none-met output m = omega (arith, rest-fits, m.2.2, ap (λ o. length (due_text o)) m.2.1)
 
-    still-ample : Ample (counted v.event t) (w ++ addedUnder C t v.event) vs
+    still-ample : Ample (counted v.event t) (w ++ added_under C t v.event) vs
     unfolding Each
     still-ample = (
       omega (arith, counted-nodes v.event t, p.0),
       p.1.1,
-      omega (arith, length-append w (addedUnder C t v.event), rest-fits),
+      omega (arith, length-append w (added_under C t v.event), rest-fits),
     )
 
   pub ample-goes : (vs : List Visit) (t : Tallies) (w : Bytes) → Ample t w vs →
@@ -111,25 +111,25 @@ deepest-each n [] h = tt
 deepest-each n (v ∷ vs) h = (omega arith, deepest-each n vs (omega arith))
 
 -- limits and room that are enough for these visits
-abbrev pub noLimits : ℕ → Tallies → List Visit → Setting
-noLimits skip t vs = record { path = deepest vs; budget = t.nodes + suc (length vs); skip = skip }
+abbrev pub no_limits : ℕ → Tallies → List Visit → Setting
+no_limits skip t vs = record { path = deepest vs; budget = t.nodes + suc (length vs); skip = skip }
 
 abbrev pub room_for : Declared → Tallies → Bytes → List Visit → ℕ
-room_for D t w vs = length w + roomOf D t vs
+room_for D t w vs = length w + room_of D t vs
 
 pub no-limits-goes : (D : Declared) (skip : ℕ) (vs : List Visit) (t : Tallies) (w : Bytes) →
-    (t' : Tallies) × (w' : Bytes) × (scan (conditions D (noLimits skip t vs) (room_for D t w vs)) (going t w) vs ≡ going t' w')
+    (t' : Tallies) × (w' : Bytes) × (scan (conditions D (no_limits skip t vs) (room_for D t w vs)) (going t w) vs ≡ going t' w')
 no-limits-goes D skip vs t w =
-    ample-goes (conditions D (noLimits skip t vs) (room_for D t w vs)) vs t w (omega arith, deepest-each (deepest vs) vs (omega arith), omega arith)
+    ample-goes (conditions D (no_limits skip t vs) (room_for D t w vs)) vs t w (omega arith, deepest-each (deepest vs) vs (omega arith), omega arith)
 
 -- so every run's bytes are a beginning of those of a run that meets no limit
 pub cut : (C : Conditions) (vs : List Visit) (t : Tallies) (w : Bytes) →
     (t' : Tallies) × (w' : Bytes) ×
-    (scan (conditions C.declared (noLimits C.setting.skip t vs) (room_for C.declared t w vs)) (going t w) vs ≡ going t' w') ×
+    (scan (conditions C.declared (no_limits C.setting.skip t vs) (room_for C.declared t w vs)) (going t w) vs ≡ going t' w') ×
     Begins (written_by (scan C (going t w) vs)) w'
 cut C vs t w =
     let g = no-limits-goes C.declared C.setting.skip vs t w in
-    (g.0, g.1, g.2, cut-prefix C (noLimits C.setting.skip t vs) (room_for C.declared t w vs) refl vs t g.0 w g.1 g.2)
+    (g.0, g.1, g.2, cut-prefix C (no_limits C.setting.skip t vs) (room_for C.declared t w vs) refl vs t g.0 w g.1 g.2)
 
 -- ---- the visit at which a run is stopped
 
@@ -143,7 +143,7 @@ module _ (C : Conditions) where
     pub parts : vs ≡ passed ++ there ∷ unread
     pub goes : scan C (going t w) passed ≡ going before w'
     pub meets : Meets C e there before w'
-    pub after : t' ≡ atStop e before
+    pub after : t' ≡ at_stop e before
 
   -- a run that is stopped is stopped at such a visit
   pub stopped-at : (vs : List Visit) (t t' : Tallies) (w w' : Bytes) (e : Stop) →
@@ -159,7 +159,7 @@ module _ (C : Conditions) where
       Holds t w vs (stopped e t' w') = StoppedAt t w vs e t' w'
 
       later : (v : Visit) (vs : List Visit) (t : Tallies) (w : Bytes) (r : Run) → Passes C v t w →
-          Holds (counted v.event t) (w ++ addedUnder C t v.event) vs r → Holds t w (v ∷ vs) r
+          Holds (counted v.event t) (w ++ added_under C t v.event) vs r → Holds t w (v ∷ vs) r
       later v vs t w (going t' w') m c = tt
       later v vs t w (stopped e t' w') m c =
           record {
@@ -176,7 +176,7 @@ module _ (C : Conditions) where
   -- and wherever the visits before are passed and the next meets the condition, the run is stopped there
   pub stops_at : (xs : List Visit) (v : Visit) (ys : List Visit) (t u : Tallies) (w w' : Bytes) (e : Stop) →
       scan C (going t w) xs ≡ going u w' → Meets C e v u w' →
-      scan C (going t w) (xs ++ v ∷ ys) ≡ stopped e (atStop e u) w'
+      scan C (going t w) (xs ++ v ∷ ys) ≡ stopped e (at_stop e u) w'
   stops_at xs v ys t u w w' e h m =
       rw (← then-is-++ xs (v ∷ ys), scan-append C (going t w) xs (v ∷ ys), h) (scan-stops C v ys u w' e m)
 

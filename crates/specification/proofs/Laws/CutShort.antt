@@ -9,17 +9,17 @@ use mathlib.Core.Bool.{Bool, true}
 use mathlib.Core.List.{[], ◌∷◌, ◌++◌}
 use mathlib.Core.Option.{Option}
 use lib.ListN.{length}
-use Rattle.specification.specs.Bytes.{Bytes, bytes, feed, inToken}
+use Rattle.specification.specs.Bytes.{Bytes, bytes, feed, in_token}
 use Rattle.specification.specs.Parser.{Reader, Read, refused, found, Parser, give, ◌>>◌, and_then, mark, finish}
 use Rattle.specification.specs.Words.{Word}
 use Rattle.specification.specs.Formula.{token}
-use Rattle.specification.specs.Sheet.{withProcedures, mostProcedures, Sheet, refuses, sheet, opened, readWith, read}
+use Rattle.specification.specs.Sheet.{with_procedures, most_procedures, Sheet, refuses, sheet, opened, read_with, read}
 use Rattle.specification.proofs.Laws.Contradiction.{contradiction}
 use Rattle.specification.proofs.Laws.Parser.{Post, refusal as refused_post, holds, of-found, bind-post}
 use Rattle.specification.proofs.Laws.LineReaders.{Composed}
 use Rattle.specification.proofs.Laws.FormulaReaders.{Tokened, formula-by, procedures-by}
 use Rattle.specification.proofs.Laws.SheetLines.{sheet-by}
-use Rattle.specification.proofs.Laws.Steady.{Left, withRest, end, extended, Alike, Steady, give-steady, present-steady, bind-steady, post-map, sees-steady, spells-steady, numbered-steady, bind-local-steady, mark-always, mark-steady, exactly-steady, taken-steady}
+use Rattle.specification.proofs.Laws.Steady.{Left, with_rest, end, extended, Alike, Steady, give-steady, present-steady, bind-steady, post-map, sees-steady, spells-steady, numbered-steady, bind-local-steady, mark-always, mark-steady, exactly-steady, taken-steady}
 
 -- ---- a sheet that goes on after its end
 
@@ -43,7 +43,7 @@ module _ (q : Bytes) (more : Left q) where
   finish-over a r = go q more r.rest
     where
       go : (q : Bytes) → Left q → (bs : Bytes) →
-          Post (λ b r'. (finish >> give a) (withRest (bs ++ q) r) ≡ refused 5 (end (withRest bs r))) ((finish >> give a) (withRest bs r))
+          Post (λ b r'. (finish >> give a) (with_rest (bs ++ q) r) ≡ refused 5 (end (with_rest bs r))) ((finish >> give a) (with_rest bs r))
       go [] h bs = absurd (omega arith)
       go (c ∷ q) h [] = holds (rw add-zero)
       go (c ∷ q) h (b ∷ bs) = refused_post tt
@@ -72,7 +72,7 @@ module _ (q : Bytes) (more : Left q) where
   unfolding token
   token-steady word r =
       bind-steady (numbered-steady r) λ n r₁.
-      bind-steady (taken-steady inToken r₁) λ bs r₂.
+      bind-steady (taken-steady in_token r₁) λ bs r₂.
       bind-steady (present-steady 4 r.place (word bs) r₂) λ w. give-steady _
 
   steady-tokened : Tokened (λ p. Unit {0}) (λ A m. Steady q m)
@@ -86,15 +86,15 @@ module _ (q : Bytes) (more : Left q) where
   sheet-over strict =
       sheet-by steady-composed (λ m. (r : Reader) → Post (Over q r (m (extended q r))) (m r)) (λ A m f h k r. bind-over (h r) k) strict
       (λ E is r.
-      bind-over (procedures-by steady-tokened (refuses strict E.edition) (mostProcedures E.edition) E r) λ Ps r₁.
+      bind-over (procedures-by steady-tokened (refuses strict E.edition) (most_procedures E.edition) E r) λ Ps r₁.
       bind-over (exactly-steady 3 (bytes "formula=") r₁) λ u r₂.
-      bind-over (formula-by steady-tokened (withProcedures Ps E) (refuses strict E.edition) 64 [] r₂) λ F r₃. end-over _ r₃)
+      bind-over (formula-by steady-tokened (with_procedures Ps E) (refuses strict E.edition) 64 [] r₂) λ F r₃. end-over _ r₃)
 
 -- ---- the laws
 
 -- an accepted sheet with bytes after it is refused with 5, at the first of them
 pub longer-refused : (p q : Bytes) (s : Sheet) (r : Reader) → 0 < length q → read p ≡ found s r → read (p ++ q) ≡ refused 5 (length p)
-unfolding readWith
+unfolding read_with
 longer-refused p q s r h e = (of-found (sheet-over q h true (opened p)) e).over ∙ ap (refused 5) (zero-add (length p))
 
 -- a proper beginning of an accepted sheet is refused

@@ -12,11 +12,11 @@ use lib.IntN.{ℤ, pos, ◌+ℤ◌}
 use Rattle.specification.specs.Number.{least, greatest}
 use Rattle.specification.specs.Lines.{Declared}
 use Rattle.specification.specs.Ast.{Term, Formula, truth, and, or, imp, neg, eq, compare, ex, some, all, call}
-use Rattle.specification.specs.Arithmetic.{eqZ, test, count}
+use Rattle.specification.specs.Arithmetic.{eq_z, test, count}
 use Rattle.specification.specs.Place.{local, put}
 use Rattle.specification.specs.Plain.{Env, value_of, Has, SomeFrom, EachFrom, Truth}
 use Rattle.specification.proofs.Laws.Contradiction.{contradiction}
-use Rattle.specification.proofs.Laws.Range.{eqZ-eq, eqZ-refl, in32-range, range-in32, range_at, range-in}
+use Rattle.specification.proofs.Laws.Range.{eq_z-eq, eq_z-refl, in32-range, range-in32, range_at, range-in}
 
 -- ---- decisions
 
@@ -99,8 +99,8 @@ module _ (D : Declared) where
   decide (imp tok F G) ρ = imp-dec (decide F ρ) (decide G ρ)
   decide (neg tok F) ρ = Dec.not (decide F ρ)
   decide (eq tok s t) ρ =
-      Dec.of_iff (λ (x, y, h, k, e). (x, h, rw (eqZ-eq x y e) k), λ (x, h, k). (x, x, h, k, eqZ-refl x))
-      (values-dec D ρ s t (λ x y. T (eqZ x y)) (λ x y. T-dec (eqZ x y)))
+      Dec.of_iff (λ (x, y, h, k, e). (x, h, rw (eq_z-eq x y e) k), λ (x, h, k). (x, x, h, k, eq_z-refl x))
+      (values-dec D ρ s t (λ x y. T (eq_z x y)) (λ x y. T-dec (eq_z x y)))
   decide (compare tok r s t) ρ = values-dec D ρ s t (λ x y. T (test r x y)) (λ x y. T-dec (test r x y))
   decide (ex l F) ρ =
       Dec.of_iff (λ (v, p, q, t). (v, range-in32 v p q, t), λ (v, i, t). let r = in32-range v i in (v, r.0, r.1, t))

@@ -15,9 +15,9 @@ use Rattle.specification.specs.Sheet.{Sheet}
 use Rattle.specification.specs.WellFormed.{WellFormed}
 use Rattle.specification.specs.Listing.{Block}
 use Rattle.specification.specs.Leaves.{leaves, blocks}
-use Rattle.specification.specs.Outcome.{ran, rootOf, visitsOf, call}
+use Rattle.specification.specs.Outcome.{ran, root_of, visits_of, call}
 use Rattle.specification.specs.Listed.{Listed}
-use Rattle.specification.specs.Demand2.{leafCount, past, leavesBefore, listedBefore, Ends, ReadLeftToRight}
+use Rattle.specification.specs.Demand2.{leaf_count, past, leaves_before, listed_before, Ends, ReadLeftToRight}
 use Rattle.specification.specs.Plain.{Filling, env, True}
 use Rattle.specification.specs.Demand3.{NoPattern, Right, Agreement, Demand3}
 use Rattle.specification.specs.InRanges.{InRanges}
@@ -25,33 +25,33 @@ use Rattle.specification.proofs.Laws.Past.{each-past}
 use Rattle.specification.proofs.Laws.Blocks.{listing-injective}
 use Rattle.specification.proofs.Laws.ReadSheet.{read-well-formed}
 use Rattle.specification.proofs.Laws.Decide.{decide}
-use Rattle.specification.proofs.Laws.Leaves.{leavesIn-visits, each-first-blocks}
+use Rattle.specification.proofs.Laws.Leaves.{leaves_in-visits, each-first-blocks}
 use Rattle.specification.proofs.Laws.CallRan.{call-ran}
-use Rattle.specification.proofs.Laws.Demand2.{leavesBefore-is, Holds, read-left-to-right}
-use Rattle.specification.proofs.Laws.Agreement.{allBlocks, right, agreement}
-use Rattle.specification.proofs.Laws.InRanges.{in-ranges}
+use Rattle.specification.proofs.Laws.Demand2.{leaves_before-is, Holds, read-left-to-right}
+use Rattle.specification.proofs.Laws.Agreement.{all_blocks, right, agreement}
+use Rattle.specification.proofs.Laws.InRanges.{in_ranges}
 use Rattle.specification.proofs.Laws.NoPattern.{no-pattern}
 
 -- ---- the blocks up to a place
 
 -- the blocks of the first leaves, past the skipped ones, are among all
-among : (s : Sheet) (wf : WellFormed s) (skip n : ℕ) (P : Block → Type 0) → Each P (allBlocks s wf) → Each P (listedBefore s skip n)
-unfolding listedBefore leavesBefore
-among s wf skip n P h = each-past P skip _ (each-first-blocks s.declared P (leafCount (take n (visitsOf s))) (leaves (rootOf s)) 0 0 h)
+among : (s : Sheet) (wf : WellFormed s) (skip n : ℕ) (P : Block → Type 0) → Each P (all_blocks s wf) → Each P (listed_before s skip n)
+unfolding listed_before leaves_before
+among s wf skip n P h = each-past P skip _ (each-first-blocks s.declared P (leaf_count (take n (visits_of s))) (leaves (root_of s)) 0 0 h)
 
-right-before : (s : Sheet) → WellFormed s → (skip n : ℕ) → Right s (listedBefore s skip n)
+right-before : (s : Sheet) → WellFormed s → (skip n : ℕ) → Right s (listed_before s skip n)
 right-before s wf skip n = record {
-  names-given = among s wf skip n _ (right s wf).names-given;
+  names_given = among s wf skip n _ (right s wf).names_given;
   sound = λ φ such. among s wf skip n _ ((right s wf).sound φ such);
 }
 
 -- with nothing skipped, and all visited, they are all
-all-before : (s : Sheet) (wf : WellFormed s) (skip n : ℕ) → skip ≡ 0 → n ≡ length (visitsOf s) → listedBefore s skip n ≡ allBlocks s wf
-unfolding listedBefore visitsOf
+all-before : (s : Sheet) (wf : WellFormed s) (skip n : ℕ) → skip ≡ 0 → n ≡ length (visits_of s) → listed_before s skip n ≡ all_blocks s wf
+unfolding listed_before visits_of
 all-before s wf skip n z e =
-    ap (λ k. past k (blocks s.declared 0 0 (leavesBefore s n))) z ∙
-    ap (λ m. blocks s.declared 0 0 (leavesBefore s m)) e ∙
-    ap (blocks s.declared 0 0) (leavesBefore-is s (visitsOf s) [] (sym (append-nil (visitsOf s))) ∙ leavesIn-visits (rootOf s) 1)
+    ap (λ k. past k (blocks s.declared 0 0 (leaves_before s n))) z ∙
+    ap (λ m. blocks s.declared 0 0 (leaves_before s m)) e ∙
+    ap (blocks s.declared 0 0) (leaves_before-is s (visits_of s) [] (sym (append-nil (visits_of s))) ∙ leaves_in-visits (root_of s) 1)
 
 -- ---- of a call
 
@@ -61,7 +61,7 @@ pub record Told (sheet written : Bytes) (S : Setting) (size : ℕ) (end : End) (
   pub listed : Listed sheet written
   pub tree : ReadLeftToRight listed.what S size end t listed.blocks
   pub right : Right listed.what listed.blocks
-  pub in-ranges : InRanges listed.what.declared listed.blocks
+  pub in_ranges : InRanges listed.what.declared listed.blocks
   pub agrees : S.skip ≡ 0 → end ≡ Done → Agreement listed.what listed.blocks
   pub none : end ≡ Done → t.errors ≡ 0 → (t.answers ≡ 0 → NoPattern listed.what) × (NoPattern listed.what → t.answers ≡ 0)
 
@@ -82,9 +82,9 @@ told sheet S words size end t w h =
       };
       tree = tree;
       right = rw tree.blocks (right-before s wf S.skip tree.place);
-      in-ranges = rw tree.blocks (among s wf S.skip tree.place _ (in-ranges s wf));
+      in_ranges = rw tree.blocks (among s wf S.skip tree.place _ (in_ranges s wf));
       agrees = λ skip done.
-          let all : tree.place ≡ length (visitsOf s) = subst (λ e. Ends s S size e tree.place) done tree.ends in
+          let all : tree.place ≡ length (visits_of s) = subst (λ e. Ends s S size e tree.place) done tree.ends in
           rw (tree.blocks, all-before s wf S.skip tree.place skip all) (agreement s wf);
       none = λ done. no-pattern s wf S size t bs (subst (λ e. ReadLeftToRight s S size e t bs) done tree);
     }

@@ -13,11 +13,11 @@ use lib.IntN.{ℤ, pos, negsuc, neg_ℤ, nat_abs, ◌+ℤ◌, ◌*ℤ◌}
 use lib.Signed.{quot_z, rem_z, ◌≤ℤ◌, ◌<ℤ◌}
 use borrow.Author.Tests.{eqb-true, eqb-false, ne_eqb, lt-ltb, le-ltb}
 use mir.Facts.{and_yes, yes_and}
-use Rattle.specification.specs.Bytes.{bytes, pick, class_of, classNumber, isIn, inNumber, same, begins}
+use Rattle.specification.specs.Bytes.{bytes, pick, class_of, class_number, is_in, in_number, same, begins}
 use Rattle.specification.specs.Number.{least, in32}
 use Rattle.specification.specs.Ast.{Op, quo, rem, div, modulo}
-use Rattle.specification.specs.Words.{termWord, opWord, unknown, commonWords, olderDivision, firstRounding, division, own_words, words, name_of, find, word_of}
-use Rattle.specification.specs.Arithmetic.{outside32, zeroDivisor, Computed, value, fault, fit, divided, floorZ, remains, compute}
+use Rattle.specification.specs.Words.{term_word, op_word, unknown, common_words, older_division, first_rounding, division, own_words, words, name_of, find, word_of}
+use Rattle.specification.specs.Arithmetic.{outside32, zero_divisor, Computed, value, fault, fit, divided, floor_z, remains, compute}
 use Rattle.specification.proofs.Laws.Contradiction.{contradiction}
 use Rattle.specification.proofs.Laws.Rounding.{makes-up, remains-is, remainder_is, remainder-less, Within, within-less, within-sign, floor-within, floor-only, SignsAgree, Divides, floor-quotient, left-remainder}
 
@@ -25,30 +25,30 @@ use Rattle.specification.proofs.Laws.Rounding.{makes-up, remains-is, remainder_i
 
 -- in a sheet of this edition the word means the operation
 abbrev pub Means : ℕ → String → Op → Type 0
-Means edition word o = word_of edition (bytes word) ≡ just (termWord (opWord o))
+Means edition word o = word_of edition (bytes word) ≡ just (term_word (op_word o))
 
 abbrev pub NoWord : ℕ → String → Type 0
 NoWord edition word = word_of edition (bytes word) ≡ just unknown
 
 unfoldable reading : Type 0
-unfolding class_of classNumber isIn inNumber same begins commonWords olderDivision division own_words words name_of find word_of
+unfolding class_of class_number is_in in_number same begins common_words older_division division own_words words name_of find word_of
 reading = Unit {0}
 
 -- editions 1 and 2
-pub older-words : (edition : ℕ) → edition < firstRounding →
+pub older-words : (edition : ℕ) → edition < first_rounding →
     Means edition "div" quo × Means edition "mod" rem × NoWord edition "quo" × NoWord edition "rem"
 unfolding reading
 older-words edition h = by (eqb edition 1) refl
   where
     by : (b : Bool) → eqb edition 1 ≡ b → Means edition "div" quo × Means edition "mod" rem × NoWord edition "quo" × NoWord edition "rem"
     by true e = rw e (refl, refl, refl, refl)
-    by false e = rw (e, lt-ltb edition firstRounding h) (refl, refl, refl, refl)
+    by false e = rw (e, lt-ltb edition first_rounding h) (refl, refl, refl, refl)
 
 -- from edition 3 on
-pub rounding-words : (edition : ℕ) → firstRounding ≤ edition →
+pub rounding-words : (edition : ℕ) → first_rounding ≤ edition →
     Means edition "div" div × Means edition "mod" modulo × Means edition "quo" quo × Means edition "rem" rem
 unfolding reading
-rounding-words edition h = rw (ne_eqb edition 1 (λ e. omega arith), le-ltb edition firstRounding h) (refl, refl, refl, refl)
+rounding-words edition h = rw (ne_eqb edition 1 (λ e. omega arith), le-ltb edition first_rounding h) (refl, refl, refl, refl)
 
 -- ---- what an operation gives
 
@@ -81,7 +81,7 @@ divided-nonzero (negsuc b) c n = refl
 
 -- what it says that a division has a value: the divisor is not 0, and the value is the exact one
 divisor : (b z r : ℤ) → divided b (fit z) ≡ value r → b ≡ pos zero → ⊥
-divisor b z r e q = let f : fault zeroDivisor ≡ value r = sym (ap (λ y. divided y (fit z)) q) ∙ e in contradiction cc
+divisor b z r e q = let f : fault zero_divisor ≡ value r = sym (ap (λ y. divided y (fit z)) q) ∙ e in contradiction cc
 
 exact : (b z r : ℤ) → divided b (fit z) ≡ value r → z ≡ r
 exact b z r e = fitted z r (sym (divided-nonzero b (fit z) (divisor b z r e)) ∙ e)
@@ -95,19 +95,19 @@ module _ (a b : ℤ) where
   unfolding compute
   rem-exact r g = exact b (remains a b (quot_z a b)) r g
 
-  div-exact : (q : ℤ) → Gives div a b q → floorZ a b ≡ q
+  div-exact : (q : ℤ) → Gives div a b q → floor_z a b ≡ q
   unfolding compute
-  div-exact q g = exact b (floorZ a b) q g
+  div-exact q g = exact b (floor_z a b) q g
 
-  mod-exact : (r : ℤ) → Gives modulo a b r → remains a b (floorZ a b) ≡ r
+  mod-exact : (r : ℤ) → Gives modulo a b r → remains a b (floor_z a b) ≡ r
   unfolding compute
-  mod-exact r g = exact b (remains a b (floorZ a b)) r g
+  mod-exact r g = exact b (remains a b (floor_z a b)) r g
 
   -- ---- a = b × (a div b) + a mod b
 
   -- also where the quotient itself is outside 32 bits
-  pub mod-leaves : (r : ℤ) → Gives modulo a b r → a ≡ b *ℤ floorZ a b +ℤ r
-  mod-leaves r g = makes-up a b (floorZ a b) ∙ ap (λ z. b *ℤ floorZ a b +ℤ z) (mod-exact r g)
+  pub mod-leaves : (r : ℤ) → Gives modulo a b r → a ≡ b *ℤ floor_z a b +ℤ r
+  mod-leaves r g = makes-up a b (floor_z a b) ∙ ap (λ z. b *ℤ floor_z a b +ℤ z) (mod-exact r g)
 
   pub rem-leaves : (r : ℤ) → Gives rem a b r → a ≡ b *ℤ quot_z a b +ℤ r
   rem-leaves r g = makes-up a b (quot_z a b) ∙ ap (λ z. b *ℤ quot_z a b +ℤ z) (rem-exact r g)
@@ -123,7 +123,7 @@ module _ (a b : ℤ) where
   module _ (r : ℤ) (g : Gives modulo a b r) where
     mod-within : Within b r
     unfolding compute
-    mod-within = subst (Within b) (mod-exact r g) (floor-within a b (divisor b (remains a b (floorZ a b)) r g))
+    mod-within = subst (Within b) (mod-exact r g) (floor-within a b (divisor b (remains a b (floor_z a b)) r g))
 
     -- from 0 up to the divisor, which is not included
     pub mod-above : pos zero <ℤ b → (pos zero ≤ℤ r) × (r <ℤ b)
@@ -135,7 +135,7 @@ module _ (a b : ℤ) where
   -- and no other quotient leaves such a rest
   pub div-only : (q r q' r' : ℤ) → Gives div a b q → Gives modulo a b r → a ≡ b *ℤ q' +ℤ r' → Within b r' → (q ≡ q') × (r ≡ r')
   div-only q r q' r' g h e w =
-      let same : floorZ a b ≡ q' = floor-only a b q' r' e w in
+      let same : floor_z a b ≡ q' = floor-only a b q' r' e w in
       (sym (div-exact q g) ∙ same, sym (mod-exact r h) ∙ ap (remains a b) same ∙ remains-is a b q' r' e)
 
   -- the older pair's is smaller than the divisor and has the dividend's sign
@@ -201,7 +201,7 @@ quo-in32 (negsuc a) (negsuc zero) t n = pos-in32 (suc a / 1) (rw (div-one (suc a
 quo-in32 (negsuc a) (negsuc (suc b)) t n =
     pos-in32 (suc a / suc (suc b)) (omega (arith, neg-size a t, div-lt_self {n = suc a} {k = suc (suc b)} (omega arith) (omega arith)))
 
-div-in32 : (a b : ℤ) → T (in32 a) → ¬ Unfit a b → T (in32 (floorZ a b))
+div-in32 : (a b : ℤ) → T (in32 a) → ¬ Unfit a b → T (in32 (floor_z a b))
 div-in32 (pos a) (pos b) t n = quo-in32 (pos a) (pos b) t n
 div-in32 (pos zero) (negsuc b) t n = pos-in32 0 (omega arith)
 div-in32 (pos (suc a)) (negsuc b) t n = neg-in32 (suc (a / suc b)) (omega (arith, pos-size (suc a) t, div-le_self a (suc b)))
@@ -213,18 +213,18 @@ module _ (a b : ℤ) (s : T (in32 a)) (t : T (in32 b)) (n : b ≡ pos zero → �
   gives z f = divided-nonzero b (fit z) n ∙ fit-in z f
 
   -- a rest always
-  pub mod-fits : Gives modulo a b (remains a b (floorZ a b))
+  pub mod-fits : Gives modulo a b (remains a b (floor_z a b))
   unfolding compute
-  mod-fits = let r = remains a b (floorZ a b) in gives r (rest-in32 b r t (within-less b r (floor-within a b n)))
+  mod-fits = let r = remains a b (floor_z a b) in gives r (rest-in32 b r t (within-less b r (floor-within a b n)))
 
   pub rem-fits : Gives rem a b (remains a b (quot_z a b))
   unfolding compute
   rem-fits = let r = remains a b (quot_z a b) in gives r (rest-in32 b r t (rw (remainder_is a b) (remainder-less a b n)))
 
   -- a quotient but for that one
-  pub div-fits : ¬ Unfit a b → Gives div a b (floorZ a b)
+  pub div-fits : ¬ Unfit a b → Gives div a b (floor_z a b)
   unfolding compute
-  div-fits u = gives (floorZ a b) (div-in32 a b s u)
+  div-fits u = gives (floor_z a b) (div-in32 a b s u)
 
   pub quo-fits : ¬ Unfit a b → Gives quo a b (quot_z a b)
   unfolding compute
@@ -246,12 +246,12 @@ module _ (a b : ℤ) (s : T (in32 a)) (t : T (in32 b)) (n : b ≡ pos zero → �
     where
       by : SignsAgree a b ⊎ (¬ Unfit a b) → compute div a b ≡ compute quo a b → SignsAgree a b ⊎ Divides b a
       by (inl s) e = inl s
-      by (inr u) e = (floor-quotient a b n).0 (let v : value (floorZ a b) ≡ value (quot_z a b) = sym (div-fits u) ∙ e ∙ quo-fits u in cc)
+      by (inr u) e = (floor-quotient a b n).0 (let v : value (floor_z a b) ≡ value (quot_z a b) = sym (div-fits u) ∙ e ∙ quo-fits u in cc)
 
   pub mod-rem : (compute modulo a b ≡ compute rem a b) ↔ (SignsAgree a b ⊎ Divides b a)
   unfolding compute
   mod-rem = (
-    (λ e. (left-remainder a b n).0 (let v : value (remains a b (floorZ a b)) ≡ value (remains a b (quot_z a b)) = sym mod-fits ∙ e ∙ rem-fits in cc)),
+    (λ e. (left-remainder a b n).0 (let v : value (remains a b (floor_z a b)) ≡ value (remains a b (quot_z a b)) = sym mod-fits ∙ e ∙ rem-fits in cc)),
     (λ h. ap (λ z. divided b (fit z)) ((left-remainder a b n).1 h)),
   )
 
@@ -262,15 +262,15 @@ pub outside : (compute div least (negsuc zero) ≡ fault outside32) × (compute 
 unfolding compute fit
 outside = (refl, refl)
 
-pub by_zero : (a : ℤ) → (compute quo a (pos zero) ≡ fault zeroDivisor) × (compute rem a (pos zero) ≡ fault zeroDivisor) ×
-    (compute div a (pos zero) ≡ fault zeroDivisor) × (compute modulo a (pos zero) ≡ fault zeroDivisor)
+pub by_zero : (a : ℤ) → (compute quo a (pos zero) ≡ fault zero_divisor) × (compute rem a (pos zero) ≡ fault zero_divisor) ×
+    (compute div a (pos zero) ≡ fault zero_divisor) × (compute modulo a (pos zero) ≡ fault zero_divisor)
 unfolding compute
 by_zero a = (refl, refl, refl, refl)
 
 -- ---- around a rim
 
 -- whatever operation `mod` means in a sheet from edition 3 on, by a positive number it leaves one from 0 up to it
-pub word_mod : (edition : ℕ) → firstRounding ≤ edition → (o : Op) → Means edition "mod" o →
+pub word_mod : (edition : ℕ) → first_rounding ≤ edition → (o : Op) → Means edition "mod" o →
     (a b r : ℤ) → Gives o a b r → pos zero <ℤ b → (pos zero ≤ℤ r) × (r <ℤ b)
 word_mod edition h o m a b r g =
     let e = (rounding-words edition h).1 in

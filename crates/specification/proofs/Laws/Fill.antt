@@ -9,23 +9,23 @@ use lib.ListN.{length, get_or, take, length-take}
 use lib.Dec.{T, T_not, not_T, eqb}
 use Rattle.specification.specs.Lists.{Each}
 use Rattle.specification.specs.Bytes.{pick}
-use Rattle.specification.specs.Lines.{Declared, procedureOf}
-use Rattle.specification.specs.Ast.{Term, constant, scalarAt, local_at, parameter, elementAt, apply, Formula, truth, and, or, imp, neg, eq, compare, ex, some, all, call}
-use Rattle.specification.specs.Fill.{fillTerm, fillTerms, fill}
+use Rattle.specification.specs.Lines.{Declared, procedure_of}
+use Rattle.specification.specs.Ast.{Term, constant, scalar_at, local_at, parameter, element_at, apply, Formula, truth, and, or, imp, neg, eq, compare, ex, some, all, call}
+use Rattle.specification.specs.Fill.{fill_term, fill_terms, fill}
 use Rattle.specification.specs.Outside.{binds}
 use Rattle.specification.specs.WellFormed.{Scope, nowhere, enter, OkTerm, Called, Ok, line_of, OkProcedures}
 use Rattle.specification.proofs.Laws.Outside.{Within, and-within, or-within, imp-within, ex-within, some-within, all-within}
 
 -- ---- lists
 
-pub length-fill : (ts us : List Term) → length (fillTerms ts us) ≡ length us
-unfolding fillTerms
+pub length-fill : (ts us : List Term) → length (fill_terms ts us) ≡ length us
+unfolding fill_terms
 length-fill ts [] = refl
 length-fill ts (u ∷ us) = ap suc (length-fill ts us)
 
 -- the n-th of terms that are filled
-pub fill-at : (ts us : List Term) (n : ℕ) (d e : Term) → n < length us → get_or (fillTerms ts us) n d ≡ fillTerm ts (get_or us n e)
-unfolding fillTerms
+pub fill-at : (ts us : List Term) (n : ℕ) (d e : Term) → n < length us → get_or (fill_terms ts us) n d ≡ fill_term ts (get_or us n e)
+unfolding fill_terms
 fill-at ts [] n d e h = absurd (omega arith)
 fill-at ts (u ∷ us) zero d e h = refl
 fill-at ts (u ∷ us) (suc n) d e h = fill-at ts us n d e (omega arith)
@@ -36,8 +36,8 @@ each_at P [] n d h e = absurd (omega arith)
 each_at P (x ∷ xs) zero d h e = e.0
 each_at P (x ∷ xs) (suc n) d h e = each_at P xs n d (omega arith) e.1
 
-pub each-fill : (P Q : Term → Type 0) (ts us : List Term) → ((u : Term) → P u → Q (fillTerm ts u)) → Each P us → Each Q (fillTerms ts us)
-unfolding fillTerms Each
+pub each-fill : (P Q : Term → Type 0) (ts us : List Term) → ((u : Term) → P u → Q (fill_term ts u)) → Each P us → Each Q (fill_terms ts us)
+unfolding fill_terms Each
 each-fill P Q ts [] f e = tt
 each-fill P Q ts (u ∷ us) f e = (f u e.0, each-fill P Q ts us f e.1)
 
@@ -67,19 +67,19 @@ fill-binds ts (call K us F) l = fill-binds ts F l
 
 module _ (D : Declared) (ts us : List Term) (count : D.parameters ≡ length us) where
   abbrev vs : List Term
-  vs = fillTerms ts us
+  vs = fill_terms ts us
 
-  term-twice : (S : Scope) (t : Term) → OkTerm D S t → fillTerm ts (fillTerm us t) ≡ fillTerm vs t
-  unfolding fillTerm OkTerm
+  term-twice : (S : Scope) (t : Term) → OkTerm D S t → fill_term ts (fill_term us t) ≡ fill_term vs t
+  unfolding fill_term OkTerm
   term-twice S (constant z) o = refl
-  term-twice S (scalarAt c) o = refl
+  term-twice S (scalar_at c) o = refl
   term-twice S (local_at l) o = refl
   term-twice S (parameter n) o = sym (fill-at ts us n (parameter n) (parameter n) (omega (arith, count, o)))
-  term-twice S (elementAt a t) o = ap (elementAt a) (term-twice S t o.1)
+  term-twice S (element_at a t) o = ap (element_at a) (term-twice S t o.1)
   term-twice S (apply p s t) o = ap₂ (apply p) (term-twice S s o.0) (term-twice S t o.1)
 
-  terms-twice : (S : Scope) (ws : List Term) → Each (OkTerm D S) ws → fillTerms ts (fillTerms us ws) ≡ fillTerms vs ws
-  unfolding fillTerms Each
+  terms-twice : (S : Scope) (ws : List Term) → Each (OkTerm D S) ws → fill_terms ts (fill_terms us ws) ≡ fill_terms vs ws
+  unfolding fill_terms Each
   terms-twice S [] o = refl
   terms-twice S (w ∷ ws) o = ap₂ ◌∷◌ (term-twice S w o.0) (terms-twice S ws o.1)
 
@@ -124,10 +124,10 @@ module _ (D : Declared) (A S : Scope) (h : Larger A S) where
   pub ok-term-larger : (t : Term) → OkTerm D A t → OkTerm D S t
   unfolding OkTerm
   ok-term-larger (constant z) o = o
-  ok-term-larger (scalarAt c) o = o
+  ok-term-larger (scalar_at c) o = o
   ok-term-larger (local_at l) o = h l o
   ok-term-larger (parameter n) o = o
-  ok-term-larger (elementAt a t) o = (o.0, ok-term-larger t o.1)
+  ok-term-larger (element_at a t) o = (o.0, ok-term-larger t o.1)
   ok-term-larger (apply p s t) o = (ok-term-larger s o.0, ok-term-larger t o.1)
 
 -- ---- a procedure's formula where it is called
@@ -152,34 +152,34 @@ fresh-apart : (R S : Scope) (F : Formula) (l : ℕ) → Apart R S F → T (binds
 fresh-apart R S F l h b n = not_T (S l) (λ t. T_not (R l) n (h l b t))
 
 -- in D, a formula of the line of procedure K, with terms that are well scoped in A for its parameters
-module _ (D : Declared) (procedures : OkProcedures D) (K : ℕ) (ts : List Term) (count : length ts ≡ (procedureOf D K).parameters)
+module _ (D : Declared) (procedures : OkProcedures D) (K : ℕ) (ts : List Term) (count : length ts ≡ (procedure_of D K).parameters)
     (A : Scope) (given : Each (OkTerm D A) ts) where
   abbrev L : Declared
   L = line_of D K
 
-  ok-fill-term : (R S : Scope) → Larger R S → Larger A S → (t : Term) → OkTerm L R t → OkTerm D S (fillTerm ts t)
-  unfolding fillTerm OkTerm
+  ok-fill-term : (R S : Scope) → Larger R S → Larger A S → (t : Term) → OkTerm L R t → OkTerm D S (fill_term ts t)
+  unfolding fill_term OkTerm
   ok-fill-term R S h a (constant z) o = o
-  ok-fill-term R S h a (scalarAt c) o = o
+  ok-fill-term R S h a (scalar_at c) o = o
   ok-fill-term R S h a (local_at l) o = h l o
   ok-fill-term R S h a (parameter n) o =
       ok-term-larger D A S a (get_or ts n (parameter n)) (each_at (OkTerm D A) ts n (parameter n) (omega (arith, count, o)) given)
-  ok-fill-term R S h a (elementAt b t) o = (o.0, ok-fill-term R S h a t o.1)
+  ok-fill-term R S h a (element_at b t) o = (o.0, ok-fill-term R S h a t o.1)
   ok-fill-term R S h a (apply p s t) o = (ok-fill-term R S h a s o.0, ok-fill-term R S h a t o.1)
 
-  called-fill : (J : ℕ) (us : List Term) (F : Formula) → Called L J us F → Called D J (fillTerms ts us) (fill ts F)
+  called-fill : (J : ℕ) (us : List Term) (F : Formula) → Called L J us F → Called D J (fill_terms ts us) (fill ts F)
   called-fill J us F c =
       let short = length-take K D.procedures in
       let low : J < K = omega (arith, short, c.earlier) in
       let earlier : J < length D.procedures = omega (arith, short, c.earlier) in
-      let same : procedureOf L J ≡ procedureOf D J = get_d_take K J D.procedures _ low in
-      let many : (procedureOf D J).parameters ≡ length us = sym (c.count ∙ ap (λ P. P.parameters) same) in
+      let same : procedure_of L J ≡ procedure_of D J = get_d_take K J D.procedures _ low in
+      let many : (procedure_of D J).parameters ≡ length us = sym (c.count ∙ ap (λ P. P.parameters) same) in
       record {
         earlier = earlier;
         count = length-fill ts us ∙ sym many;
         filled =
             ap (fill ts) (c.filled ∙ ap (λ P. fill us P.formula) same) ∙
-            fill-fill (line_of D J) ts us many nowhere (procedureOf D J).formula (procedures J earlier);
+            fill-fill (line_of D J) ts us many nowhere (procedure_of D J).formula (procedures J earlier);
       }
 
   pub ok-fill : (R S : Scope) (F : Formula) → Ok L R F → Larger R S → Larger A S → Apart R S F → Ok D S (fill ts F)

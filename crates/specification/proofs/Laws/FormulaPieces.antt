@@ -8,12 +8,12 @@ use mathlib.Core.List.{[], ◌∷◌, ◌++◌}
 use lib.ListN.{length, length-append}
 use lib.Dec.{ltb}
 use Rattle.specification.specs.Parser.{Reader, Parser, give, require, ◌>>=◌, ◌>>◌, taken}
-use Rattle.specification.specs.Lines.{Declared, procedureOf}
+use Rattle.specification.specs.Lines.{Declared, procedure_of}
 use Rattle.specification.specs.Ast.{Term, Formula, and, or, imp, neg, eq, compare, ex, some, all}
-use Rattle.specification.specs.Words.{FormulaWord, trueWord, andWord, orWord, impWord, notWord, eqWord, exWord, someWord, allWord, call_word, relWord, Word, formulaWord, termWord, numberWord, unknown, word_of}
-use Rattle.specification.specs.Formula.{operand, Locals, binder, procedure, term, emptyRange, nonEmpty, formulaOf, formulaWith, formula}
-use Rattle.specification.specs.Text.{termWords, argumentWords, binderWord, formulaWords}
-use Rattle.specification.specs.Tidy.{hasEmpty, tokenCount, numbered}
+use Rattle.specification.specs.Words.{FormulaWord, true_word, and_word, or_word, imp_word, not_word, eq_word, ex_word, some_word, all_word, call_word, rel_word, Word, formula_word, term_word, number_word, unknown, word_of}
+use Rattle.specification.specs.Formula.{operand, Locals, binder, procedure, term, empty_range, non_empty, formula_of, formula_with, formula}
+use Rattle.specification.specs.Text.{term_words, argument_words, binder_word, formula_words}
+use Rattle.specification.specs.Tidy.{has_empty, token_count, numbered}
 use Rattle.specification.proofs.Laws.Contradiction.{contradiction}
 use Rattle.specification.proofs.Laws.Parser.{Post, refusal, holds, bind-post}
 use Rattle.specification.proofs.Laws.Legible.{shape_of, counts-at, LegibleTerm, Legible, binders}
@@ -36,20 +36,20 @@ quiet true false e f = refl
 quiet false b e f = contradiction cc
 
 module _ (refusing : Bool) (D : Declared) where
-  abbrev numberedHere : ℕ → Formula → Formula
-  numberedHere n F = numbered D.procedures n F
+  abbrev numbered_here : ℕ → Formula → Formula
+  numbered_here n F = numbered D.procedures n F
 
   -- as it is read where n tokens came before
   pub record AsRead (k : ℕ) (S : Locals) (n : ℕ) (F : Formula) : Type 0 where
     pub legible : Legible (shape_of D) k S F
-    pub same : numberedHere n F ≡ F
-    pub orderly : refusing ≡ true → hasEmpty F ≡ false
+    pub same : numbered_here n F ≡ F
+    pub orderly : refusing ≡ true → has_empty F ≡ false
 
-  renumbered : {F : Formula} {n m : ℕ} → n ≡ m → numberedHere n F ≡ F → numberedHere m F ≡ F
-  renumbered {F} e h = subst (λ (i : ℕ). numberedHere i F ≡ F) e h
+  renumbered : {F : Formula} {n m : ℕ} → n ≡ m → numbered_here n F ≡ F → numbered_here m F ≡ F
+  renumbered {F} e h = subst (λ (i : ℕ). numbered_here i F ≡ F) e h
 
   abbrev formulas : ℕ → Locals → Sort D Formula
-  formulas k S = record { words = formulaWords; binders = binders; Good = λ n F. AsRead k S n F }
+  formulas k S = record { words = formula_words; binders = binders; Good = λ n F. AsRead k S n F }
 
   module _ (k : ℕ) (S : Locals) (F : Locals → Parser Formula) (f : (S' : Locals) (r : Reader) → Post (Is D (formulas k S') r) (F S' r)) where
     abbrev one : (S' : Locals) (r : Reader) → Post (IsLed D (formulas k S') r) (operand (F S') r)
@@ -58,72 +58,72 @@ module _ (refusing : Bool) (D : Declared) where
     abbrev T : Parser Term
     T = term D k S
 
-    abbrev oneTerm : (r : Reader) → Post (IsLed D (terms D k S) r) (operand T r)
-    oneTerm r = operand-led D (terms D k S) T (term-spelt D k S) r
+    abbrev one_term : (r : Reader) → Post (IsLed D (terms D k S) r) (operand T r)
+    one_term r = operand-led D (terms D k S) T (term-spelt D k S) r
 
     -- a word with two formulas
     joined : (w : Word) (g : Formula → Formula → Formula) (n : ℕ) →
-        ((x y : Formula) → formulaWords (g x y) ≡ w ∷ (formulaWords x ++ formulaWords y)) →
+        ((x y : Formula) → formula_words (g x y) ≡ w ∷ (formula_words x ++ formula_words y)) →
         ((x y : Formula) → binders (g x y) ≡ binders x ++ binders y) →
         ((x y : Formula) → Legible (shape_of D) k S x → Legible (shape_of D) k S y → Legible (shape_of D) (suc k) S (g x y)) →
-        ((x y : Formula) → numberedHere n (g x y) ≡ g (numberedHere (suc n) x) (numberedHere (suc n + tokenCount x) y)) →
-        ((x y : Formula) → hasEmpty (g x y) ≡ hasEmpty x || hasEmpty y) →
+        ((x y : Formula) → numbered_here n (g x y) ≡ g (numbered_here (suc n) x) (numbered_here (suc n + token_count x) y)) →
+        ((x y : Formula) → has_empty (g x y) ≡ has_empty x || has_empty y) →
         (r : Reader) → r.tokens ≡ suc n →
         Post (After D (formulas (suc k) S) w n r) ((operand (F S) >>= λ x. operand (F S) >>= λ y. give (g x y)) r)
     joined w g n words bs legible numbers empties r e =
         bind-post (one S r) λ x r₁ (k₁, g₁).
         bind-post (one S r₁) λ y r₂ (k₂, g₂).
         let x-same = renumbered e g₁.same in
-        let y-same = renumbered (k₁.taken.tokens ∙ ap (λ (m : ℕ). m + tokenCount x) e) g₂.same in
+        let y-same = renumbered (k₁.taken.tokens ∙ ap (λ (m : ℕ). m + token_count x) e) g₂.same in
         holds (
-          formulaWords x ++ formulaWords y,
+          formula_words x ++ formula_words y,
           words x y,
-          subst (λ ls. Led D (formulaWords x ++ formulaWords y) ls r r₂) (sym (bs x y)) (led-both D k₁ k₂),
+          subst (λ ls. Led D (formula_words x ++ formula_words y) ls r r₂) (sym (bs x y)) (led-both D k₁ k₂),
           record {
             legible = legible x y g₁.legible g₂.legible;
-            same = numbers x y ∙ ap (λ z. g z (numberedHere (suc n + tokenCount x) y)) x-same ∙ ap (g x) y-same;
+            same = numbers x y ∙ ap (λ z. g z (numbered_here (suc n + token_count x) y)) x-same ∙ ap (g x) y-same;
             orderly = λ h. empties x y ∙ neither (g₁.orderly h) (g₂.orderly h);
           },
         )
 
     -- a word with two terms
-    related : (w : Word) (g : Term → Term → Formula) (n : ℕ) → ((x y : Term) → formulaWords (g x y) ≡ w ∷ (termWords x ++ termWords y)) →
+    related : (w : Word) (g : Term → Term → Formula) (n : ℕ) → ((x y : Term) → formula_words (g x y) ≡ w ∷ (term_words x ++ term_words y)) →
         ((x y : Term) → binders (g x y) ≡ []) →
         ((x y : Term) → LegibleTerm (shape_of D) k S x → LegibleTerm (shape_of D) k S y → Legible (shape_of D) (suc k) S (g x y)) →
-        ((x y : Term) → numberedHere n (g x y) ≡ g x y) → ((x y : Term) → hasEmpty (g x y) ≡ false) →
+        ((x y : Term) → numbered_here n (g x y) ≡ g x y) → ((x y : Term) → has_empty (g x y) ≡ false) →
         (r : Reader) → Post (After D (formulas (suc k) S) w n r) ((operand T >>= λ x. operand T >>= λ y. give (g x y)) r)
     related w g n words bs legible same empty r =
-        bind-post (oneTerm r) λ x r₁ (k₁, g₁).
-        bind-post (oneTerm r₁) λ y r₂ (k₂, g₂).
+        bind-post (one_term r) λ x r₁ (k₁, g₁).
+        bind-post (one_term r₁) λ y r₂ (k₂, g₂).
         holds (
-          termWords x ++ termWords y,
+          term_words x ++ term_words y,
           words x y,
-          subst (λ ls. Led D (termWords x ++ termWords y) ls r r₂) (sym (bs x y)) (led-both D k₁ k₂),
+          subst (λ ls. Led D (term_words x ++ term_words y) ls r r₂) (sym (bs x y)) (led-both D k₁ k₂),
           record { legible = legible x y g₁ g₂; same = same x y; orderly = λ h. empty x y },
         )
 
     -- a binder with bounds
     quantified : (w : Word) (g : ℕ → Term → Term → Formula → Formula) (p n : ℕ) →
-        ((l : ℕ) (a b : Term) (x : Formula) → formulaWords (g l a b x) ≡ w ∷ binderWord l ∷ (termWords a ++ (termWords b ++ formulaWords x))) →
+        ((l : ℕ) (a b : Term) (x : Formula) → formula_words (g l a b x) ≡ w ∷ binder_word l ∷ (term_words a ++ (term_words b ++ formula_words x))) →
         ((l : ℕ) (a b : Term) (x : Formula) → binders (g l a b x) ≡ l ∷ binders x) →
         ((l : ℕ) (a b : Term) (x : Formula) → ltb l D.locals ≡ true → LegibleTerm (shape_of D) k S a → LegibleTerm (shape_of D) k S b →
         Legible (shape_of D) k (l ∷ S) x → Legible (shape_of D) (suc k) S (g l a b x)) →
         ((l : ℕ) (a b : Term) (x : Formula) →
-        numberedHere n (g l a b x) ≡ g l a b (numberedHere (2 + n + length (termWords a ++ termWords b)) x)) →
-        ((l : ℕ) (a b : Term) (x : Formula) → hasEmpty (g l a b x) ≡ emptyRange a b || hasEmpty x) →
+        numbered_here n (g l a b x) ≡ g l a b (numbered_here (2 + n + length (term_words a ++ term_words b)) x)) →
+        ((l : ℕ) (a b : Term) (x : Formula) → has_empty (g l a b x) ≡ empty_range a b || has_empty x) →
         (r : Reader) → r.tokens ≡ suc n →
         Post (After D (formulas (suc k) S) w n r)
         ((operand (binder D k) >>= λ l. operand T >>= λ a. operand T >>= λ b.
-        nonEmpty refusing p a b >> (operand (F (l ∷ S)) >>= λ x. give (g l a b x))) r)
+        non_empty refusing p a b >> (operand (F (l ∷ S)) >>= λ x. give (g l a b x))) r)
     quantified w g p n words bs legible numbers empties r e =
         bind-post (operand-led D (locals D) (binder D k) (binder-spelt D k) r) λ l r₁ (k₁, d).
-        bind-post (oneTerm r₁) λ a r₂ (k₂, g₂).
-        bind-post (oneTerm r₂) λ b r₃ (k₃, g₃).
-        guarded (not (refusing && emptyRange a b)) 17 p _ r₃ λ range.
+        bind-post (one_term r₁) λ a r₂ (k₂, g₂).
+        bind-post (one_term r₂) λ b r₃ (k₃, g₃).
+        guarded (not (refusing && empty_range a b)) 17 p _ r₃ λ range.
         bind-post (one (l ∷ S) r₃) λ x r₄ (k₄, g₄).
-        let count : r₃.tokens ≡ 2 + n + length (termWords a ++ termWords b) =
-        omega (arith, e, k₁.taken.tokens, k₂.taken.tokens, k₃.taken.tokens, length-append (termWords a) (termWords b)) in
-        let us = binderWord l ∷ (termWords a ++ (termWords b ++ formulaWords x)) in
+        let count : r₃.tokens ≡ 2 + n + length (term_words a ++ term_words b) =
+        omega (arith, e, k₁.taken.tokens, k₂.taken.tokens, k₃.taken.tokens, length-append (term_words a) (term_words b)) in
+        let us = binder_word l ∷ (term_words a ++ (term_words b ++ formula_words x)) in
         holds (
           us,
           words l a b x,
@@ -131,22 +131,22 @@ module _ (refusing : Bool) (D : Declared) where
           record {
             legible = legible l a b x d g₂ g₃ g₄.legible;
             same = numbers l a b x ∙ ap (g l a b) (renumbered count g₄.same);
-            orderly = λ h. empties l a b x ∙ neither (quiet refusing (emptyRange a b) range h) (g₄.orderly h);
+            orderly = λ h. empties l a b x ∙ neither (quiet refusing (empty_range a b) range h) (g₄.orderly h);
           },
         )
 
     formula-of : (p n : ℕ) (w : FormulaWord) (r : Reader) → r.tokens ≡ suc n →
-        Post (After D (formulas (suc k) S) (formulaWord w) n r) (formulaOf refusing D F T (binder D k) (procedure D k) S p n w r)
-    unfolding formulaWords binders Legible numbered hasEmpty
-    formula-of p n trueWord r e = holds ([], refl, led-none D r, record { legible = tt; same = refl; orderly = λ h. refl })
-    formula-of p n andWord r e = joined (formulaWord andWord) and n (λ x y. refl) (λ x y. refl) (λ x y h j. (h, j)) (λ x y. refl) (λ x y. refl) r e
-    formula-of p n orWord r e = joined (formulaWord orWord) or n (λ x y. refl) (λ x y. refl) (λ x y h j. (h, j)) (λ x y. refl) (λ x y. refl) r e
-    formula-of p n impWord r e =
-        joined (formulaWord impWord) (imp n) n (λ x y. refl) (λ x y. refl) (λ x y h j. (h, j)) (λ x y. refl) (λ x y. refl) r e
-    formula-of p n notWord r e =
+        Post (After D (formulas (suc k) S) (formula_word w) n r) (formula_of refusing D F T (binder D k) (procedure D k) S p n w r)
+    unfolding formula_words binders Legible numbered has_empty
+    formula-of p n true_word r e = holds ([], refl, led-none D r, record { legible = tt; same = refl; orderly = λ h. refl })
+    formula-of p n and_word r e = joined (formula_word and_word) and n (λ x y. refl) (λ x y. refl) (λ x y h j. (h, j)) (λ x y. refl) (λ x y. refl) r e
+    formula-of p n or_word r e = joined (formula_word or_word) or n (λ x y. refl) (λ x y. refl) (λ x y h j. (h, j)) (λ x y. refl) (λ x y. refl) r e
+    formula-of p n imp_word r e =
+        joined (formula_word imp_word) (imp n) n (λ x y. refl) (λ x y. refl) (λ x y h j. (h, j)) (λ x y. refl) (λ x y. refl) r e
+    formula-of p n not_word r e =
         bind-post (one S r) λ x r₁ (k₁, g₁).
         holds (
-          formulaWords x,
+          formula_words x,
           refl,
           k₁,
           record {
@@ -155,15 +155,15 @@ module _ (refusing : Bool) (D : Declared) where
             orderly = g₁.orderly;
           },
         )
-    formula-of p n eqWord r e = related (formulaWord eqWord) (eq n) n (λ x y. refl) (λ x y. refl) (λ x y h j. (h, j)) (λ x y. refl) (λ x y. refl) r
-    formula-of p n (relWord c) r e =
-        related (formulaWord (relWord c)) (compare n c) n (λ x y. refl) (λ x y. refl) (λ x y h j. (h, j)) (λ x y. refl) (λ x y. refl) r
-    formula-of p n exWord r e =
+    formula-of p n eq_word r e = related (formula_word eq_word) (eq n) n (λ x y. refl) (λ x y. refl) (λ x y h j. (h, j)) (λ x y. refl) (λ x y. refl) r
+    formula-of p n (rel_word c) r e =
+        related (formula_word (rel_word c)) (compare n c) n (λ x y. refl) (λ x y. refl) (λ x y h j. (h, j)) (λ x y. refl) (λ x y. refl) r
+    formula-of p n ex_word r e =
         bind-post (operand-led D (locals D) (binder D k) (binder-spelt D k) r) λ l r₁ (k₁, d).
         bind-post (one (l ∷ S) r₁) λ x r₂ (k₂, g₂).
         let count : r₁.tokens ≡ 2 + n = omega (arith, e, k₁.taken.tokens) in
         holds (
-          binderWord l ∷ formulaWords x,
+          binder_word l ∷ formula_words x,
           refl,
           led-both D k₁ k₂,
           record {
@@ -172,17 +172,17 @@ module _ (refusing : Bool) (D : Declared) where
             orderly = g₂.orderly;
           },
         )
-    formula-of p n someWord r e =
-        quantified (formulaWord someWord) (some n) p n (λ l a b x. refl) (λ l a b x. refl) (λ l a b x d i j h. (d, i, j, h)) (λ l a b x. refl)
+    formula-of p n some_word r e =
+        quantified (formula_word some_word) (some n) p n (λ l a b x. refl) (λ l a b x. refl) (λ l a b x d i j h. (d, i, j, h)) (λ l a b x. refl)
         (λ l a b x. refl) r e
-    formula-of p n allWord r e =
-        quantified (formulaWord allWord) (all n) p n (λ l a b x. refl) (λ l a b x. refl) (λ l a b x d i j h. (d, i, j, h)) (λ l a b x. refl)
+    formula-of p n all_word r e =
+        quantified (formula_word all_word) (all n) p n (λ l a b x. refl) (λ l a b x. refl) (λ l a b x d i j h. (d, i, j, h)) (λ l a b x. refl)
         (λ l a b x. refl) r e
     formula-of p n call_word r e =
         bind-post (operand-led D (called D k) (procedure D k) (procedure-spelt D k) r) λ J r₁ (k₁, g₁).
-        bind-post (arguments-led D k S (procedureOf D J).parameters r₁) λ ts r₂ (k₂, many, g₂).
+        bind-post (arguments-led D k S (procedure_of D J).parameters r₁) λ ts r₂ (k₂, many, g₂).
         holds (
-          numberWord J ∷ argumentWords ts,
+          number_word J ∷ argument_words ts,
           refl,
           led-both D k₁ k₂,
           record {
@@ -193,16 +193,16 @@ module _ (refusing : Bool) (D : Declared) where
         )
 
     formula-with : (p n : ℕ) (w : Word) {r r₁ : Reader} → TokenRead D (word_of D.edition) r (tok D p n w) r₁ →
-        Post (Is D (formulas (suc k) S) r) (formulaWith refusing D F T (binder D k) (procedure D k) S (tok D p n w) w r₁)
-    formula-with p n (formulaWord w) {r₁ = r₁} h =
-        word-spelt D (formulas (suc k) S) p n (formulaWord w) h (λ e. contradiction cc) (λ b. b)
+        Post (Is D (formulas (suc k) S) r) (formula_with refusing D F T (binder D k) (procedure D k) S (tok D p n w) w r₁)
+    formula-with p n (formula_word w) {r₁ = r₁} h =
+        word-spelt D (formulas (suc k) S) p n (formula_word w) h (λ e. contradiction cc) (λ b. b)
         (formula-of p n w r₁ (h.next ∙ ap suc (sym h.number)))
-    formula-with p n (termWord w) h = refusal tt
-    formula-with p n (numberWord m) h = refusal tt
+    formula-with p n (term_word w) h = refusal tt
+    formula-with p n (number_word m) h = refusal tt
     formula-with p n unknown h = refusal tt
 
   pub formula-spelt : (k : ℕ) (S : Locals) (r : Reader) →
-      Post (λ F r'. Spelt D (formulaWords F) (binders F) r r' × AsRead k S r.tokens F) (formula refusing D k S r)
+      Post (λ F r'. Spelt D (formula_words F) (binders F) r r' × AsRead k S r.tokens F) (formula refusing D k S r)
   unfolding formula
   formula-spelt zero S r = refusal tt
   formula-spelt (suc k) S r =

@@ -11,15 +11,15 @@ use Rattle.specification.specs.Lists.{Each}
 use Rattle.specification.specs.Number.{in32}
 use Rattle.specification.specs.Lines.{Declared, cell_of, in_range}
 use Rattle.specification.specs.Ast.{Formula, truth, and, or, imp, neg, eq, compare, ex, some, all, call}
-use Rattle.specification.specs.Arithmetic.{eqZ, test, count}
+use Rattle.specification.specs.Arithmetic.{eq_z, test, count}
 use Rattle.specification.specs.Sheet.{Sheet}
 use Rattle.specification.specs.Place.{Place, cell, local, put}
 use Rattle.specification.specs.Value.{empty, full, Valuation, allowed, Side, val, bare, err, Pair, values, faulty, pair_of, side}
 use Rattle.specification.specs.WellFormed.{Scope, enter, nowhere, Ok, Valid, WellFormed}
-use Rattle.specification.specs.Tree.{Tree, successLeaf, failureLeaf, errorLeaf, step, fork, fan, ask, Rest, check, assign, equate, compared, bounded, sons, rounds, Verdict, succeeds, fails, undecided, verdict, denied, implied, enquire, doneInside, grow, tree_of}
-use Rattle.specification.specs.Listing.{cellNames, valued, block_of}
-use Rattle.specification.specs.Leaves.{Leaf, answer, error, fail, leaves, sonLeaves, blocks}
-use Rattle.specification.specs.Outcome.{start, rootOf}
+use Rattle.specification.specs.Tree.{Tree, success_leaf, failure_leaf, error_leaf, step, fork, fan, ask, Rest, check, assign, equate, compared, bounded, sons, rounds, Verdict, succeeds, fails, undecided, verdict, denied, implied, enquire, done_inside, grow, tree_of}
+use Rattle.specification.specs.Listing.{cell_names, valued, block_of}
+use Rattle.specification.specs.Leaves.{Leaf, answer, error, fail, leaves, son_leaves, blocks}
+use Rattle.specification.specs.Outcome.{start, root_of}
 use Rattle.specification.specs.InRanges.{InRanges}
 use Rattle.specification.proofs.Laws.Lists.{each_map, each-++}
 use Rattle.specification.proofs.Laws.Cells.{valued-only}
@@ -32,9 +32,9 @@ use Rattle.specification.proofs.Laws.Every.{pair_values}
 -- ---- the valuations of a tree's answers and errors
 
 unfoldable Leafs : (Valuation → Type 0) → Tree → Type 0
-Leafs P (successLeaf β) = P β
-Leafs P failureLeaf = Unit {0}
-Leafs P (errorLeaf κ t β) = P β
+Leafs P (success_leaf β) = P β
+Leafs P failure_leaf = Unit {0}
+Leafs P (error_leaf κ t β) = P β
 Leafs P (step T) = Leafs P T
 Leafs P (fork T U) = Leafs P T × Leafs P U
 Leafs P (fan x n f) = (i : ℕ) → i < n → Leafs P (f i)
@@ -61,7 +61,7 @@ module _ (D : Declared) where
 
     equate-of : (tok : ℕ) (x y : Side) → Of (equate D tok x y k α)
     unfolding Leafs equate
-    equate-of tok (val x) (val y) = check-of (eqZ x y) k α (λ t. go α v)
+    equate-of tok (val x) (val y) = check-of (eq_z x y) k α (λ t. go α v)
     equate-of tok (val x) (bare q) = assign-of q x
     equate-of tok (val x) (err κ) = v
     equate-of tok (bare p) (val y) = assign-of p y
@@ -114,8 +114,8 @@ module _ (D : Declared) where
   stays truth S o k go α v = go α v
   stays (and F G) S o k go α v = stays F S o.0 (grow D G k) (stays G S o.1 k go) α v
   stays (or F G) S o k go α v = (stays F S o.0 k go α v, stays G S o.1 k go α v)
-  stays (imp tok F G) S o k go α v = implied-of k go α v tok (grow D G k) (stays G S o.1 k go α v) (verdict (grow D F (doneInside D F α) α))
-  stays (neg tok F) S o k go α v = denied-of k go α v tok (verdict (grow D F (doneInside D F α) α))
+  stays (imp tok F G) S o k go α v = implied-of k go α v tok (grow D G k) (stays G S o.1 k go α v) (verdict (grow D F (done_inside D F α) α))
+  stays (neg tok F) S o k go α v = denied-of k go α v tok (verdict (grow D F (done_inside D F α) α))
   stays (eq tok s t) S o k go α v = equate-of k go α v tok (side D α s) (side D α t)
   stays (compare tok r s t) S o k go α v = by (pair_of (side D α s) (side D α t))
     where
@@ -143,24 +143,24 @@ module _ (D : Declared) where
   IfListed (error κ t β) = Valid D β
   IfListed fail = Unit {0}
 
-  each-sons : (n i : ℕ) (f : ℕ → List Leaf) → ((j : ℕ) → j < i + n → Each IfListed (f j)) → Each IfListed (sonLeaves n i f)
-  unfolding Each sonLeaves
+  each-sons : (n i : ℕ) (f : ℕ → List Leaf) → ((j : ℕ) → j < i + n → Each IfListed (f j)) → Each IfListed (son_leaves n i f)
+  unfolding Each son_leaves
   each-sons zero i f h = tt
   each-sons (suc n) i f h =
-      each-++ IfListed (f i) (sonLeaves n (suc i) f) (h i (omega arith)) (each-sons n (suc i) f (λ j l. h j (omega arith)))
+      each-++ IfListed (f i) (son_leaves n (suc i) f) (h i (omega arith)) (each-sons n (suc i) f (λ j l. h j (omega arith)))
 
   leafs-each : (T : Tree) → Of T → Each IfListed (leaves T)
   unfolding Each Leafs leaves
-  leafs-each (successLeaf β) h = (h, tt)
-  leafs-each failureLeaf h = (tt, tt)
-  leafs-each (errorLeaf κ t β) h = (h, tt)
+  leafs-each (success_leaf β) h = (h, tt)
+  leafs-each failure_leaf h = (tt, tt)
+  leafs-each (error_leaf κ t β) h = (h, tt)
   leafs-each (step T) h = leafs-each T h
   leafs-each (fork T U) h = each-++ IfListed (leaves T) (leaves U) (leafs-each T h.0) (leafs-each U h.1)
   leafs-each (fan x n f) h = each-sons n 0 (λ i. leaves (f i)) (λ j l. leafs-each (f j) (h j (omega arith)))
   leafs-each (ask I T) h = leafs-each T h
 
-  cells_in : (β : Valuation) → Valid D β → Each (λ n. T (in_range D (cell_of D n.name) n.value)) (valued D β (cellNames D))
-  cells_in β v = each_map (λ n h. v (cell (cell_of D n.name)) n.value h.1) (valued D β (cellNames D)) (valued-only D β)
+  cells_in : (β : Valuation) → Valid D β → Each (λ n. T (in_range D (cell_of D n.name) n.value)) (valued D β (cell_names D))
+  cells_in β v = each_map (λ n h. v (cell (cell_of D n.name)) n.value h.1) (valued D β (cell_names D)) (valued-only D β)
 
   blocks-in : (ls : List Leaf) (a e : ℕ) → Each IfListed ls → InRanges D (blocks D a e ls)
   unfolding Each blocks block_of
@@ -170,9 +170,9 @@ module _ (D : Declared) where
   blocks-in (fail ∷ ls) a e h = blocks-in ls a e h.1
 
 -- the blocks of all the tree's answers and errors
-pub in-ranges : (s : Sheet) → WellFormed s → InRanges s.declared (blocks s.declared 0 0 (leaves (rootOf s)))
-unfolding rootOf tree_of Leafs
-in-ranges s wf =
+pub in_ranges : (s : Sheet) → WellFormed s → InRanges s.declared (blocks s.declared 0 0 (leaves (root_of s)))
+unfolding root_of tree_of Leafs
+in_ranges s wf =
     let D = s.declared in
     let α = start s.given in
     blocks-in D (leaves (tree_of D (s.formula ∷ []) α)) 0 0

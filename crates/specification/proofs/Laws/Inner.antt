@@ -5,7 +5,7 @@ use native.Mathlib.Omega.{arith}
 use mathlib.Core.Path.{◌≡◌, refl, subst}
 use mathlib.Core.Logic.{◌⊎◌, inl, inr, ⊎_elim}
 use Rattle.specification.specs.Value.{Valuation}
-use Rattle.specification.specs.Tree.{Tree, successLeaf, failureLeaf, errorLeaf, step, fork, fan, ask, Verdict, succeeds, fails, undecided, join, joined, verdict}
+use Rattle.specification.specs.Tree.{Tree, success_leaf, failure_leaf, error_leaf, step, fork, fan, ask, Verdict, succeeds, fails, undecided, join, joined, verdict}
 use Rattle.specification.proofs.Laws.Contradiction.{contradiction}
 use Rattle.specification.proofs.Laws.Scope.{Every, Any}
 
@@ -47,9 +47,9 @@ joined-succeeds (suc n) i f e =
 -- failure leaves only: no success or error leaf
 pub fails-none : (Q : Valuation → Type 0) (T : Tree) → verdict T ≡ fails → Any Q T → ⊥
 unfolding Any verdict
-fails-none Q (successLeaf β) e a = contradiction cc
-fails-none Q failureLeaf e a = a
-fails-none Q (errorLeaf κ t β) e a = contradiction cc
+fails-none Q (success_leaf β) e a = contradiction cc
+fails-none Q failure_leaf e a = a
+fails-none Q (error_leaf κ t β) e a = contradiction cc
 fails-none Q (step T) e a = fails-none Q T e a
 fails-none Q (fork T U) e (inl a) = fails-none Q T (join-fails (verdict T) (verdict U) e).0 a
 fails-none Q (fork T U) e (inr a) = fails-none Q U (join-fails (verdict T) (verdict U) e).1 a
@@ -59,9 +59,9 @@ fails-none Q (ask I T) e a = fails-none Q T e a
 -- a success leaf: what holds of each holds of one
 pub succeeds-one : (P : Valuation → Type 0) (T : Tree) → verdict T ≡ succeeds → Every P T → (β : Valuation) × P β
 unfolding Every verdict
-succeeds-one P (successLeaf β) e a = (β, a)
-succeeds-one P failureLeaf e a = contradiction cc
-succeeds-one P (errorLeaf κ t β) e a = contradiction cc
+succeeds-one P (success_leaf β) e a = (β, a)
+succeeds-one P failure_leaf e a = contradiction cc
+succeeds-one P (error_leaf κ t β) e a = contradiction cc
 succeeds-one P (step T) e a = succeeds-one P T e a
 succeeds-one P (fork T U) e a =
     ⊎_elim (λ q. succeeds-one P T q a.0) (λ q. succeeds-one P U q a.1) (join-succeeds (verdict T) (verdict U) e)

@@ -6,10 +6,10 @@ use mathlib.Core.Bool.{Bool, true, false}
 use lib.Dec.{T, ltb, ltb→lt}
 use lib.IntN.{ℤ, pos, negsuc}
 use Rattle.specification.specs.Lines.{Declared, cells, first_of, length_of}
-use Rattle.specification.specs.Ast.{Op, Term, constant, scalarAt, local_at, parameter, elementAt, apply}
+use Rattle.specification.specs.Ast.{Op, Term, constant, scalar_at, local_at, parameter, element_at, apply}
 use Rattle.specification.specs.Arithmetic.{Computed, value, fault, compute}
 use Rattle.specification.specs.Place.{Place, cell, local}
-use Rattle.specification.specs.Value.{Slot, empty, full, Valuation, Side, val, bare, err, look, pair_of, side_of, operate, in_array, elementSide, side}
+use Rattle.specification.specs.Value.{Slot, empty, full, Valuation, Side, val, bare, err, look, pair_of, side_of, operate, in_array, element_side, side}
 use Rattle.specification.specs.WellFormed.{Scope, OkTerm}
 use Rattle.specification.proofs.Laws.Scope.{In, Ext}
 use Rattle.specification.proofs.Laws.Elements.{scalar-declared, element-declared}
@@ -29,8 +29,8 @@ module _ (D : Declared) (S : Scope) (α β : Valuation) (ext : Ext D S α β) wh
   in-array-stays true c h = look-stays (cell c) (h tt) (α (cell c)) refl
   in-array-stays false c h = tt
 
-  element-stays : (a : ℕ) (s t : Side) → Stays s t → Stays (elementSide D α a s) (elementSide D β a t)
-  unfolding elementSide
+  element-stays : (a : ℕ) (s t : Side) → Stays s t → Stays (element_side D α a s) (element_side D β a t)
+  unfolding element_side
   element-stays a (val (pos i)) t e =
       rw e (in-array-stays (ltb i (length_of D a)) (first_of D a + i) (λ u. element-declared D a i (ltb→lt i (length_of D a) u)))
   element-stays a (val (negsuc i)) t e = tt
@@ -52,10 +52,10 @@ module _ (D : Declared) (S : Scope) (α β : Valuation) (ext : Ext D S α β) wh
   side-stays : (t : Term) → OkTerm D S t → Stays (side D α t) (side D β t)
   unfolding side OkTerm
   side-stays (constant z) h = refl
-  side-stays (scalarAt c) h = look-stays (cell c) (scalar-declared D c h) (α (cell c)) refl
+  side-stays (scalar_at c) h = look-stays (cell c) (scalar-declared D c h) (α (cell c)) refl
   side-stays (local_at l) h = look-stays (local l) h (α (local l)) refl
   side-stays (parameter n) h = tt
-  side-stays (elementAt a t) h = element-stays a (side D α t) (side D β t) (side-stays t h.1)
+  side-stays (element_at a t) h = element-stays a (side D α t) (side D β t) (side-stays t h.1)
   side-stays (apply o s t) h = operate-stays o (side D α s) (side D α t) (side D β s) (side D β t) (side-stays s h.0) (side-stays t h.1)
 
   -- a value stays

@@ -10,8 +10,8 @@ use lib.Dec.{ltb, eqb}
 use Rattle.specification.specs.Lists.{Each}
 use Rattle.specification.specs.Bytes.{pick}
 use Rattle.specification.specs.Lines.{Declared}
-use Rattle.specification.specs.Ast.{Term, constant, scalarAt, local_at, parameter, elementAt, apply, Formula, truth, and, or, imp, neg, eq, compare, ex, some, all, call, Procedure}
-use Rattle.specification.specs.Formula.{Locals, has, emptyRange}
+use Rattle.specification.specs.Ast.{Term, constant, scalar_at, local_at, parameter, element_at, apply, Formula, truth, and, or, imp, neg, eq, compare, ex, some, all, call, Procedure}
+use Rattle.specification.specs.Formula.{Locals, has, empty_range}
 use Rattle.specification.specs.Tidy.{falsehood, dropped}
 use Rattle.specification.proofs.Laws.ReadTerm.{Sub, sub-both, fresh}
 
@@ -65,10 +65,10 @@ module _ (H : Shape) where
   unfoldable pub LegibleTerm : ℕ → Locals → Term → Type 0
   LegibleTerm zero S t = ⊥
   LegibleTerm (suc k) S (constant z) = Unit {0}
-  LegibleTerm (suc k) S (scalarAt n) = ltb n H.scalars ≡ true
+  LegibleTerm (suc k) S (scalar_at n) = ltb n H.scalars ≡ true
   LegibleTerm (suc k) S (local_at l) = (ltb l H.locals ≡ true) × (has l S ≡ true)
   LegibleTerm (suc k) S (parameter n) = ltb n H.parameters ≡ true
-  LegibleTerm (suc k) S (elementAt a t) = (ltb a H.arrays ≡ true) × LegibleTerm k S t
+  LegibleTerm (suc k) S (element_at a t) = (ltb a H.arrays ≡ true) × LegibleTerm k S t
   LegibleTerm (suc k) S (apply o s t) = LegibleTerm k S s × LegibleTerm k S t
 
   unfoldable pub Legible : ℕ → Locals → Formula → Type 0
@@ -109,14 +109,14 @@ module _ (H : Shape) where
   legible-dropped (suc k) S (compare tok r s t) h = h
   legible-dropped (suc k) S (ex l F) h = (h.0, legible-dropped k (l ∷ S) F h.1)
   legible-dropped (suc k) S (some tok l a b F) h =
-      go (emptyRange a b) k (term-deep k S a h.1) (h.0, h.1, h.2, legible-dropped k (l ∷ S) F h.3)
+      go (empty_range a b) k (term-deep k S a h.1) (h.0, h.1, h.2, legible-dropped k (l ∷ S) F h.3)
     where
       go : (e : Bool) (k : ℕ) → Deep k → Legible (suc k) S (some tok l a b (dropped F)) →
           Legible (suc k) S (pick e (falsehood tok) (some tok l a b (dropped F)))
       go true zero d h = absurd d
       go true (suc k) d h = (tt, tt)
       go false k d h = h
-  legible-dropped (suc k) S (all tok l a b F) h = go (emptyRange a b) (h.0, h.1, h.2, legible-dropped k (l ∷ S) F h.3)
+  legible-dropped (suc k) S (all tok l a b F) h = go (empty_range a b) (h.0, h.1, h.2, legible-dropped k (l ∷ S) F h.3)
     where
       go : (e : Bool) → Legible (suc k) S (all tok l a b (dropped F)) → Legible (suc k) S (pick e truth (all tok l a b (dropped F)))
       go true h = tt
@@ -194,12 +194,12 @@ binders-dropped (neg tok F) = binders-dropped F
 binders-dropped (eq tok s t) = none
 binders-dropped (compare tok r s t) = none
 binders-dropped (ex l F) = keep l (binders-dropped F)
-binders-dropped (some tok l a b F) = go (emptyRange a b) (binders-dropped F)
+binders-dropped (some tok l a b F) = go (empty_range a b) (binders-dropped F)
   where
     go : (e : Bool) → Part (binders (dropped F)) (binders F) → Part (binders (pick e (falsehood tok) (some tok l a b (dropped F)))) (l ∷ binders F)
     go true h = part_none (l ∷ binders F)
     go false h = keep l h
-binders-dropped (all tok l a b F) = go (emptyRange a b) (binders-dropped F)
+binders-dropped (all tok l a b F) = go (empty_range a b) (binders-dropped F)
   where
     go : (e : Bool) → Part (binders (dropped F)) (binders F) → Part (binders (pick e truth (all tok l a b (dropped F)))) (l ∷ binders F)
     go true h = part_none (l ∷ binders F)

@@ -8,11 +8,11 @@ use lib.ListN.{length}
 use lib.Dec.{ltb, eqb}
 use lib.Signed.{le_z}
 use Rattle.specification.specs.Lists.{Each}
-use Rattle.specification.specs.Bytes.{Bytes, bytes, pick, between, feed, comma, begins, class_of, classNumber, isIn, inNumber}
+use Rattle.specification.specs.Bytes.{Bytes, bytes, pick, between, feed, comma, begins, class_of, class_number, is_in, in_number}
 use Rattle.specification.specs.Number.{in32, printℕ}
 use Rattle.specification.specs.Parser.{Reader, found, Parser, give, require, ◌>>=◌, ◌>>◌, next, sees, mark, exactly, taken, key}
-use Rattle.specification.specs.Lines.{count, line, Range, lengths, arraysLine, range, ranges, firstRanged, rangesLine}
-use Rattle.specification.specs.Text.{led, parted, numberLine, arraysText, rangeText, rangesText}
+use Rattle.specification.specs.Lines.{count, line, Range, lengths, arrays_line, range, ranges, first_ranged, ranges_line}
+use Rattle.specification.specs.Text.{led, parted, number_line, arrays_text, range_text, ranges_text}
 use Rattle.specification.proofs.Laws.Contradiction.{contradiction}
 use Rattle.specification.proofs.Laws.Parser.{Post, refusal, holds, map-post, bind-post, require-post, pick_post}
 use Rattle.specification.proofs.Laws.LineReaders.{Composed}
@@ -22,14 +22,14 @@ use Rattle.specification.proofs.Laws.Pieces.{is-in, at, Anything, NoNumber, Read
 
 -- ---- a line with one number
 
-pub line_reads : (k : Bytes) (lo hi n : ℕ) → between lo hi n ≡ true → (r : Reader) → Reads Anything (line k lo hi) (numberLine k n) n r r
+pub line_reads : (k : Bytes) (lo hi n : ℕ) → between lo hi n ≡ true → (r : Reader) → Reads Anything (line k lo hi) (number_line k n) n r r
 unfolding line
 line_reads k lo hi n e r =
     bind-reads _ (λ w i. tt) (exactly_reads 3 k r)
     (bind-reads _ (λ w i. feed-ends w) (count-reads lo hi n e r) (then-reads _ (feed-reads r) (λ p w. refl)))
 
 pub line-piece : (k : Bytes) (lo hi : ℕ) (r : Reader) →
-    Post (λ n r'. Piece Anything (line k lo hi) (numberLine k n) n r r') (line k lo hi r)
+    Post (λ n r'. Piece Anything (line k lo hi) (number_line k n) n r r') (line k lo hi r)
 unfolding line
 line-piece k lo hi r =
     bind-post (exactly-piece 3 k r) λ u r₁ h₁.
@@ -44,10 +44,10 @@ abbrev Feed : Bytes → Type 0
 Feed w = (v : Bytes) × (w ≡ 10 ∷ v)
 
 pub feed-number : (w : Bytes) → Feed w → NoNumber w
-feed-number w (v, e) = ap (starts inNumber) e ∙ feed-ends v
+feed-number w (v, e) = ap (starts in_number) e ∙ feed-ends v
 
 feed-comma : (w : Bytes) → Feed w → next comma w ≡ false
-unfolding isIn classNumber class_of
+unfolding is_in class_number class_of
 feed-comma w (v, e) = ap (next comma) e
 
 module _ {A : Type 0} (text : A → Bytes) where
@@ -81,7 +81,7 @@ module _ {A : Type 0} (text : A → Bytes) where
       ((r : Reader) → Post (λ x r₁. Piece NoNumber one' (text x) x r r₁) (one r)) →
       ((x : A) (r : Reader) → Post (ListPiece (rest' x) r) (rest x r)) →
       (r : Reader) → Post (ListPiece (listed one' rest') r) (listed one rest r)
-  unfolding led parted isIn classNumber class_of
+  unfolding led parted is_in class_number class_of
   list-piece one one' rest rest' f g r = bind-post (f r) λ x r₁ h. go x r₁ h (next comma r₁.rest)
     where
       go : (x : A) (r₁ : Reader) → Piece NoNumber one' (text x) x r r₁ → (more : Bool) →
@@ -106,11 +106,11 @@ module _ {A : Type 0} (text : A → Bytes) where
   abbrev after-key : Parser (List A) → Bool → Parser (List A)
   after-key list none = pick none (give []) list >>= λ xs. mark feed >> give xs
 
-  abbrev listLine : Bytes → Parser (List A) → Parser (List A)
-  listLine k list = key k >> (sees feed >>= λ none. after-key list none)
+  abbrev list_line : Bytes → Parser (List A) → Parser (List A)
+  list_line k list = key k >> (sees feed >>= λ none. after-key list none)
 
-  abbrev lineText : Bytes → List A → Bytes
-  lineText k xs = k ++ (parted (bytes ",") text xs ++ bytes "\n")
+  abbrev line_text : Bytes → List A → Bytes
+  line_text k xs = k ++ (parted (bytes ",") text xs ++ bytes "\n")
 
   parted-feed : ((x : A) (w : Bytes) → next feed (text x ++ w) ≡ false) → (xs : List A) → ¬ (xs ≡ []) → (w : Bytes) →
       next feed ((parted (bytes ",") text xs ++ bytes "\n") ++ w) ≡ false
@@ -122,12 +122,12 @@ module _ {A : Type 0} (text : A → Bytes) where
 
   pub line_of : (k : Bytes) (list list' : Parser (List A)) → ((r : Reader) → Post (ListPiece list' r) (list r)) →
       ((x : A) (w : Bytes) → next feed (text x ++ w) ≡ false) →
-      (r : Reader) → Post (λ xs r'. Piece Anything (listLine k list') (lineText k xs) xs r r') (listLine k list r)
-  unfolding parted isIn classNumber class_of
+      (r : Reader) → Post (λ xs r'. Piece Anything (list_line k list') (line_text k xs) xs r r') (list_line k list r)
+  unfolding parted is_in class_number class_of
   line_of k list list' f g r = bind-post (exactly-piece 3 k r) λ u r₁ h. go r₁ h (next feed r₁.rest)
     where
       go : (r₁ : Reader) → Piece Anything (key k) k tt r r₁ → (none : Bool) →
-          Post (λ xs r'. Piece Anything (listLine k list') (lineText k xs) xs r r') (after-key list none r₁)
+          Post (λ xs r'. Piece Anything (list_line k list') (line_text k xs) xs r r') (after-key list none r₁)
       go r₁ h true =
           bind-post (feed-piece r₁) λ u r₂ l.
           holds (bind-piece _ (λ w e. tt) h (look-piece (after-key list') (next feed) true (λ w e. refl) (then-give (λ u. []) l)))
@@ -149,10 +149,10 @@ lengths-piece (suc k) left r =
     (λ n r₁. lengths-piece k (left - n) r₁) r
 
 -- a byte that is no line feed is of another class
-no-feed : (b : ℕ) → eqb b 10 ≡ false → isIn feed b ≡ false
-no-feed b e = go (isIn feed b) refl
+no-feed : (b : ℕ) → eqb b 10 ≡ false → is_in feed b ≡ false
+no-feed b e = go (is_in feed b) refl
   where
-    go : (x : Bool) → isIn feed b ≡ x → x ≡ false
+    go : (x : Bool) → is_in feed b ≡ x → x ≡ false
     go true h = let z : b ≡ 10 = is-in feed b h in contradiction cc
     go false h = refl
 
@@ -164,22 +164,22 @@ number-feed n w = go (printℕ n) (printℕ-nonempty n) (printℕ-lacks 10 (λ d
     go [] f h = absurd (f refl)
     go (b ∷ bs) f h = no-feed b h.0
 
-pub arrays-piece : (scalars : ℕ) (r : Reader) → Post (λ ns r'. Piece Anything (arraysLine scalars) (arraysText ns) ns r r') (arraysLine scalars r)
-unfolding arraysLine
+pub arrays-piece : (scalars : ℕ) (r : Reader) → Post (λ ns r'. Piece Anything (arrays_line scalars) (arrays_text ns) ns r r') (arrays_line scalars r)
+unfolding arrays_line
 arrays-piece scalars r =
     line_of printℕ (bytes "arrays=") (lengths 16 (512 - scalars)) (lengths 16 (512 - scalars)) (lengths-piece 16 (512 - scalars)) number-feed r
 
 -- ---- ranges
 
 module _ (x : Range) (i : in32 x.low ≡ true) (j : in32 x.high ≡ true) (l : le_z x.low x.high ≡ true) where
-  range-reads : (r : Reader) → Reads NoNumber range (rangeText x) x r r
+  range-reads : (r : Reader) → Reads NoNumber range (range_text x) x r r
   unfolding range
   range-reads r =
       here_reads λ p.
       bind-reads _ (λ w e. colon-ends _) (value-reads x.low i r)
       (bind-reads _ (λ w e. tt) (colon-reads r) (then-reads _ (value-reads x.high j r) (λ q w. rw l)))
 
-range-piece : (r : Reader) → Post (λ x r'. Piece NoNumber range (rangeText x) x r r') (range r)
+range-piece : (r : Reader) → Post (λ x r'. Piece NoNumber range (range_text x) x r r') (range r)
 unfolding range
 range-piece r =
     bind-post (value-piece r) λ lo r₁ h₁.
@@ -197,76 +197,76 @@ pub record Sound (x : Range) : Type 0 where
   pub high : in32 x.high ≡ true
   pub ordered : le_z x.low x.high ≡ true
 
-abbrev ledRanges : List Range → Bytes
-ledRanges rs = led (bytes ",") rangeText rs
+abbrev led_ranges : List Range → Bytes
+led_ranges rs = led (bytes ",") range_text rs
 
-led-reads : (rs : List Range) → Each Sound rs → (r : Reader) → Reads Feed (ranges (mark comma) (length rs)) (ledRanges rs) rs r r
+led-reads : (rs : List Range) → Each Sound rs → (r : Reader) → Reads Feed (ranges (mark comma) (length rs)) (led_ranges rs) rs r r
 unfolding ranges led Each
 led-reads [] h r = give-reads [] r
 led-reads (x ∷ xs) h r =
     bind-reads _ (λ w e. tt) (comma-reads r)
-    (bind-reads _ (λ w e. led-number rangeText xs w e) (range-reads x h.0.low h.0.high h.0.ordered r)
+    (bind-reads _ (λ w e. led-number range_text xs w e) (range-reads x h.0.low h.0.high h.0.ordered r)
     (then-reads _ (led-reads xs h.1 r) (λ p w. refl)))
 
-parted-reads : (rs : List Range) → Each Sound rs → (r : Reader) → Reads Feed (ranges (give tt) (length rs)) (parted (bytes ",") rangeText rs) rs r r
+parted-reads : (rs : List Range) → Each Sound rs → (r : Reader) → Reads Feed (ranges (give tt) (length rs)) (parted (bytes ",") range_text rs) rs r r
 unfolding ranges parted Each
 parted-reads [] h r = give-reads [] r
 parted-reads (x ∷ xs) h r =
-    bind-reads _ (λ w e. led-number rangeText xs w e) (range-reads x h.0.low h.0.high h.0.ordered r)
+    bind-reads _ (λ w e. led-number range_text xs w e) (range-reads x h.0.low h.0.high h.0.ordered r)
     (then-reads _ (led-reads xs h.1 r) (λ p w. refl))
 
 -- the line where the edition has it, and its text
-abbrev rangesAfter : ℕ → Parser (List Range)
-rangesAfter k = key (bytes "ranges=") >> (ranges (give tt) k >>= λ xs. mark feed >> give xs)
+abbrev ranges_after : ℕ → Parser (List Range)
+ranges_after k = key (bytes "ranges=") >> (ranges (give tt) k >>= λ xs. mark feed >> give xs)
 
-abbrev rangesBytes : List Range → Bytes
-rangesBytes rs = bytes "ranges=" ++ (parted (bytes ",") rangeText rs ++ bytes "\n")
+abbrev ranges_bytes : List Range → Bytes
+ranges_bytes rs = bytes "ranges=" ++ (parted (bytes ",") range_text rs ++ bytes "\n")
 
 -- the line of an edition is read from its text
-pub ranges-reads : (edition k : ℕ) (rs : List Range) → length rs ≡ pick (ltb edition firstRanged) 0 k → Each Sound rs → (r : Reader) →
-    Reads Anything (rangesLine edition k) (rangesText edition rs) rs r r
-unfolding rangesLine rangesText
-ranges-reads edition k rs n h r = go (ltb edition firstRanged) n
+pub ranges-reads : (edition k : ℕ) (rs : List Range) → length rs ≡ pick (ltb edition first_ranged) 0 k → Each Sound rs → (r : Reader) →
+    Reads Anything (ranges_line edition k) (ranges_text edition rs) rs r r
+unfolding ranges_line ranges_text
+ranges-reads edition k rs n h r = go (ltb edition first_ranged) n
   where
-    go : (b : Bool) → length rs ≡ pick b 0 k → Reads Anything (pick b (give []) (rangesAfter k)) (pick b [] (rangesBytes rs)) rs r r
+    go : (b : Bool) → length rs ≡ pick b 0 k → Reads Anything (pick b (give []) (ranges_after k)) (pick b [] (ranges_bytes rs)) rs r r
     go true e = subst (λ (xs : List Range). Reads Anything (give []) [] xs r r) (sym (none rs e)) (give-reads [] r)
       where
         none : (xs : List Range) → length xs ≡ 0 → xs ≡ []
         none [] f = refl
         none (x ∷ xs) f = absurd (omega (arith, f))
     go false e =
-        subst (λ (m : ℕ). Reads Anything (rangesAfter m) (rangesBytes rs) rs r r) e
+        subst (λ (m : ℕ). Reads Anything (ranges_after m) (ranges_bytes rs) rs r r) e
         (bind-reads _ (λ w f. tt) (exactly_reads 3 (bytes "ranges=") r)
         (bind-reads _ (λ w f. (w, refl)) (parted-reads rs h r) (then-reads _ (feed-reads r) (λ p w. refl))))
 
 -- and where it was read its text stands
-led-piece : (k : ℕ) (r : Reader) → Post (λ rs r'. Piece Feed (ranges (mark comma) k) (ledRanges rs) rs r r') (ranges (mark comma) k r)
+led-piece : (k : ℕ) (r : Reader) → Post (λ rs r'. Piece Feed (ranges (mark comma) k) (led_ranges rs) rs r r') (ranges (mark comma) k r)
 unfolding ranges led
 led-piece zero r = holds (give-piece [] r)
 led-piece (suc k) r =
     bind-post (comma-piece r) λ u r₁ h₁.
     bind-post (range-piece r₁) λ x r₂ h₂.
     bind-post (led-piece k r₂) λ xs r₃ h₃.
-    holds (bind-piece _ (λ w e. tt) h₁ (bind-piece _ (λ w e. led-number rangeText xs w e) h₂ (then-give (λ (ys : List Range). x ∷ ys) h₃)))
+    holds (bind-piece _ (λ w e. tt) h₁ (bind-piece _ (λ w e. led-number range_text xs w e) h₂ (then-give (λ (ys : List Range). x ∷ ys) h₃)))
 
 parted-piece : (k : ℕ) (r : Reader) →
-    Post (λ rs r'. Piece Feed (ranges (give tt) k) (parted (bytes ",") rangeText rs) rs r r') (ranges (give tt) k r)
+    Post (λ rs r'. Piece Feed (ranges (give tt) k) (parted (bytes ",") range_text rs) rs r r') (ranges (give tt) k r)
 unfolding ranges parted
 parted-piece zero r = holds (give-piece [] r)
 parted-piece (suc k) r =
     bind-post (range-piece r) λ x r₂ h₂.
     bind-post (led-piece k r₂) λ xs r₃ h₃.
-    holds (bind-piece _ (λ w e. led-number rangeText xs w e) h₂ (then-give (λ (ys : List Range). x ∷ ys) h₃))
+    holds (bind-piece _ (λ w e. led-number range_text xs w e) h₂ (then-give (λ (ys : List Range). x ∷ ys) h₃))
 
 pub ranges-piece : (edition k : ℕ) (r : Reader) →
-    Post (λ rs r'. Piece Anything (rangesLine edition k) (rangesText edition rs) rs r r') (rangesLine edition k r)
-unfolding rangesLine rangesText
-ranges-piece edition k r = go (ltb edition firstRanged)
+    Post (λ rs r'. Piece Anything (ranges_line edition k) (ranges_text edition rs) rs r r') (ranges_line edition k r)
+unfolding ranges_line ranges_text
+ranges-piece edition k r = go (ltb edition first_ranged)
   where
     line-if : Bool → Parser (List Range)
-    line-if b = pick b (give []) (rangesAfter k)
+    line-if b = pick b (give []) (ranges_after k)
 
-    go : (b : Bool) → Post (λ rs r'. Piece Anything (line-if b) (pick b [] (rangesBytes rs)) rs r r') (line-if b r)
+    go : (b : Bool) → Post (λ rs r'. Piece Anything (line-if b) (pick b [] (ranges_bytes rs)) rs r r') (line-if b r)
     go true = holds (give-piece [] r)
     go false =
         bind-post (exactly-piece 3 (bytes "ranges=") r) λ u r₁ h₁.

@@ -5,11 +5,11 @@ use mathlib.Core.List.{List}
 use Rattle.specification.specs.Bytes.{Bytes}
 use Rattle.specification.specs.Parser.{Reader, found}
 use Rattle.specification.specs.Sheet.{Sheet, read}
-use Rattle.specification.specs.Listing.{Block, listingText}
+use Rattle.specification.specs.Listing.{Block, listing_text}
 use Rattle.specification.specs.Demand3.{Agreement, Demand3}
 
 pub demand3-agreement : {sheet written : Bytes} {s : Sheet} {r : Reader} {bs : List Block} →
-    read sheet ≡ found s r → written ≡ listingText bs → Demand3 sheet written → Agreement s bs
+    read sheet ≡ found s r → written ≡ listing_text bs → Demand3 sheet written → Agreement s bs
 demand3-agreement {s = s} {r = r} {bs = bs} reads stands d =
     let l = d.listed in
     let what = l.what in

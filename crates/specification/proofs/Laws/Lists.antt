@@ -8,11 +8,11 @@ use Rattle.specification.specs.Lists.{Each, Some}
 
 -- ---- a member by its number
 
-pub each-getD : {A : Type 0} (P : A → Type 0) (xs : List A) (n : ℕ) (d : A) → Each P xs → P d → P (get_or xs n d)
+pub each-get_d : {A : Type 0} (P : A → Type 0) (xs : List A) (n : ℕ) (d : A) → Each P xs → P d → P (get_or xs n d)
 unfolding Each
-each-getD P [] n d h k = k
-each-getD P (x ∷ xs) zero d h k = h.0
-each-getD P (x ∷ xs) (suc n) d h k = each-getD P xs n d h.1 k
+each-get_d P [] n d h k = k
+each-get_d P (x ∷ xs) zero d h k = h.0
+each-get_d P (x ∷ xs) (suc n) d h k = each-get_d P xs n d h.1 k
 
 -- ---- from one predicate to another
 

@@ -9,12 +9,12 @@ use lib.IntN.{ℤ}
 use Rattle.specification.specs.Bytes.{pick}
 use Rattle.specification.specs.Lines.{Declared}
 use Rattle.specification.specs.Ast.{Formula, imp, neg}
-use Rattle.specification.specs.Arithmetic.{undecidedInside}
+use Rattle.specification.specs.Arithmetic.{undecided_inside}
 use Rattle.specification.specs.Place.{Place}
 use Rattle.specification.specs.Value.{Slot, empty, full, Valuation}
 use Rattle.specification.specs.WellFormed.{Scope, Ok, Valid}
 use Rattle.specification.specs.Outside.{gave}
-use Rattle.specification.specs.Tree.{Tree, successLeaf, errorLeaf, succeeds, fails, undecided, verdict, denied, implied, doneInside, grow}
+use Rattle.specification.specs.Tree.{Tree, success_leaf, error_leaf, succeeds, fails, undecided, verdict, denied, implied, done_inside, grow}
 use Rattle.specification.specs.Plain.{Env, Truth}
 use Rattle.specification.proofs.Laws.Contradiction.{contradiction}
 use Rattle.specification.proofs.Laws.Scope.{Every, Any, In, Agree, Ext}
@@ -25,8 +25,8 @@ use Rattle.specification.proofs.Laws.Every.{enquire-every, enquire-any}
 use Rattle.specification.proofs.Laws.Correct.{Proves, Sound, Complete}
 
 -- the inner tree of F, asked for under α
-abbrev pub innerTree : Declared → Formula → Valuation → Tree
-innerTree D F α = grow D F (doneInside D F α) α
+abbrev pub inner_tree : Declared → Formula → Valuation → Tree
+inner_tree D F α = grow D F (done_inside D F α) α
 
 -- true in no environment that agrees with the valuation
 abbrev pub Refutes : Declared → Scope → Formula → Valuation → Type 0
@@ -35,15 +35,15 @@ Refutes D S F α = (ρ : Env) → Agree D S ρ α → ¬ Truth D ρ F
 -- ---- what the inner tree tells
 
 -- the leaf below the empty list, by whether something was given
-abbrev leafInside : Bool → Valuation → Tree
-leafInside given β = pick given (errorLeaf undecidedInside 0 β) (successLeaf β)
+abbrev leaf_inside : Bool → Valuation → Tree
+leaf_inside given β = pick given (error_leaf undecided_inside 0 β) (success_leaf β)
 
-leaf-every : (P : Valuation → Type 0) (given : Bool) (β : Valuation) → (given ≡ false → P β) → Every P (leafInside given β)
+leaf-every : (P : Valuation → Type 0) (given : Bool) (β : Valuation) → (given ≡ false → P β) → Every P (leaf_inside given β)
 unfolding Every
 leaf-every P true β h = tt
 leaf-every P false β h = h refl
 
-leaf-any : (Q : Valuation → Type 0) (given : Bool) (β : Valuation) → Q β → Any Q (leafInside given β)
+leaf-any : (Q : Valuation → Type 0) (given : Bool) (β : Valuation) → Q β → Any Q (leaf_inside given β)
 unfolding Any
 leaf-any Q true β h = h
 leaf-any Q false β h = h
@@ -63,22 +63,22 @@ module _ (D : Declared) (F : Formula) (S : Scope) (c : Covers D S) (o : Ok D S F
 
   module _ (v : Valid D α) where
     -- each success leaf gave nothing, so F is true in each environment that agrees with α
-    success-proves : Sound D F → Every (λ β. Proves D S F α) (innerTree D F α)
-    unfolding Every doneInside
+    success-proves : Sound D F → Every (λ β. Proves D S F α) (inner_tree D F α)
+    unfolding Every done_inside
     success-proves sF =
-        sF S c o (doneInside D F α) α v (λ β. Proves D S F α) (λ β x vb pr.
+        sF S c o (done_inside D F α) α v (λ β. Proves D S F α) (λ β x vb pr.
         leaf-every (λ β. Proves D S F α) (gave D F α β) β (gave-nothing-proves β x pr))
 
     -- so where the inner tree succeeds, F is true in each of them
-    pub succeeds-proves : Sound D F → verdict (innerTree D F α) ≡ succeeds → Proves D S F α
-    succeeds-proves sF e = (succeeds-one (λ β. Proves D S F α) (innerTree D F α) e (success-proves sF)).1
+    pub succeeds-proves : Sound D F → verdict (inner_tree D F α) ≡ succeeds → Proves D S F α
+    succeeds-proves sF e = (succeeds-one (λ β. Proves D S F α) (inner_tree D F α) e (success-proves sF)).1
 
     -- failure leaves only: F is true in none of them
-    pub fails-refutes : Complete D F → verdict (innerTree D F α) ≡ fails → Refutes D S F α
-    unfolding Any doneInside
+    pub fails-refutes : Complete D F → verdict (inner_tree D F α) ≡ fails → Refutes D S F α
+    unfolding Any done_inside
     fails-refutes cF e ρ a t =
-        fails-none (λ β. Unit {0}) (innerTree D F α) e
-        (cF S c o (doneInside D F α) α v ρ a t (λ β. Unit {0}) (λ β b. tt) (λ β vb b. leaf-any (λ β. Unit {0}) (gave D F α β) β tt))
+        fails-none (λ β. Unit {0}) (inner_tree D F α) e
+        (cF S c o (done_inside D F α) α v ρ a t (λ β. Unit {0}) (λ β b. tt) (λ β vb b. leaf-any (λ β. Unit {0}) (gave D F α β) β tt))
 
 -- ---- `not` and `imp`
 
@@ -86,19 +86,19 @@ module _ (D : Declared) (tok : ℕ) (F : Formula) (sF : Sound D F) (cF : Complet
   pub neg-sound : Sound D (neg tok F)
   unfolding grow Every Ok Truth
   neg-sound S c o k α v P go =
-      enquire-every P (grow D F (doneInside D F α)) (λ w. denied tok w k) α
+      enquire-every P (grow D F (done_inside D F α)) (λ w. denied tok w k) α
       (elim [ succeeds ↦ λ e. tt | fails ↦ λ e. go α (ext_refl D S α) v (fails-refutes D F S c o α v cF e) | undecided ↦ λ e. tt ])
 
   pub neg-complete : Complete D (neg tok F)
   unfolding grow Any Ok Truth
   neg-complete S c o k α v ρ a t Q q go =
-      enquire-any Q (grow D F (doneInside D F α)) (λ w. denied tok w k) α
+      enquire-any Q (grow D F (done_inside D F α)) (λ w. denied tok w k) α
       (elim [ succeeds ↦ λ e. t (succeeds-proves D F S c o α v sF e ρ a) | fails ↦ λ e. go α v a | undecided ↦ λ e. q α a ])
 
   pub imp-sound : (G : Formula) → Sound D G → Sound D (imp tok F G)
   unfolding grow Every Ok Truth
   imp-sound G sG S c o k α v P go =
-      enquire-every P (grow D F (doneInside D F α)) (λ w. implied tok w (grow D G k) k) α
+      enquire-every P (grow D F (done_inside D F α)) (λ w. implied tok w (grow D G k) k) α
       (elim [
         | succeeds ↦ λ e. sG S c o.1 k α v P (λ β x vb pG. go β x vb (λ ρ a f. pG ρ a))
         | fails ↦ λ e. go α (ext_refl D S α) v (λ ρ a f. absurd (fails-refutes D F S c o.0 α v cF e ρ a f))
@@ -108,7 +108,7 @@ module _ (D : Declared) (tok : ℕ) (F : Formula) (sF : Sound D F) (cF : Complet
   pub imp-complete : (G : Formula) → Complete D G → Complete D (imp tok F G)
   unfolding grow Any Ok Truth
   imp-complete G cG S c o k α v ρ a t Q q go =
-      enquire-any Q (grow D F (doneInside D F α)) (λ w. implied tok w (grow D G k) k) α
+      enquire-any Q (grow D F (done_inside D F α)) (λ w. implied tok w (grow D G k) k) α
       (elim [
         | succeeds ↦ λ e. cG S c o.1 k α v ρ a (t (succeeds-proves D F S c o.0 α v sF e ρ a)) Q q go
         | fails ↦ λ e. go α v a

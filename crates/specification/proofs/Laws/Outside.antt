@@ -15,24 +15,24 @@ use Rattle.specification.specs.Ast.{Term, Formula, truth, and, or, imp, neg, eq,
 use Rattle.specification.specs.Place.{Place, cell, local}
 use Rattle.specification.specs.Value.{Slot, empty, full, Valuation}
 use Rattle.specification.specs.WellFormed.{Scope, nowhere, enter, Ok}
-use Rattle.specification.specs.Outside.{binds, outside, gained, someBelow, gave}
+use Rattle.specification.specs.Outside.{binds, outside, gained, some_below, gave}
 use Rattle.specification.proofs.Laws.Contradiction.{contradiction}
 use Rattle.specification.proofs.Laws.Scope.{In}
 
 -- ---- below a number
 
-some_below : (n : ℕ) (f : ℕ → Bool) (i : ℕ) → i < n → f i ≡ true → someBelow n f ≡ true
-unfolding someBelow
-some_below zero f i h e = absurd (omega arith)
-some_below (suc n) f i h e =
+some-below : (n : ℕ) (f : ℕ → Bool) (i : ℕ) → i < n → f i ≡ true → some_below n f ≡ true
+unfolding some_below
+some-below zero f i h e = absurd (omega arith)
+some-below (suc n) f i h e =
     let le : i ≤ n = omega arith in
-    ⊎_elim (λ q. ap (◌|| someBelow n f) (subst (λ (j : ℕ). f j ≡ true) q e))
-    (λ l. ap (f n ||◌) (some_below n f i l e) ∙ or-true (f n)) (eq-or-lt_of_le le)
+    ⊎_elim (λ q. ap (◌|| some_below n f) (subst (λ (j : ℕ). f j ≡ true) q e))
+    (λ l. ap (f n ||◌) (some-below n f i l e) ∙ or-true (f n)) (eq-or-lt_of_le le)
 
-none_below : (n : ℕ) (f : ℕ → Bool) → ((i : ℕ) → i < n → f i ≡ false) → someBelow n f ≡ false
-unfolding someBelow
+none_below : (n : ℕ) (f : ℕ → Bool) → ((i : ℕ) → i < n → f i ≡ false) → some_below n f ≡ false
+unfolding some_below
 none_below zero f h = refl
-none_below (suc n) f h = ap (◌|| someBelow n f) (h n (omega arith)) ∙ none_below n f (λ i l. h i (omega arith))
+none_below (suc n) f h = ap (◌|| some_below n f) (h n (omega arith)) ∙ none_below n f (λ i l. h i (omega arith))
 
 -- ---- what was given
 
@@ -48,10 +48,10 @@ module _ (D : Declared) (F : Formula) (α β : Valuation) where
 
   got-gave : (p : Place) → Declares D p → Got p ≡ true → gave D F α β ≡ true
   unfolding gave
-  got-gave (cell c) d e = ap (◌|| someBelow D.locals (λ l. Got (local l))) (some_below (cells D) (λ c. Got (cell c)) c d e)
+  got-gave (cell c) d e = ap (◌|| some_below D.locals (λ l. Got (local l))) (some-below (cells D) (λ c. Got (cell c)) c d e)
   got-gave (local l) d e =
-      ap (someBelow (cells D) (λ c. Got (cell c)) ||◌) (some_below D.locals (λ l. Got (local l)) l d e)
-      ∙ or-true (someBelow (cells D) (λ c. Got (cell c)))
+      ap (some_below (cells D) (λ c. Got (cell c)) ||◌) (some-below D.locals (λ l. Got (local l)) l d e)
+      ∙ or-true (some_below (cells D) (λ c. Got (cell c)))
 
   -- a declared place outside F has a value under β and had none under α
   pub gave-true : (p : Place) (v : ℤ) → Declares D p → T (outside F p) → α p ≡ empty → β p ≡ full v → gave D F α β ≡ true
@@ -65,7 +65,7 @@ module _ (D : Declared) (F : Formula) (α β : Valuation) where
   pub gave-false : ((p : Place) → Declares D p → T (outside F p) → gained (α p) (β p) ≡ false) → gave D F α β ≡ false
   unfolding gave
   gave-false h =
-      ap (◌|| someBelow D.locals (λ l. Got (local l))) (none_below (cells D) (λ c. Got (cell c)) (λ c d. got (cell c) d))
+      ap (◌|| some_below D.locals (λ l. Got (local l))) (none_below (cells D) (λ c. Got (cell c)) (λ c d. got (cell c) d))
       ∙ none_below D.locals (λ l. Got (local l)) (λ l d. got (local l) d)
     where
       go : (b : Bool) (g : Bool) → (T b → g ≡ false) → b && g ≡ false

@@ -9,8 +9,8 @@ use Rattle.specification.specs.Parser.{Reader, Read, refused, found, Parser, req
 use Rattle.specification.proofs.Laws.Contradiction.{contradiction}
 
 -- the numbers of the refusals of reading
-abbrev pub refusesWith : ℕ → Bool
-refusesWith n = between 3 14 n || eqb n 17
+abbrev pub refuses_with : ℕ → Bool
+refuses_with n = between 3 14 n || eqb n 17
 
 -- ---- tests
 

@@ -8,10 +8,10 @@ use mathlib.Core.List.{List, [], ◌∷◌, ◌++◌}
 use lib.Dec.{ltb}
 use borrow.Author.Tests.{ltb-true, ltb-false}
 use Rattle.specification.specs.Lists.{Each}
-use Rattle.specification.specs.Listing.{Block, listingText}
+use Rattle.specification.specs.Listing.{Block, listing_text}
 use Rattle.specification.specs.Demand2.{past}
 use Rattle.specification.proofs.Laws.Lists.{Begins}
-use Rattle.specification.proofs.Laws.Stops.{unless, dueText}
+use Rattle.specification.proofs.Laws.Stops.{unless, due_text}
 
 pub past-none : (skip : ℕ) → past skip [] ≡ []
 past-none zero = refl
@@ -30,8 +30,8 @@ past-++ (suc k) (b ∷ bs) cs = past-++ k bs cs
 
 -- one block more, where n blocks come before it and m with it
 pub skip-one : (skip n m : ℕ) → m ≡ suc n → (b : Block) (bs : List Block) (c : Bool) → ltb n skip ≡ c →
-    dueText (unless c b) ++ listingText (past (skip - m) bs) ≡ listingText (past (skip - n) (b ∷ bs))
-unfolding listingText
+    due_text (unless c b) ++ listing_text (past (skip - m) bs) ≡ listing_text (past (skip - n) (b ∷ bs))
+unfolding listing_text
 skip-one skip n m e b bs true h =
     let l = ltb-true n skip h in
     let k : skip - n ≡ suc (skip - m) = omega arith in

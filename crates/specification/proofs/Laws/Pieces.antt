@@ -11,7 +11,7 @@ use lib.Dec.{eqb, eqb_refl}
 use lib.IntN.{ℤ}
 use lib.Seq.{drop-append_seam}
 use borrow.Author.Tests.{eqb-true}
-use Rattle.specification.specs.Bytes.{Bytes, pick, between, Class, letter, digit, space, feed, minus, equals, comma, colon, point, other, class_of, classNumber, isIn, inNumber, run, begins}
+use Rattle.specification.specs.Bytes.{Bytes, pick, between, Class, letter, digit, space, feed, minus, equals, comma, colon, point, other, class_of, class_number, is_in, in_number, run, begins}
 use Rattle.specification.specs.Number.{natural, integer, in32, printℕ, printℤ}
 use Rattle.specification.specs.Parser.{Reader, found, Parser, give, require, and_then, ◌>>=◌, past, here, next, mark, exactly, taken}
 use Rattle.specification.specs.Lines.{index, count, value}
@@ -32,7 +32,7 @@ Anything w = Unit {0}
 
 -- what comes next is no byte of a number
 abbrev pub NoNumber : Bytes → Type 0
-NoNumber w = starts inNumber w ≡ false
+NoNumber w = starts in_number w ≡ false
 
 module _ {A : Type 0} where
   -- before bytes that end it, the reader q gives a for t, wherever that stands: from the tokens and binders of r to those of r'
@@ -145,13 +145,13 @@ class-byte b =
         go false e = k
 
 -- a class by its number
-abbrev classFrom : ℕ → Class
-classFrom n =
+abbrev class_from : ℕ → Class
+class_from n =
     pick (eqb n 1) letter (pick (eqb n 2) digit (pick (eqb n 3) space (pick (eqb n 4) feed (pick (eqb n 5) minus
     (pick (eqb n 6) equals (pick (eqb n 7) comma (pick (eqb n 8) colon (pick (eqb n 9) point other))))))))
 
-class-number : (c : Class) → classFrom (classNumber c) ≡ c
-unfolding classNumber
+class-number : (c : Class) → class_from (class_number c) ≡ c
+unfolding class_number
 class-number letter = refl
 class-number digit = refl
 class-number space = refl
@@ -163,11 +163,11 @@ class-number colon = refl
 class-number point = refl
 class-number other = refl
 
-pub is-in : (c : Class) (b : ℕ) → isIn c b ≡ true → Byte c b
-unfolding isIn
+pub is-in : (c : Class) (b : ℕ) → is_in c b ≡ true → Byte c b
+unfolding is_in
 is-in c b e =
-    let n : classNumber c ≡ classNumber (class_of b) = eqb-true (classNumber c) (classNumber (class_of b)) e in
-    let k : class_of b ≡ c = sym (class-number (class_of b)) ∙ ap classFrom (sym n) ∙ class-number c in
+    let n : class_number c ≡ class_number (class_of b) = eqb-true (class_number c) (class_number (class_of b)) e in
+    let k : class_of b ≡ c = sym (class-number (class_of b)) ∙ ap class_from (sym n) ∙ class-number c in
     subst (λ d. Byte d b) k (class-byte b)
 
 -- ---- marks and keys
@@ -180,7 +180,7 @@ MarkReads c n = (r : Reader) → Reads Anything (mark c) (n ∷ []) tt r r
 abbrev MarkPiece : Class → ℕ → Type 0
 MarkPiece c n = (r : Reader) → Post (λ u r'. Piece Anything (mark c) (n ∷ []) tt r r') (mark c r)
 
-module _ (c : Class) (n : ℕ) (is : isIn c n ≡ true) (only : (b : ℕ) → isIn c b ≡ true → b ≡ n) where
+module _ (c : Class) (n : ℕ) (is : is_in c n ≡ true) (only : (b : ℕ) → is_in c b ≡ true → b ≡ n) where
   starts_with : (w : Bytes) → next c w ≡ true → w ≡ n ∷ drop 1 w
   starts_with [] e = contradiction cc
   starts_with (b ∷ bs) e = ap (λ (x : ℕ). x ∷ bs) (only b e)
@@ -197,39 +197,39 @@ module _ (c : Class) (n : ℕ) (is : isIn c n ≡ true) (only : (b : ℕ) → is
       (λ e. refusal tt)
 
 pub feed-reads : MarkReads feed 10
-unfolding isIn classNumber class_of
+unfolding is_in class_number class_of
 feed-reads = mark-reads feed 10 refl (is-in feed)
 
 pub comma-reads : MarkReads comma 44
-unfolding isIn classNumber class_of
+unfolding is_in class_number class_of
 comma-reads = mark-reads comma 44 refl (is-in comma)
 
 pub colon-reads : MarkReads colon 58
-unfolding isIn classNumber class_of
+unfolding is_in class_number class_of
 colon-reads = mark-reads colon 58 refl (is-in colon)
 
 pub space-reads : MarkReads space 32
-unfolding isIn classNumber class_of
+unfolding is_in class_number class_of
 space-reads = mark-reads space 32 refl (is-in space)
 
 pub feed-piece : MarkPiece feed 10
-unfolding isIn classNumber class_of
+unfolding is_in class_number class_of
 feed-piece = mark-piece feed 10 refl (is-in feed)
 
 pub comma-piece : MarkPiece comma 44
-unfolding isIn classNumber class_of
+unfolding is_in class_number class_of
 comma-piece = mark-piece comma 44 refl (is-in comma)
 
 pub colon-piece : MarkPiece colon 58
-unfolding isIn classNumber class_of
+unfolding is_in class_number class_of
 colon-piece = mark-piece colon 58 refl (is-in colon)
 
 pub point-piece : MarkPiece point 46
-unfolding isIn classNumber class_of
+unfolding is_in class_number class_of
 point-piece = mark-piece point 46 refl (is-in point)
 
 pub space-piece : MarkPiece space 32
-unfolding isIn classNumber class_of
+unfolding is_in class_number class_of
 space-piece = mark-piece space 32 refl (is-in space)
 
 begins-split : (k w : Bytes) → begins k w ≡ true → w ≡ k ++ drop (length k) w
@@ -265,17 +265,17 @@ exactly-piece n k r =
 index_reads : (n : ℕ) (r : Reader) → Reads NoNumber index (printℕ n) n r r
 unfolding index taken
 index_reads n r = record {
-  is = λ p w h. rw (run-whole inNumber (printℕ n) w (printℕ-number n) h, natural-printℕ n, drop-append_seam (printℕ n) w);
+  is = λ p w h. rw (run-whole in_number (printℕ n) w (printℕ-number n) h, natural-printℕ n, drop-append_seam (printℕ n) w);
 }
 
 pub index-piece : (r : Reader) → Post (λ n r'. Piece NoNumber index (printℕ n) n r r') (index r)
 unfolding index taken
 index-piece r =
-    present-post 4 r.place (natural (run inNumber r.rest)) _ tt λ n e.
-    let bs = run inNumber r.rest in
+    present-post 4 r.place (natural (run in_number r.rest)) _ tt λ n e.
+    let bs = run in_number r.rest in
     let c : bs ≡ printℕ n = natural-canonical bs n e in
     record {
-      rest = run-split inNumber r.rest ∙ ap (λ (x : Bytes). x ++ drop (length bs) r.rest) c;
+      rest = run-split in_number r.rest ∙ ap (λ (x : Bytes). x ++ drop (length bs) r.rest) c;
       again = record { is = (index_reads n r).is };
     }
 
@@ -293,7 +293,7 @@ count-piece lo hi r =
 pub value-reads : (z : ℤ) → in32 z ≡ true → (r : Reader) → Reads NoNumber value (printℤ z) z r r
 unfolding value taken
 value-reads z i r = record {
-  is = λ p w h. rw (run-whole inNumber (printℤ z) w (printℤ-number z) h, integer-printℤ z, i, drop-append_seam (printℤ z) w);
+  is = λ p w h. rw (run-whole in_number (printℤ z) w (printℤ-number z) h, integer-printℤ z, i, drop-append_seam (printℤ z) w);
 }
 
 pub value-piece : (r : Reader) → Post (λ z r'. Piece NoNumber value (printℤ z) z r r') (value r)
@@ -304,7 +304,7 @@ value-piece r =
     require-post (in32 z) _ _ _ _ tt λ e.
     holds {r = r₁} (record {
       rest =
-          run-split inNumber r.rest ∙ ap (λ (x : Bytes). x ++ drop (length bs) r.rest) c
+          run-split in_number r.rest ∙ ap (λ (x : Bytes). x ++ drop (length bs) r.rest) c
           ∙ ap (λ (x : Reader). printℤ z ++ x.rest) (sym e₁);
       again = record {
         is = λ p w k. (value-reads z e r).is p w k ∙ ap (λ (x : Reader). found z (at (p + length (printℤ z)) w x)) (sym e₁);
@@ -312,22 +312,22 @@ value-piece r =
     })
   where
     bs : Bytes
-    bs = run inNumber r.rest
+    bs = run in_number r.rest
 
 -- ---- what ends a number
 
 pub feed-ends : (w : Bytes) → NoNumber (10 ∷ w)
-unfolding starts inNumber isIn classNumber class_of
+unfolding starts in_number is_in class_number class_of
 feed-ends w = refl
 
 pub comma-ends : (w : Bytes) → NoNumber (44 ∷ w)
-unfolding starts inNumber isIn classNumber class_of
+unfolding starts in_number is_in class_number class_of
 comma-ends w = refl
 
 pub colon-ends : (w : Bytes) → NoNumber (58 ∷ w)
-unfolding starts inNumber isIn classNumber class_of
+unfolding starts in_number is_in class_number class_of
 colon-ends w = refl
 
 pub point-ends : (w : Bytes) → NoNumber (46 ∷ w)
-unfolding starts inNumber isIn classNumber class_of
+unfolding starts in_number is_in class_number class_of
 point-ends w = refl

@@ -7,7 +7,7 @@ use borrow.Author.Tests.{eqb-true, eq-eqb, ne_eqb}
 use lib.IntN.{ℤ}
 use Rattle.specification.specs.Bytes.{pick}
 use Rattle.specification.specs.Lines.{Declared}
-use Rattle.specification.specs.Place.{Place, cell, local, samePlace, put}
+use Rattle.specification.specs.Place.{Place, cell, local, same_place, put}
 use Rattle.specification.specs.Value.{Slot, empty, full, Valuation, allowed}
 use Rattle.specification.specs.WellFormed.{Scope, enter, Valid}
 use Rattle.specification.specs.Plain.{Env}
@@ -16,28 +16,28 @@ use Rattle.specification.proofs.Laws.Scope.{In, Agree, Ext}
 
 -- ---- the same place or another
 
-same_true : (p : Place) → samePlace p p ≡ true
+same_true : (p : Place) → same_place p p ≡ true
 same_true (cell a) = eq-eqb a a refl
 same_true (local a) = eq-eqb a a refl
 
-same_false : (q p : Place) → ¬ (q ≡ p) → samePlace q p ≡ false
+same_false : (q p : Place) → ¬ (q ≡ p) → same_place q p ≡ false
 same_false (cell a) (cell b) n = ne_eqb a b (λ e. n (ap cell e))
 same_false (cell a) (local b) n = refl
 same_false (local a) (cell b) n = refl
 same_false (local a) (local b) n = ne_eqb a b (λ e. n (ap local e))
 
-same-eq : (q p : Place) → samePlace q p ≡ true → q ≡ p
+same-eq : (q p : Place) → same_place q p ≡ true → q ≡ p
 same-eq (cell a) (cell b) e = ap cell (eqb-true a b e)
 same-eq (cell a) (local b) e = cc
 same-eq (local a) (cell b) e = cc
 same-eq (local a) (local b) e = ap local (eqb-true a b e)
 
 pub place-dec : (q p : Place) → Dec (q ≡ p)
-place-dec q p = go (samePlace q p) refl
+place-dec q p = go (same_place q p) refl
   where
-    go : (b : Bool) → samePlace q p ≡ b → Dec (q ≡ p)
+    go : (b : Bool) → same_place q p ≡ b → Dec (q ≡ p)
     go true e = yes (same-eq q p e)
-    go false e = no (λ h. let t : samePlace q p ≡ true = rw h (same_true p) in contradiction cc)
+    go false e = no (λ h. let t : same_place q p ≡ true = rw h (same_true p) in contradiction cc)
 
 -- ---- put
 

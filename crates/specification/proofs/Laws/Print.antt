@@ -9,8 +9,8 @@ use mathlib.Core.Option.{some}
 use lib.Dec.{ltb, eqb}
 use lib.IntN.{ℤ, pos, negsuc}
 use borrow.Author.Tests.{ltb-true, ltb-false, le-leb, lt-leb, ne_eqb}
-use Rattle.specification.specs.Bytes.{Bytes, pick, digit, class_of, classNumber, isIn}
-use Rattle.specification.specs.Number.{allDigits, decimal, wellFormed, natural, integer, digits, printℕ, printℤ}
+use Rattle.specification.specs.Bytes.{Bytes, pick, digit, class_of, class_number, is_in}
+use Rattle.specification.specs.Number.{all_digits, decimal, well_formed, natural, integer, digits, printℕ, printℤ}
 use Rattle.specification.specs.Lists.{Each}
 use Rattle.specification.proofs.Laws.Contradiction.{contradiction}
 use Rattle.specification.proofs.Laws.Lists.{each_map, each-++}
@@ -25,8 +25,8 @@ pub digit-class : (b : ℕ) → IsDigit b → class_of b ≡ digit
 unfolding class_of
 digit-class b h = rw (lt-leb 97 b (omega (arith, h)), le-leb 48 b h.0, le-leb b 57 h.1)
 
-digits-all : (bs : Bytes) → Each IsDigit bs → allDigits bs ≡ true
-unfolding Each allDigits isIn classNumber
+digits-all : (bs : Bytes) → Each IsDigit bs → all_digits bs ≡ true
+unfolding Each all_digits is_in class_number
 digits-all [] h = refl
 digits-all (b ∷ bs) h = rw (digit-class b h.0) (digits-all bs h.1)
 
@@ -40,11 +40,11 @@ decimal-++ n (x ∷ xs) ys = decimal-++ (n * 10 + (x - 48)) xs ys
 -- the bytes are n in digits, without a leading zero
 pub record Numeral (n : ℕ) (bs : Bytes) : Type 0 where
   pub all_digits : Each IsDigit bs
-  pub formed : wellFormed bs ≡ true
+  pub formed : well_formed bs ≡ true
   pub value : decimal 0 bs ≡ n
 
 one-digit : (n : ℕ) → n < 10 → Numeral n ((48 + n) ∷ [])
-unfolding Each wellFormed decimal
+unfolding Each well_formed decimal
 one-digit n h =
     let d : Each IsDigit ((48 + n) ∷ []) = ((omega arith, omega arith), tt) in
     record { all_digits = d; formed = digits-all ((48 + n) ∷ []) d; value = omega arith }
@@ -54,12 +54,12 @@ and_left true b h = refl
 and_left false b h = h
 
 -- one more digit, after a number that is not 0
-formed-more : (bs : Bytes) (d : ℕ) → Each IsDigit (bs ++ d ∷ []) → wellFormed bs ≡ true → 0 < decimal 0 bs →
-    wellFormed (bs ++ d ∷ []) ≡ true
-unfolding wellFormed decimal
+formed-more : (bs : Bytes) (d : ℕ) → Each IsDigit (bs ++ d ∷ []) → well_formed bs ≡ true → 0 < decimal 0 bs →
+    well_formed (bs ++ d ∷ []) ≡ true
+unfolding well_formed decimal
 formed-more [] d h f p = absurd (omega arith)
 formed-more (b ∷ []) d h f p = rw (ne_eqb b 48 (λ e. omega arith)) (digits-all (b ∷ d ∷ []) h)
-formed-more (b ∷ c ∷ bs) d h f p = rw (and_left (not (eqb b 48)) (allDigits (b ∷ c ∷ bs)) f) (digits-all (b ∷ c ∷ (bs ++ d ∷ [])) h)
+formed-more (b ∷ c ∷ bs) d h f p = rw (and_left (not (eqb b 48)) (all_digits (b ∷ c ∷ bs)) f) (digits-all (b ∷ c ∷ (bs ++ d ∷ [])) h)
 
 more-digits : (n : ℕ) (bs : Bytes) → 10 ≤ n → Numeral (n / 10) bs → Numeral n (bs ++ (48 + n % 10) ∷ [])
 unfolding Each decimal
@@ -97,12 +97,12 @@ unfolding natural
 natural-printℕ n = let p = printℕ-numeral n in rw (p.formed, p.value)
 
 integer-digits : (bs : Bytes) (n : ℕ) → Each IsDigit bs → natural bs ≡ some n → integer bs ≡ some (pos n)
-unfolding Each integer isIn classNumber natural wellFormed
+unfolding Each integer is_in class_number natural well_formed
 integer-digits [] n h e = contradiction cc
 integer-digits (b ∷ bs) n h e = rw (digit-class b h.0, e)
 
 pub integer-printℤ : (z : ℤ) → integer (printℤ z) ≡ some z
-unfolding printℤ integer isIn classNumber class_of
+unfolding printℤ integer is_in class_number class_of
 integer-printℤ (pos n) = integer-digits (printℕ n) n (printℕ-numeral n).all_digits (natural-printℕ n)
 integer-printℤ (negsuc n) = rw (natural-printℕ (suc n))
 
@@ -115,9 +115,9 @@ printℤ-injective y z e = cc (integer-printℤ y, integer-printℤ z)
 -- ---- what does not stand in it
 
 pub printℕ-nonempty : (n : ℕ) → ¬ (printℕ n ≡ [])
-unfolding wellFormed
+unfolding well_formed
 printℕ-nonempty n e =
-    let z : true ≡ false = sym (printℕ-numeral n).formed ∙ ap wellFormed e in
+    let z : true ≡ false = sym (printℕ-numeral n).formed ∙ ap well_formed e in
     contradiction cc
 
 -- the byte does not stand in these

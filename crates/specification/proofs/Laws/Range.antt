@@ -10,21 +10,21 @@ use mir.Facts.{and_yes, yes_and}
 use lib.IntN.{ℤ, pos, negsuc, ◌+ℤ◌, +ℤ_assoc, +ℤ_idr}
 use lib.Signed.{◌≤ℤ◌, le_z}
 use Rattle.specification.specs.Number.{least, greatest, in32}
-use Rattle.specification.specs.Arithmetic.{eqZ, count}
+use Rattle.specification.specs.Arithmetic.{eq_z, count}
 use Rattle.specification.specs.Plain.{EachFrom}
 use Rattle.specification.proofs.Laws.Difference.{subℕ-ge, subℕ-lt}
 
 -- ---- equality
 
-pub eqZ-eq : (x y : ℤ) → T (eqZ x y) → x ≡ y
-eqZ-eq (pos a) (pos b) t = ap pos (eqb→eq a b t)
-eqZ-eq (pos a) (negsuc b) t = absurd t
-eqZ-eq (negsuc a) (pos b) t = absurd t
-eqZ-eq (negsuc a) (negsuc b) t = ap negsuc (eqb→eq a b t)
+pub eq_z-eq : (x y : ℤ) → T (eq_z x y) → x ≡ y
+eq_z-eq (pos a) (pos b) t = ap pos (eqb→eq a b t)
+eq_z-eq (pos a) (negsuc b) t = absurd t
+eq_z-eq (negsuc a) (pos b) t = absurd t
+eq_z-eq (negsuc a) (negsuc b) t = ap negsuc (eqb→eq a b t)
 
-pub eqZ-refl : (x : ℤ) → T (eqZ x x)
-eqZ-refl (pos a) = eqb_refl a
-eqZ-refl (negsuc a) = eqb_refl a
+pub eq_z-refl : (x : ℤ) → T (eq_z x x)
+eq_z-refl (pos a) = eqb_refl a
+eq_z-refl (negsuc a) = eqb_refl a
 
 -- ---- order
 

@@ -15,11 +15,11 @@ use mir.Facts.{and_yes, yes_and}
 use Rattle.specification.specs.Bytes.{Bytes, pick}
 use Rattle.specification.specs.Number.{within, in32}
 use Rattle.specification.specs.Parser.{Reader, found}
-use Rattle.specification.specs.Lines.{Declared, firstRanged, contains, everything, sum, array_of, scalar, element, cells, first_of, length_of, cell_of, rangeNumber, range_of, in_range}
+use Rattle.specification.specs.Lines.{Declared, first_ranged, contains, everything, sum, array_of, scalar, element, cells, first_of, length_of, cell_of, range_number, range_of, in_range}
 use Rattle.specification.specs.Sheet.{Sheet, read}
 use Rattle.specification.specs.WellFormed.{Limits}
 use Rattle.specification.specs.Plain.{Filling, Fills}
-use Rattle.specification.proofs.Laws.Allowed.{allowed-in32, in32-inRange}
+use Rattle.specification.proofs.Laws.Allowed.{allowed-in32, in32-in_range}
 use Rattle.specification.proofs.Laws.ReadSheet.{read-well-formed}
 use Rattle.specification.specs.Place.{cell}
 
@@ -55,12 +55,12 @@ array-own (n ∷ ns) i h = go (array-own ns (i - n)) (ltb i n) refl
 -- ---- a cell's range by its number in the line
 
 module _ (D : Declared) where
-  pub scalar-number : (n : ℕ) → n < D.scalars → rangeNumber D n ≡ n
-  unfolding rangeNumber
+  pub scalar-number : (n : ℕ) → n < D.scalars → range_number D n ≡ n
+  unfolding range_number
   scalar-number n h = rw (lt-ltb n D.scalars h)
 
-  pub element-number : (a e : ℕ) → e < length_of D a → rangeNumber D (first_of D a + e) ≡ D.scalars + a
-  unfolding rangeNumber first_of length_of
+  pub element-number : (a e : ℕ) → e < length_of D a → range_number D (first_of D a + e) ≡ D.scalars + a
+  unfolding range_number first_of length_of
   element-number a e h =
       let at = sum (take a D.arrays) in
       let left : D.scalars + at + e - D.scalars ≡ at + e = omega arith in
@@ -76,8 +76,8 @@ module _ (D : Declared) where
   element-range a e h = ap (λ k. get_or D.ranges k everything) (element-number a e h)
 
   -- a declared cell that is no scalar lies in the array of its range
-  pub cell-own : (c : ℕ) → c < cells D → D.scalars ≤ c → Own D.arrays (c - D.scalars) (rangeNumber D c - D.scalars)
-  unfolding rangeNumber cells
+  pub cell-own : (c : ℕ) → c < cells D → D.scalars ≤ c → Own D.arrays (c - D.scalars) (range_number D c - D.scalars)
+  unfolding range_number cells
   cell-own c h l =
       let a = array_of D.arrays (c - D.scalars) in
       let left : D.scalars + a - D.scalars ≡ a = omega arith in
@@ -100,20 +100,20 @@ module _ (D : Declared) where
 
 -- ---- before edition 3
 
-no-ranges : (D : Declared) → Limits D → D.edition < firstRanged → D.ranges ≡ []
-no-ranges D l h = go D.ranges (l.ranges ∙ rw (lt-ltb D.edition firstRanged h))
+no-ranges : (D : Declared) → Limits D → D.edition < first_ranged → D.ranges ≡ []
+no-ranges D l h = go D.ranges (l.ranges ∙ rw (lt-ltb D.edition first_ranged h))
   where
     go : {A : Type 0} (xs : List A) → length xs ≡ 0 → xs ≡ []
     go [] e = refl
     go (x ∷ xs) e = absurd (omega arith)
 
 -- the fillings of a sheet of edition 1 or 2 are those with all values of 32 bits
-pub fillings-of-32 : (b : Bytes) (s : Sheet) (r : Reader) → read b ≡ found s r → s.declared.edition < firstRanged → (φ : Filling) →
+pub fillings-of-32 : (b : Bytes) (s : Sheet) (r : Reader) → read b ≡ found s r → s.declared.edition < first_ranged → (φ : Filling) →
     Fills s.declared φ ↔ ((c : ℕ) → c < cells s.declared → T (in32 (φ c)))
 unfolding Fills
 fillings-of-32 b s r e h φ =
     let D = s.declared in
     let none = no-ranges D (read-well-formed true b s r e).limits h in (
       (λ f c l. allowed-in32 D (cell c) (φ c) (f c l)),
-      (λ f c l. in32-inRange D none c (φ c) (f c l)),
+      (λ f c l. in32-in_range D none c (φ c) (f c l)),
     )

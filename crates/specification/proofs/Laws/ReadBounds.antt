@@ -9,12 +9,12 @@ use mathlib.Core.Option.{Option}
 use lib.ListN.{length}
 use lib.Dec.{leb, ltb, eqb}
 use borrow.Author.Tests.{leb-true, eqb-true}
-use Rattle.specification.specs.Bytes.{Bytes, bytes, between, feed, inToken}
+use Rattle.specification.specs.Bytes.{Bytes, bytes, between, feed, in_token}
 use Rattle.specification.specs.Parser.{Reader, refused}
 use Rattle.specification.specs.Words.{Word}
 use Rattle.specification.specs.Formula.{Token, numbered, token, has}
-use Rattle.specification.specs.Sheet.{withProcedures, mostProcedures, Sheet, refuses, sheet, opened, readWith, read}
-use Rattle.specification.proofs.Laws.Parser.{refusesWith, and-true, Reading, refusal, holds, of-refused, bind-post, present-post, pick_post}
+use Rattle.specification.specs.Sheet.{with_procedures, most_procedures, Sheet, refuses, sheet, opened, read_with, read}
+use Rattle.specification.proofs.Laws.Parser.{refuses_with, and-true, Reading, refusal, holds, of-refused, bind-post, present-post, pick_post}
 use Rattle.specification.proofs.Laws.LineReaders.{Composed}
 use Rattle.specification.proofs.Laws.FormulaReaders.{Tokened, formula-by, procedures-by}
 use Rattle.specification.proofs.Laws.SheetLines.{sheet-by}
@@ -35,7 +35,7 @@ module _ (N : ℕ) where
   token-safe word r i =
       let here = refused-here N r i 4 refl in
       bind-post (numbered-safe r i) λ n r₁ i₁.
-      bind-post (taken-safe N r₁ i₁ inToken) λ bs r₂ i₂.
+      bind-post (taken-safe N r₁ i₁ in_token) λ bs r₂ i₂.
       bind-post (present-post 4 r.place (word bs) r₂ here (λ w e. i₂)) λ w r₃ i₃.
       holds (here.1, i₃)
 
@@ -65,9 +65,9 @@ module _ (N : ℕ) where
   sheet-safe strict =
       sheet-by safe-composed (SafeParser N) (λ A m f. safe-composed.bind A Sheet m f) strict
       (λ E is r i.
-      bind-post (procedures-by safe-tokened (refuses strict E.edition) (mostProcedures E.edition) E r i) λ Ps r₁ i₁.
+      bind-post (procedures-by safe-tokened (refuses strict E.edition) (most_procedures E.edition) E r i) λ Ps r₁ i₁.
       bind-post (exactly-safe N r₁ i₁ 3 (bytes "formula=") refl) λ u r₂ i₂.
-      bind-post (formula-by safe-tokened (withProcedures Ps E) (refuses strict E.edition) 64 [] r₂ i₂) λ F r₃ i₃.
+      bind-post (formula-by safe-tokened (with_procedures Ps E) (refuses strict E.edition) 64 [] r₂ i₂) λ F r₃ i₃.
       bind-post (mark-safe N r₃ i₃ feed) λ u r₄ i₄.
       bind-post (finish-safe N r₄ i₄) λ u r₅ i₅. holds i₅)
 
@@ -77,7 +77,7 @@ pub record RefusedWell (b : Bytes) (n p : ℕ) : Type 0 where
   pub greatest : (n ≤ 14) ⊎ (n ≡ 17)
   pub place : p ≤ length b
 
-numbers : (n : ℕ) → refusesWith n ≡ true → (3 ≤ n) × ((n ≤ 14) ⊎ (n ≡ 17))
+numbers : (n : ℕ) → refuses_with n ≡ true → (3 ≤ n) × ((n ≤ 14) ⊎ (n ≡ 17))
 numbers n e = go (between 3 14 n) refl e
   where
     go : (b : Bool) → between 3 14 n ≡ b → (b || eqb n 17) ≡ true → (3 ≤ n) × ((n ≤ 14) ⊎ (n ≡ 17))
@@ -85,7 +85,7 @@ numbers n e = go (between 3 14 n) refl e
     go false k e = let h : n ≡ 17 = eqb-true n 17 e in (omega (arith, h), inr h)
 
 pub read-refused : (b : Bytes) (n p : ℕ) → read b ≡ refused n p → RefusedWell b n p
-unfolding readWith
+unfolding read_with
 read-refused b n p e =
     let h = of-refused (sheet-safe (length b) true (opened b) (omega arith)) e in
     let t = numbers n h.0 in

@@ -11,11 +11,11 @@ use borrow.Author.Tests.{ltb-true}
 use mir.Facts.{or_yes, eqb_yes}
 use Rattle.specification.specs.Lists.{Each}
 use Rattle.specification.specs.Parser.{Reader, Read, Parser, give, ◌>>=◌, ◌>>◌}
-use Rattle.specification.specs.Lines.{Declared, procedureOf}
+use Rattle.specification.specs.Lines.{Declared, procedure_of}
 use Rattle.specification.specs.Ast.{Term, Formula, and, or, imp, eq, compare, ex, some, all, call}
 use Rattle.specification.specs.Fill.{fill}
-use Rattle.specification.specs.Words.{FormulaWord, trueWord, andWord, orWord, impWord, notWord, eqWord, exWord, someWord, allWord, call_word, relWord, TermWord, constantWord, scalarWord, localWord, arrayWord, parameterWord, opWord, Word, formulaWord, termWord, numberWord, unknown, word_of, number_of}
-use Rattle.specification.specs.Formula.{Token, operand, Locals, has, bind, binderOf, binderWith, binder, procedureWith, procedure, term, arguments, emptyRange, nonEmpty, formulaOf, formulaWith, formula}
+use Rattle.specification.specs.Words.{FormulaWord, true_word, and_word, or_word, imp_word, not_word, eq_word, ex_word, some_word, all_word, call_word, rel_word, TermWord, constant_word, scalar_word, local_word, array_word, parameter_word, op_word, Word, formula_word, term_word, number_word, unknown, word_of, number_of}
+use Rattle.specification.specs.Formula.{Token, operand, Locals, has, bind, binder_of, binder_with, binder, procedure_with, procedure, term, arguments, empty_range, non_empty, formula_of, formula_with, formula}
 use Rattle.specification.specs.Outside.{binds}
 use Rattle.specification.specs.WellFormed.{nowhere, enter, OkTerm, Ok, OkProcedures}
 use Rattle.specification.proofs.Laws.Contradiction.{contradiction}
@@ -35,18 +35,18 @@ module _ (D : Declared) (S : Locals) where
   bind-local p l r d s =
       pick_post (has l r.bound) _ _ (λ e. refusal tt) (λ e. holds (d, fresh S r.bound l s e, sub-both S r.bound l s))
 
-  binder-of : (p : ℕ) (w : TermWord) (r : Reader) → Sub S r.bound → Post Binds (binderOf D p w r)
-  binder-of p (localWord l) r s = require-post (ltb l D.locals) _ _ _ _ tt λ e. bind-local p l r (ltb-true l D.locals e) s
-  binder-of p (constantWord z) r s = refusal tt
-  binder-of p (scalarWord n) r s = refusal tt
-  binder-of p (arrayWord a) r s = refusal tt
-  binder-of p (parameterWord n) r s = refusal tt
-  binder-of p (opWord o) r s = refusal tt
+  binder-of : (p : ℕ) (w : TermWord) (r : Reader) → Sub S r.bound → Post Binds (binder_of D p w r)
+  binder-of p (local_word l) r s = require-post (ltb l D.locals) _ _ _ _ tt λ e. bind-local p l r (ltb-true l D.locals e) s
+  binder-of p (constant_word z) r s = refusal tt
+  binder-of p (scalar_word n) r s = refusal tt
+  binder-of p (array_word a) r s = refusal tt
+  binder-of p (parameter_word n) r s = refusal tt
+  binder-of p (op_word o) r s = refusal tt
 
-  binder-with : (t : Token) (w : Word) (r : Reader) → Sub S r.bound → Post Binds (binderWith D t w r)
-  binder-with t (termWord w) r s = binder-of t.place w r s
-  binder-with t (formulaWord w) r s = refusal tt
-  binder-with t (numberWord n) r s = refusal tt
+  binder-with : (t : Token) (w : Word) (r : Reader) → Sub S r.bound → Post Binds (binder_with D t w r)
+  binder-with t (term_word w) r s = binder-of t.place w r s
+  binder-with t (formula_word w) r s = refusal tt
+  binder-with t (number_word n) r s = refusal tt
   binder-with t unknown r s = refusal tt
 
   binder-post : (k : ℕ) (r : Reader) → Sub S r.bound → Post Binds (binder D k r)
@@ -61,11 +61,11 @@ module _ (D : Declared) (R : Locals) where
   abbrev Earlier : ℕ → Type 0
   Earlier K = K < length D.procedures
 
-  procedure-with : (t : Token) (w : Word) (r : Reader) → Sub R r.bound → Post (Scoped R Earlier) (procedureWith D t w r)
-  procedure-with t (numberWord K) r s =
+  procedure-with : (t : Token) (w : Word) (r : Reader) → Sub R r.bound → Post (Scoped R Earlier) (procedure_with D t w r)
+  procedure-with t (number_word K) r s =
       require-post (ltb K (length D.procedures)) _ _ _ _ tt λ e. holds (ltb-true K (length D.procedures) e, s)
-  procedure-with t (formulaWord w) r s = refusal tt
-  procedure-with t (termWord w) r s = refusal tt
+  procedure-with t (formula_word w) r s = refusal tt
+  procedure-with t (term_word w) r s = refusal tt
   procedure-with t unknown r s = refusal tt
 
   procedure-post : (k : ℕ) (r : Reader) → Sub R r.bound → Post (Scoped R Earlier) (procedure D k r)
@@ -98,7 +98,7 @@ Bounds F B = (l : ℕ) → T (binds F l) → has l B ≡ true
 -- the procedures of the lines before are well scoped, and the locals of B have their binders
 pub record Known (D : Declared) (B : Locals) : Type 0 where
   pub scoped : OkProcedures D
-  pub binders : (K : ℕ) → K < length D.procedures → Bounds (procedureOf D K).formula B
+  pub binders : (K : ℕ) → K < length D.procedures → Bounds (procedure_of D K).formula B
 
 -- ---- formulas
 
@@ -175,12 +175,12 @@ module _ (D : Declared) (B : Locals) (known : Known D B) where
       }
 
   -- a call of procedure J
-  call-read : {S : Locals} {r r' : Reader} (J : ℕ) (ts : List Term) → J < length D.procedures → length ts ≡ (procedureOf D J).parameters →
+  call-read : {S : Locals} {r r' : Reader} (J : ℕ) (ts : List Term) → J < length D.procedures → length ts ≡ (procedure_of D J).parameters →
       Each (OkTerm D (scope S)) ts → Around S r → Sub r.bound r'.bound →
-      FormulaRead S r (call J ts (fill ts (procedureOf D J).formula)) r'
+      FormulaRead S r (call J ts (fill ts (procedure_of D J).formula)) r'
   unfolding Ok binds
   call-read {S} {r} {r'} J ts early count each a m =
-      let G : Formula = (procedureOf D J).formula in
+      let G : Formula = (procedure_of D J).formula in
       let b = known.binders J early in
       record {
         ok = (
@@ -242,40 +242,40 @@ module _ (D : Declared) (B : Locals) (known : Known D B) where
         ((l : ℕ) (a b : Term) (G : Formula) (j : ℕ) → T (binds (g l a b G) j) → T (eqb j l || binds G j)) →
         (r : Reader) → Around S r →
         Post (FormulaRead S r) ((operand L >>= λ l. operand T' >>= λ a. operand T' >>= λ b.
-        nonEmpty refusing p a b >> (operand (F (l ∷ S)) >>= λ f. give (g l a b f))) r)
+        non_empty refusing p a b >> (operand (F (l ∷ S)) >>= λ f. give (g l a b f))) r)
     quantified p g ok parts r a =
         bind-post (operand-post r.bound L (binder-post D r.bound k) r (sub_refl r.bound)) λ l r₁ h₁.
         bind-post (operand-post (l ∷ r.bound) T' (term-post D S (l ∷ r.bound) k) r₁ h₁.2) λ x r₂ h₂.
         bind-post (operand-post (l ∷ r.bound) T' (term-post D S (l ∷ r.bound) k) r₂ h₂.1) λ y r₃ h₃.
-        bind-post (require-post (not (refusing && emptyRange x y)) 17 p (give tt) r₃ tt λ e. holds {r = r₃} h₃.1) λ u r₄ s₄.
+        bind-post (require-post (not (refusing && empty_range x y)) 17 p (give tt) r₃ tt λ e. holds {r = r₃} h₃.1) λ u r₄ s₄.
         bind-post (sub-formula (l ∷ S) r₄ (around-bound l a h₁.1 s₄)) λ f r₅ h₅.
         holds (bound-read l f (g l x y f) a h₁.1 s₄ h₅ (ok l x y f h₂.0 h₃.0 h₁.0) (parts l x y f))
 
-    formula-of : (p n : ℕ) (w : FormulaWord) (r : Reader) → Around S r → Post (FormulaRead S r) (formulaOf refusing D F T' L K S p n w r)
+    formula-of : (p n : ℕ) (w : FormulaWord) (r : Reader) → Around S r → Post (FormulaRead S r) (formula_of refusing D F T' L K S p n w r)
     unfolding Ok binds
-    formula-of p n trueWord r a = holds (record { ok = tt; binders = λ l b. absurd b; more = sub_refl r.bound })
-    formula-of p n andWord r a = two-formulas and (λ G H x y. (x, y)) (λ G H l b. b) r a
-    formula-of p n orWord r a = two-formulas or (λ G H x y. (x, y)) (λ G H l b. b) r a
-    formula-of p n impWord r a = two-formulas (imp n) (λ G H x y. (x, y)) (λ G H l b. b) r a
-    formula-of p n notWord r a =
+    formula-of p n true_word r a = holds (record { ok = tt; binders = λ l b. absurd b; more = sub_refl r.bound })
+    formula-of p n and_word r a = two-formulas and (λ G H x y. (x, y)) (λ G H l b. b) r a
+    formula-of p n or_word r a = two-formulas or (λ G H x y. (x, y)) (λ G H l b. b) r a
+    formula-of p n imp_word r a = two-formulas (imp n) (λ G H x y. (x, y)) (λ G H l b. b) r a
+    formula-of p n not_word r a =
         bind-post (sub-formula S r a) λ f r₁ h. holds (record { ok = h.ok; binders = h.binders; more = h.more })
-    formula-of p n eqWord r a = two-terms (eq n) (λ x y b c. (b, c)) (λ x y l b. b) r
-    formula-of p n (relWord c) r a = two-terms (compare n c) (λ x y b c. (b, c)) (λ x y l b. b) r
-    formula-of p n exWord r a =
+    formula-of p n eq_word r a = two-terms (eq n) (λ x y b c. (b, c)) (λ x y l b. b) r
+    formula-of p n (rel_word c) r a = two-terms (compare n c) (λ x y b c. (b, c)) (λ x y l b. b) r
+    formula-of p n ex_word r a =
         bind-post (operand-post r.bound L (binder-post D r.bound k) r (sub_refl r.bound)) λ l r₁ h₁.
         bind-post (sub-formula (l ∷ S) r₁ (around-bound l a h₁.1 h₁.2)) λ f r₂ h₂.
         holds (bound-read l f (ex l f) a h₁.1 h₁.2 h₂ (λ z o. (h₁.0, z, o)) (λ j b. b))
-    formula-of p n someWord r a = quantified p (some n) (λ l x y G hx hy d z h. (hx, hy, d, z, h)) (λ l x y G j b. b) r a
-    formula-of p n allWord r a = quantified p (all n) (λ l x y G hx hy d z h. (hx, hy, d, z, h)) (λ l x y G j b. b) r a
+    formula-of p n some_word r a = quantified p (some n) (λ l x y G hx hy d z h. (hx, hy, d, z, h)) (λ l x y G j b. b) r a
+    formula-of p n all_word r a = quantified p (all n) (λ l x y G hx hy d z h. (hx, hy, d, z, h)) (λ l x y G j b. b) r a
     formula-of p n call_word r a =
         bind-post (operand-post r.bound K (procedure-post D r.bound k) r (sub_refl r.bound)) λ J r₁ h₁.
-        bind-post (arguments-post D r.bound S k (procedureOf D J).parameters r₁ h₁.1) λ ts r₂ h₂.
+        bind-post (arguments-post D r.bound S k (procedure_of D J).parameters r₁ h₁.1) λ ts r₂ h₂.
         holds (call-read J ts h₁.0 h₂.0.0 h₂.0.1 a h₂.1)
 
-    formula-with : (t : Token) (w : Word) (r : Reader) → Around S r → Post (FormulaRead S r) (formulaWith refusing D F T' L K S t w r)
-    formula-with t (formulaWord w) r a = formula-of t.place t.number w r a
-    formula-with t (termWord w) r a = refusal tt
-    formula-with t (numberWord n) r a = refusal tt
+    formula-with : (t : Token) (w : Word) (r : Reader) → Around S r → Post (FormulaRead S r) (formula_with refusing D F T' L K S t w r)
+    formula-with t (formula_word w) r a = formula-of t.place t.number w r a
+    formula-with t (term_word w) r a = refusal tt
+    formula-with t (number_word n) r a = refusal tt
     formula-with t unknown r a = refusal tt
 
   formula-around : (refusing : Bool) (k : ℕ) (S : Locals) (r : Reader) → Around S r → Post (FormulaRead S r) (formula refusing D k S r)

@@ -9,8 +9,8 @@ use lib.Dec.{T}
 use borrow.Author.Tests.{ltb-true, leb-true}
 use Rattle.specification.specs.Bytes.{bytes, feed, comma, colon}
 use Rattle.specification.specs.Parser.{Reader, give, ◌>>◌, next, mark, key}
-use Rattle.specification.specs.Lines.{value, Declared, CellName, scalar, element, cells, first_of, length_of, isDeclared, cell_of, in_range}
-use Rattle.specification.specs.Given.{Item, name, item, items, givenLine}
+use Rattle.specification.specs.Lines.{value, Declared, CellName, scalar, element, cells, first_of, length_of, is_declared, cell_of, in_range}
+use Rattle.specification.specs.Given.{Item, name, item, items, given_line}
 use Rattle.specification.specs.Lists.{Each}
 use Rattle.specification.specs.WellFormed.{Rising}
 use Rattle.specification.proofs.Laws.Elements.{sum-take}
@@ -20,8 +20,8 @@ use Rattle.specification.proofs.Laws.Parser.{true-T, Post, holds, bind-post, aft
 -- ---- declared names have declared cells
 
 module _ (D : Declared) where
-  pub declared-cell : (n : CellName) → isDeclared D n ≡ true → cell_of D n < cells D
-  unfolding isDeclared cell_of cells first_of length_of
+  pub declared-cell : (n : CellName) → is_declared D n ≡ true → cell_of D n < cells D
+  unfolding is_declared cell_of cells first_of length_of
   declared-cell (scalar n) h = omega (arith, ltb-true n D.scalars h)
   declared-cell (element a e) h = omega (arith, sum-take a e D.arrays (ltb-true e (get_or D.arrays a 0) h))
 
@@ -72,8 +72,8 @@ module _ (D : Declared) where
       (after (mark comma r₁) λ u r₂. items-post k (suc i.cell) r₂) (holds (tt, tt, tt))) λ is r₂ t.
       holds ((h.0, t.0), (h.1, t.1), (h.2, t.2))
 
-  pub given-post : (r : Reader) → Post (Items 0) (givenLine D r)
-  unfolding givenLine Each Rising
+  pub given-post : (r : Reader) → Post (Items 0) (given_line D r)
+  unfolding given_line Each Rising
   given-post r =
       after (key (bytes "given=") r) λ u r₁.
       bind-post (choose-post (next feed r₁.rest) (give []) (items D 512 0) r₁ (holds (tt, tt, tt)) (items-post 512 0 r₁)) λ is r₂ h.

@@ -10,10 +10,10 @@ use lib.IntN.{ℤ}
 use lib.Signed.{le_z}
 use borrow.Author.Tests.{leb-true}
 use mir.Facts.{yes_and}
-use Rattle.specification.specs.Bytes.{Bytes, bytes, pick, feed, comma, colon, inNumber}
+use Rattle.specification.specs.Bytes.{Bytes, bytes, pick, feed, comma, colon, in_number}
 use Rattle.specification.specs.Number.{integer, within, in32}
 use Rattle.specification.specs.Parser.{Reader, Parser, give, present, ◌>>=◌, ◌>>◌, next, mark, taken, key}
-use Rattle.specification.specs.Lines.{index, count, value, line, Range, Declared, lengths, arraysLine, range, ranges, firstRanged, rangesLine, contains, sum, cells}
+use Rattle.specification.specs.Lines.{index, count, value, line, Range, Declared, lengths, arrays_line, range, ranges, first_ranged, ranges_line, contains, sum, cells}
 use Rattle.specification.specs.Lists.{Each}
 use Rattle.specification.specs.WellFormed.{Ordered, Limits}
 use Rattle.specification.proofs.Laws.Range.{le-self}
@@ -64,8 +64,8 @@ lengths-post (suc k) left r =
     (after (mark comma r₁) λ u r₂. lengths-post k (left - n) r₂) (holds (no_lengths k (left - n)))) λ ns r₂ l.
     holds (one_more k left n ns h.0 h.1 l)
 
-pub arrays-post : (scalars : ℕ) (r : Reader) → Post (λ ns r'. Lengths 16 (512 - scalars) ns) (arraysLine scalars r)
-unfolding arraysLine
+pub arrays-post : (scalars : ℕ) (r : Reader) → Post (λ ns r'. Lengths 16 (512 - scalars) ns) (arrays_line scalars r)
+unfolding arrays_line
 arrays-post scalars r =
     after (key (bytes "arrays=") r) λ u r₁.
     bind-post
@@ -78,7 +78,7 @@ arrays-post scalars r =
 pub value-post : (r : Reader) → Post (λ z r'. T (in32 z)) (value r)
 unfolding value
 value-post r =
-    after (taken inNumber r) λ bs r₁.
+    after (taken in_number r) λ bs r₁.
     after (present 4 r.place (integer bs) r₁) λ z r₂.
     require-post _ _ _ _ _ tt λ e. holds (true-T (in32 z) e)
 
@@ -113,9 +113,9 @@ ranges-post lead (suc k) r =
     holds (record { many = ap suc l.many; ordered = (h, l.ordered) })
 
 -- none before edition 3, and then k of them
-pub ranges-line-post : (edition k : ℕ) (r : Reader) → Post (λ rs r'. Ranges (pick (ltb edition firstRanged) 0 k) rs) (rangesLine edition k r)
-unfolding rangesLine Each
-ranges-line-post edition k r = go (ltb edition firstRanged)
+pub ranges-line-post : (edition k : ℕ) (r : Reader) → Post (λ rs r'. Ranges (pick (ltb edition first_ranged) 0 k) rs) (ranges_line edition k r)
+unfolding ranges_line Each
+ranges-line-post edition k r = go (ltb edition first_ranged)
   where
     go : (b : Bool) →
         Post (λ rs r'. Ranges (pick b 0 k) rs) (pick b (give []) (key (bytes "ranges=") >> (ranges (give tt) k >>= λ rs. mark feed >> give rs)) r)
@@ -130,7 +130,7 @@ ranges-line-post edition k r = go (ltb edition firstRanged)
 -- from what is known of these lines, and of the procedures
 module _ (D : Declared) where
   pub limits : (1 ≤ D.edition) × (D.edition ≤ 3) → D.scalars ≤ 64 → D.locals ≤ 32 → Lengths 16 (512 - D.scalars) D.arrays →
-      Ranges (pick (ltb D.edition firstRanged) 0 (D.scalars + length D.arrays)) D.ranges → length D.procedures ≤ 16 → D.parameters ≡ 0 → Limits D
+      Ranges (pick (ltb D.edition first_ranged) 0 (D.scalars + length D.arrays)) D.ranges → length D.procedures ≤ 16 → D.parameters ≡ 0 → Limits D
   unfolding cells
   limits e v l a r p n = record {
     edition = e;

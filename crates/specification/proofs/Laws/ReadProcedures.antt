@@ -12,10 +12,10 @@ use borrow.Author.Tests.{ltb-true, ltb-false}
 use Rattle.specification.specs.Lists.{Each}
 use Rattle.specification.specs.Bytes.{Bytes, bytes, Class, feed, colon, begins}
 use Rattle.specification.specs.Parser.{Reader, Parser, give, next, mark, exactly, taken}
-use Rattle.specification.specs.Lines.{count, Declared, procedureOf}
+use Rattle.specification.specs.Lines.{count, Declared, procedure_of}
 use Rattle.specification.specs.Ast.{Procedure}
 use Rattle.specification.specs.Formula.{Locals, has, formula}
-use Rattle.specification.specs.Sheet.{withParameters, withProcedures, procedureLine, procedureLines}
+use Rattle.specification.specs.Sheet.{with_parameters, with_procedures, procedure_line, procedure_lines}
 use Rattle.specification.specs.WellFormed.{nowhere, Ok, line_of}
 use Rattle.specification.proofs.Laws.Parser.{Post, refusal, holds, both_post, bind-post, choose-post, pick_post}
 use Rattle.specification.proofs.Laws.Lists.{each-++}
@@ -60,19 +60,19 @@ module _ (R : Locals) where
 -- P is read from r on
 record ProcedureRead (D : Declared) (r : Reader) (P : Procedure) (r' : Reader) : Type 0 where
   few : P.parameters ≤ 8
-  ok : Ok (withParameters P.parameters D) nowhere P.formula
+  ok : Ok (with_parameters P.parameters D) nowhere P.formula
   binders : Bounds P.formula r'.bound
   more : Sub r.bound r'.bound
 
 module _ (D : Declared) (B : Locals) (known : Known D B) (refusing : Bool) where
-  line_post : (r : Reader) → Sub B r.bound → Post (ProcedureRead D r) (procedureLine refusing D r)
-  unfolding procedureLine has
+  line_post : (r : Reader) → Sub B r.bound → Post (ProcedureRead D r) (procedure_line refusing D r)
+  unfolding procedure_line has
   line_post r s =
       let R = r.bound in
       bind-post (exactly-keeps R 3 (bytes "proc=") r (λ j h. h)) λ u r₁ s₁.
       bind-post (both_post (count_post 0 8 r₁) (count_by (keeps-composed R) 0 8 r₁ s₁)) λ n r₂ h₂.
       bind-post (mark-keeps R colon r₂ h₂.1) λ u r₃ s₃.
-      bind-post (formula-post (withParameters n D) B (in-line n) refusing 64 r₃ (λ j h. s₃ j (s j h))) λ F r₄ h₄.
+      bind-post (formula-post (with_parameters n D) B (in-line n) refusing 64 r₃ (λ j h. s₃ j (s j h))) λ F r₄ h₄.
       bind-post (mark-keeps r₄.bound feed r₄ (λ j h. h)) λ u r₅ s₅.
       holds (record {
         few = h₂.0.1;
@@ -81,35 +81,35 @@ module _ (D : Declared) (B : Locals) (known : Known D B) (refusing : Bool) where
         more = λ j h. s₅ j (h₄.more j (s₃ j h));
       })
     where
-      in-line : (n : ℕ) → Known (withParameters n D) B
+      in-line : (n : ℕ) → Known (with_parameters n D) B
       in-line n = record { scoped = known.scoped; binders = known.binders }
 
 -- ---- one procedure more
 
-getD-seam : {A : Type 0} (xs : List A) (x d : A) → get_or (xs ++ (x ∷ [])) (length xs) d ≡ x
-getD-seam [] x d = refl
-getD-seam (y ∷ xs) x d = getD-seam xs x d
+get_d-seam : {A : Type 0} (xs : List A) (x d : A) → get_or (xs ++ (x ∷ [])) (length xs) d ≡ x
+get_d-seam [] x d = refl
+get_d-seam (y ∷ xs) x d = get_d-seam xs x d
 
 module _ (D : Declared) (P : Procedure) where
   abbrev more : Declared
-  more = withProcedures (D.procedures ++ (P ∷ [])) D
+  more = with_procedures (D.procedures ++ (P ∷ [])) D
 
   -- what holds of the procedures before and of P in its line holds of all
   each_more : (C : Declared → Procedure → Type 0) →
-      ((K : ℕ) → K < length D.procedures → C (line_of D K) (procedureOf D K)) → C (withParameters P.parameters D) P →
-      (K : ℕ) → K < length more.procedures → C (line_of more K) (procedureOf more K)
+      ((K : ℕ) → K < length D.procedures → C (line_of D K) (procedure_of D K)) → C (with_parameters P.parameters D) P →
+      (K : ℕ) → K < length more.procedures → C (line_of more K) (procedure_of more K)
   each_more C old new K h = go (ltb K (length D.procedures)) refl
     where
-      go : (b : Bool) → ltb K (length D.procedures) ≡ b → C (line_of more K) (procedureOf more K)
+      go : (b : Bool) → ltb K (length D.procedures) ≡ b → C (line_of more K) (procedure_of more K)
       go true e =
           let k = ltb-true K (length D.procedures) e in
           rw (get_or-append D.procedures (P ∷ []) _ K k, take-append-le K D.procedures (P ∷ []) (omega arith)) (old K k)
       go false e =
           let z = length-append D.procedures (P ∷ []) in
           let k : K ≡ length D.procedures = omega (arith, ltb-false K (length D.procedures) e, z, h) in
-          rw (k, getD-seam D.procedures P _, take-append_seam D.procedures (P ∷ [])) new
+          rw (k, get_d-seam D.procedures P _, take-append_seam D.procedures (P ∷ [])) new
 
-  known_more : (B B' : Locals) → Known D B → Sub B B' → Ok (withParameters P.parameters D) nowhere P.formula → Bounds P.formula B' →
+  known_more : (B B' : Locals) → Known D B → Sub B B' → Ok (with_parameters P.parameters D) nowhere P.formula → Bounds P.formula B' →
       Known more B'
   known_more B B' known s ok b = record {
     scoped = each_more (λ L Q. Ok L nowhere Q.formula) known.scoped ok;
@@ -122,11 +122,11 @@ module _ (D : Declared) (P : Procedure) where
 pub record ProceduresRead (n : ℕ) (D : Declared) (Ps : List Procedure) (r : Reader) : Type 0 where
   pub few : Each (λ P. P.parameters ≤ 8) Ps
   pub count : length Ps ≤ n
-  pub known : Known (withProcedures Ps D) r.bound
+  pub known : Known (with_procedures Ps D) r.bound
 
 module _ (n : ℕ) (E : Declared) (refusing : Bool) where
   abbrev after : List Procedure → Declared
-  after Ps = withProcedures Ps E
+  after Ps = with_procedures Ps E
 
   -- those that were read before
   no_more : (Ps : List Procedure) (B : Locals) → Known (after Ps) B → Each (λ P. P.parameters ≤ 8) Ps → length Ps ≤ n →
@@ -138,8 +138,8 @@ module _ (n : ℕ) (E : Declared) (refusing : Bool) where
   }
 
   pub procedures-post : (k : ℕ) (Ps : List Procedure) (B : Locals) → Known (after Ps) B → Each (λ P. P.parameters ≤ 8) Ps →
-      length Ps + k ≤ n → (r : Reader) → Sub B r.bound → Post (ProceduresRead n E) (procedureLines refusing k (after Ps) r)
-  unfolding procedureLines Each
+      length Ps + k ≤ n → (r : Reader) → Sub B r.bound → Post (ProceduresRead n E) (procedure_lines refusing k (after Ps) r)
+  unfolding procedure_lines Each
   procedures-post zero Ps B known few h r s =
       let z : length Ps ≤ n = omega arith in holds (no_more Ps B known few z r s)
   procedures-post (suc k) Ps B known few h r s =

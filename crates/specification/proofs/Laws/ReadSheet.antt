@@ -11,12 +11,12 @@ use Rattle.specification.specs.Bytes.{Bytes, bytes, pick}
 use Rattle.specification.specs.Parser.{Reader, found}
 use Rattle.specification.specs.Formula.{Locals, has}
 use Rattle.specification.specs.Lists.{Each}
-use Rattle.specification.specs.Lines.{Declared, cells, rangeNumber, range_of, in_range}
-use Rattle.specification.specs.Sheet.{mostProcedures, Sheet, refuses, opened, readWith}
+use Rattle.specification.specs.Lines.{Declared, cells, range_number, range_of, in_range}
+use Rattle.specification.specs.Sheet.{most_procedures, Sheet, refuses, opened, read_with}
 use Rattle.specification.specs.WellFormed.{WellFormed}
 use Rattle.specification.proofs.Laws.Contradiction.{contradiction}
 use Rattle.specification.proofs.Laws.Parser.{of-found}
-use Rattle.specification.proofs.Laws.SheetLines.{firstDeclared, sheet-lines}
+use Rattle.specification.proofs.Laws.SheetLines.{first_declared, sheet-lines}
 use Rattle.specification.proofs.Laws.ReadLines.{line_post, arrays-post, ranges-line-post, limits}
 use Rattle.specification.proofs.Laws.ReadGiven.{given-post}
 use Rattle.specification.proofs.Laws.ReadTerm.{Sub}
@@ -27,7 +27,7 @@ no-locals : (B : Locals) → Sub [] B
 unfolding has
 no-locals B j e = contradiction cc
 
-few-procedures : (edition : ℕ) → mostProcedures edition ≤ 16
+few-procedures : (edition : ℕ) → most_procedures edition ≤ 16
 few-procedures edition = go (eqb edition 1)
   where
     go : (b : Bool) → pick b 0 16 ≤ 16
@@ -35,18 +35,18 @@ few-procedures edition = go (eqb edition 1)
     go false = omega arith
 
 -- no procedure yet
-none-known : (D : Declared) → Known (firstDeclared D) []
+none-known : (D : Declared) → Known (first_declared D) []
 none-known D = record { scoped = λ K h. absurd (omega arith); binders = λ K h. absurd (omega arith) }
 
-pub read-well-formed : (strict : Bool) (b : Bytes) (s : Sheet) (r : Reader) → readWith strict b ≡ found s r → WellFormed s
-unfolding readWith has Each in_range range_of rangeNumber cells
+pub read-well-formed : (strict : Bool) (b : Bytes) (s : Sheet) (r : Reader) → read_with strict b ≡ found s r → WellFormed s
+unfolding read_with has Each in_range range_of range_number cells
 read-well-formed strict b s r e =
     let l = sheet-lines e in
     let D = s.declared in
-    let given = of-found (given-post (firstDeclared D) l.ranges.after) l.given.is in
+    let given = of-found (given-post (first_declared D) l.ranges.after) l.given.is in
     let procs =
     of-found
-    (procedures-post 16 (firstDeclared D) (refuses strict D.edition) (mostProcedures D.edition) [] [] (none-known D) tt (omega (arith, few-procedures D.edition)) l.given.after
+    (procedures-post 16 (first_declared D) (refuses strict D.edition) (most_procedures D.edition) [] [] (none-known D) tt (omega (arith, few-procedures D.edition)) l.given.after
     (no-locals l.given.after.bound)) l.procedures.is in
     let known : Known D l.procedures.after.bound = record { scoped = procs.known.scoped; binders = procs.known.binders } in
     let start = of-found (exactly-keeps l.procedures.after.bound 3 (bytes "formula=") l.procedures.after (λ j h. h)) l.start.is in

@@ -8,12 +8,12 @@ use mathlib.Core.Option.{Option, some as just}
 use lib.ListN.{length}
 use lib.Dec.{ltb, eqb}
 use borrow.Author.Tests.{ltb-true}
-use Rattle.specification.specs.Bytes.{Bytes, Class, pick, space, inToken}
+use Rattle.specification.specs.Bytes.{Bytes, Class, pick, space, in_token}
 use Rattle.specification.specs.Parser.{Reader, Parser, give, ◌>>=◌, next, mark, taken}
 use Rattle.specification.specs.Lines.{Declared}
 use Rattle.specification.specs.Ast.{Term, apply}
-use Rattle.specification.specs.Words.{TermWord, constantWord, scalarWord, localWord, arrayWord, parameterWord, opWord, Word, formulaWord, termWord, numberWord, unknown, word_of}
-use Rattle.specification.specs.Formula.{Token, token, numbered, operand, Locals, has, termOf, termWith, term}
+use Rattle.specification.specs.Words.{TermWord, constant_word, scalar_word, local_word, array_word, parameter_word, op_word, Word, formula_word, term_word, number_word, unknown, word_of}
+use Rattle.specification.specs.Formula.{Token, token, numbered, operand, Locals, has, term_of, term_with, term}
 use Rattle.specification.specs.WellFormed.{Scope, enter, OkTerm}
 use Rattle.specification.proofs.Laws.Parser.{true-T, Post, refusal, holds, bind-post, require-post, present-post, pick_post}
 use Rattle.specification.proofs.Laws.ReadWords.{WordOk, word_ok}
@@ -74,7 +74,7 @@ module _ (S : Locals) where
   numbered-post : (r : Reader) → Sub S r.bound → Post (λ n r'. Sub S r'.bound) (numbered r)
   numbered-post r s = pick_post (ltb r.tokens 1024) _ _ (λ e. holds s) (λ e. refusal tt)
 
-  taken-post : (r : Reader) → Sub S r.bound → Post (λ bs r'. Sub S r'.bound) (taken inToken r)
+  taken-post : (r : Reader) → Sub S r.bound → Post (λ bs r'. Sub S r'.bound) (taken in_token r)
   unfolding taken
   taken-post r s = holds s
 
@@ -108,27 +108,27 @@ module _ (D : Declared) (S R : Locals) where
   TermIn = OkTerm D (scope S)
 
   module _ (p : Parser Term) (h : (r : Reader) → Sub R r.bound → Post (Scoped R TermIn) (p r)) where
-    term_of : (q : ℕ) (w : TermWord) (r : Reader) → WordOk (termWord w) → Sub R r.bound →
-        Post (Scoped R TermIn) (termOf D p S q w r)
+    term-of : (q : ℕ) (w : TermWord) (r : Reader) → WordOk (term_word w) → Sub R r.bound →
+        Post (Scoped R TermIn) (term_of D p S q w r)
     unfolding OkTerm
-    term_of q (constantWord z) r k s = holds (k.inBits, s)
-    term_of q (scalarWord n) r k s = require-post (ltb n D.scalars) _ _ _ _ tt λ e. holds (ltb-true n D.scalars e, s)
-    term_of q (localWord l) r k s =
+    term-of q (constant_word z) r k s = holds (k.in_bits, s)
+    term-of q (scalar_word n) r k s = require-post (ltb n D.scalars) _ _ _ _ tt λ e. holds (ltb-true n D.scalars e, s)
+    term-of q (local_word l) r k s =
         require-post (ltb l D.locals) _ _ _ _ tt λ d.
         require-post (has l S) _ _ _ _ tt λ e.
         holds (true-T (has l S) e, s)
-    term_of q (parameterWord n) r k s = require-post (ltb n D.parameters) _ _ _ _ tt λ e. holds (ltb-true n D.parameters e, s)
-    term_of q (arrayWord a) r k s =
+    term-of q (parameter_word n) r k s = require-post (ltb n D.parameters) _ _ _ _ tt λ e. holds (ltb-true n D.parameters e, s)
+    term-of q (array_word a) r k s =
         require-post (ltb a (length D.arrays)) _ _ _ _ tt λ e.
         bind-post (operand-post R p h r s) λ i r₁ h₁.
         holds ((ltb-true a (length D.arrays) e, h₁.0), h₁.1)
-    term_of q (opWord o) r k s = two_post R p h TermIn (apply o) (λ x y a b. (a, b)) r s
+    term-of q (op_word o) r k s = two_post R p h TermIn (apply o) (λ x y a b. (a, b)) r s
 
     term-with : (t : Token) (w : Word) (r : Reader) → WordOk w → Sub R r.bound →
-        Post (Scoped R TermIn) (termWith D p S t w r)
-    term-with t (termWord w) r k s = term_of t.place w r k s
-    term-with t (formulaWord w) r k s = refusal tt
-    term-with t (numberWord n) r k s = refusal tt
+        Post (Scoped R TermIn) (term_with D p S t w r)
+    term-with t (term_word w) r k s = term-of t.place w r k s
+    term-with t (formula_word w) r k s = refusal tt
+    term-with t (number_word n) r k s = refusal tt
     term-with t unknown r k s = refusal tt
 
   pub term-post : (k : ℕ) (r : Reader) → Sub R r.bound → Post (Scoped R TermIn) (term D k S r)

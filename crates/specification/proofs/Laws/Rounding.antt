@@ -1,4 +1,4 @@
--- Quotients of integers, rounded down (`floorZ`) and toward zero (`quot_z`), and what they leave. Rounding down leaves a number from 0 up to the
+-- Quotients of integers, rounded down (`floor_z`) and toward zero (`quot_z`), and what they leave. Rounding down leaves a number from 0 up to the
 -- divisor, and no other quotient does; rounding toward zero leaves one from 0 up to the dividend; the two are the same exactly where the signs agree
 -- or the divisor divides. Which operation of a sheet is which is in Division. Assumes nothing.
 use Prim.Native.Nat.{ℕ, zero, suc, ◌+◌, ◌-◌, ◌*◌, ◌/◌, ◌%◌, ◌<◌, ◌≤◌}
@@ -9,7 +9,7 @@ use mathlib.Core.Logic.{◌↔◌, ◌⊎◌, inl, inr}
 use lib.Dec.{T, leb→le, le→leb, ltb→lt, lt→ltb}
 use lib.IntN.{ℤ, pos, negsuc, neg_ℤ, nat_abs, ◌+ℤ◌, ◌-ℤ◌, ◌*ℤ◌, neg_ℤ-neg_ℤ, neg_ℤ-+ℤ, +ℤ_comm, -ℤ-+ℤ_cancel, +ℤ-neg_ℤ_cancel, *ℤ-zero, *ℤ-negsuc, +ℤ_idr}
 use lib.Signed.{lt_z, quot_z, rem_z, non_neg, ◌≤ℤ◌, ◌<ℤ◌, <ℤ-≤ℤ_trans, clash_ℤ}
-use Rattle.specification.specs.Arithmetic.{floorZ, remains}
+use Rattle.specification.specs.Arithmetic.{floor_z, remains}
 use Rattle.specification.proofs.Laws.Contradiction.{contradiction}
 use Rattle.specification.proofs.Laws.Difference.{subℕ-ge, subℕ-lt, abs_neg, abs-product}
 
@@ -125,7 +125,7 @@ round a b =
     over : (n r : ℕ) → n + r ≡ a → r < suc b → n + suc b ≡ suc a + (b - r)
     over n r e h = omega arith
 
-pub floor-within : (a b : ℤ) → (b ≡ pos zero → ⊥) → Within b (remains a b (floorZ a b))
+pub floor-within : (a b : ℤ) → (b ≡ pos zero → ⊥) → Within b (remains a b (floor_z a b))
 floor-within a (pos zero) n = absurd (n refl)
 floor-within (pos a) (pos (suc b)) n =
     rw (remainder_is (pos a) (pos (suc b))) (within-above (suc b) (a % suc b) (mod-lt a (omega arith)))
@@ -147,12 +147,12 @@ whole b n k h = mul-add-div (omega arith) n k ∙ ap (λ (m : ℕ). n + m) (div-
     plus_none : n + 0 ≡ n
     plus_none = omega arith
 
-floor-neg : (t b : ℕ) → floorZ (neg_ℤ (pos t)) (negsuc b) ≡ pos (t / suc b)
+floor-neg : (t b : ℕ) → floor_z (neg_ℤ (pos t)) (negsuc b) ≡ pos (t / suc b)
 floor-neg zero b = sym (ap pos (zero-div (suc b)))
 floor-neg (suc t) b = refl
 
 -- a dividend that is made up of q rounds and a part of one
-above : (b : ℕ) (q : ℤ) (k : ℕ) → k < b → floorZ (pos b *ℤ q +ℤ pos k) (pos b) ≡ q
+above : (b : ℕ) (q : ℤ) (k : ℕ) → k < b → floor_z (pos b *ℤ q +ℤ pos k) (pos b) ≡ q
 above b (pos n) k h = ap pos (whole b n k h)
 above b (negsuc n) k h = rw (short (b * suc n) (mul-suc b n)) (ap negsuc (whole b n (b - suc k) (omega arith)))
   where
@@ -160,7 +160,7 @@ above b (negsuc n) k h = rw (short (b * suc n) (mul-suc b n)) (ap negsuc (whole 
     short zero e = absurd (omega arith)
     short (suc p) e = subℕ-lt k (suc p) (omega arith) ∙ ap negsuc {x = suc p - suc k} {y = b * n + (b - suc k)} (omega arith)
 
-below : (b : ℕ) (q : ℤ) (k : ℕ) → k ≤ b → floorZ (negsuc b *ℤ q +ℤ neg_ℤ (pos k)) (negsuc b) ≡ q
+below : (b : ℕ) (q : ℤ) (k : ℕ) → k ≤ b → floor_z (negsuc b *ℤ q +ℤ neg_ℤ (pos k)) (negsuc b) ≡ q
 below b (pos n) k h = rw (sum-neg (suc b * n) k, floor-neg (suc b * n + k) b) (ap pos (whole (suc b) n k (omega arith)))
 below b (negsuc n) k h =
     rw (less (suc b * suc n) k (suc (suc b * n + (b - k))) (round-left (suc b * suc n) (mul-suc (suc b) n)))
@@ -169,12 +169,12 @@ below b (negsuc n) k h =
     round-left : (p : ℕ) → p ≡ suc b * n + suc b → k + suc (suc b * n + (b - k)) ≡ p
     round-left p e = omega arith
 
-pub floor-only : (a b q r : ℤ) → a ≡ b *ℤ q +ℤ r → Within b r → floorZ a b ≡ q
+pub floor-only : (a b q r : ℤ) → a ≡ b *ℤ q +ℤ r → Within b r → floor_z a b ≡ q
 floor-only a b q r e w =
-    ap (λ z. floorZ z b) e ∙ by-within (λ b r. floorZ (b *ℤ q +ℤ r) b ≡ q) (λ b k h. above b q k h) (λ b k h. below b q k h) b r w
+    ap (λ z. floor_z z b) e ∙ by-within (λ b r. floor_z (b *ℤ q +ℤ r) b ≡ q) (λ b k h. above b q k h) (λ b k h. below b q k h) b r w
 
 -- it is no larger than the dividend
-pub abs-floor : (a b : ℤ) → nat_abs (floorZ a b) ≤ nat_abs a
+pub abs-floor : (a b : ℤ) → nat_abs (floor_z a b) ≤ nat_abs a
 abs-floor (pos a) (pos b) = div-le_self a b
 abs-floor (pos zero) (negsuc b) = omega arith
 abs-floor (pos (suc a)) (negsuc b) = omega (arith, div-le_self a (suc b))
@@ -208,10 +208,10 @@ left-multiple : (a b : ℤ) → rem_z a b ≡ pos zero → Divides b a
 left-multiple a b z = (quot_z a b, makes-up a b (quot_z a b) ∙ ap (λ r. b *ℤ quot_z a b +ℤ r) (remainder_is a b ∙ z) ∙ +ℤ_idr (b *ℤ quot_z a b))
 
 module _ (a b : ℤ) (n : b ≡ pos zero → ⊥) where
-  agree-floor : SignsAgree a b ⊎ Divides b a → floorZ a b ≡ quot_z a b
+  agree-floor : SignsAgree a b ⊎ Divides b a → floor_z a b ≡ quot_z a b
   agree-floor (inl s) = same a b s
     where
-      same : (a b : ℤ) → SignsAgree a b → floorZ a b ≡ quot_z a b
+      same : (a b : ℤ) → SignsAgree a b → floor_z a b ≡ quot_z a b
       same (pos a) (pos b) s = refl
       same (pos a) (negsuc b) s = contradiction cc
       same (negsuc a) (pos b) s = contradiction cc
@@ -220,7 +220,7 @@ module _ (a b : ℤ) (n : b ≡ pos zero → ⊥) where
       floor-only a b (quot_z a b) (pos zero)
       (makes-up a b (quot_z a b) ∙ ap (λ r. b *ℤ quot_z a b +ℤ r) (remainder_is a b ∙ multiple-left a b d)) (within-zero b n)
 
-  left-agrees : remains a b (floorZ a b) ≡ rem_z a b → SignsAgree a b ⊎ Divides b a
+  left-agrees : remains a b (floor_z a b) ≡ rem_z a b → SignsAgree a b ⊎ Divides b a
   left-agrees e = by a b (left-multiple a b) (subst (Within b) e (floor-within a b n))
     where
       -- a number with the dividend's sign, from 0 up to a divisor of the other sign
@@ -240,8 +240,8 @@ module _ (a b : ℤ) (n : b ≡ pos zero → ⊥) where
           not-below b (suc m) (inr (h, l)) = absurd h.lt
       by (negsuc a) (negsuc b) d w = inl refl
 
-  pub floor-quotient : (floorZ a b ≡ quot_z a b) ↔ (SignsAgree a b ⊎ Divides b a)
+  pub floor-quotient : (floor_z a b ≡ quot_z a b) ↔ (SignsAgree a b ⊎ Divides b a)
   floor-quotient = ((λ e. left-agrees (ap (remains a b) e ∙ remainder_is a b)), agree-floor)
 
-  pub left-remainder : (remains a b (floorZ a b) ≡ remains a b (quot_z a b)) ↔ (SignsAgree a b ⊎ Divides b a)
+  pub left-remainder : (remains a b (floor_z a b) ≡ remains a b (quot_z a b)) ↔ (SignsAgree a b ⊎ Divides b a)
   left-remainder = ((λ e. left-agrees (e ∙ remainder_is a b)), (λ h. ap (remains a b) (agree-floor h)))

@@ -19,13 +19,13 @@ use Rattle.specification.specs.Sheet.{Sheet}
 use Rattle.specification.specs.Value.{Valuation}
 use Rattle.specification.specs.WellFormed.{WellFormed}
 use Rattle.specification.specs.Tree.{Tree}
-use Rattle.specification.specs.Listing.{answerHead, errorHead, Named, Block, cellNames, valued, block_of, Label, answerLabel, errorLabel, kindLabel, tokenLabel, cellLabel, Line, ◌is◌, headLines, cellLines, block_lines, labelText, linesText, blockText}
+use Rattle.specification.specs.Listing.{answer_head, error_head, Named, Block, cell_names, valued, block_of, Label, answer_label, error_label, kind_label, token_label, cell_label, Line, ◌is◌, head_lines, cell_lines, block_lines, label_text, lines_text, block_text}
 use Rattle.specification.specs.Leaves.{answer, error, fail}
-use Rattle.specification.specs.Visits.{Event, node, leaf, Visit, at, ◌then◌, each, insideThen, inside, visits}
-use Rattle.specification.specs.Run.{Conditions, conditions, addNode, addAnswer, addError, blockCount, Stop, spent, path, output, Run, going, stopped, block, arrive, visit, scan}
-use Rattle.specification.specs.Outcome.{result_of, visitsOf, run_of}
-use Rattle.specification.specs.Tidy.{tidiedProcedures, tidied}
-use Rattle.specification.specs.Moving.{fresh, kept, passed, withoutAt, RunsAlike, HadRoom}
+use Rattle.specification.specs.Visits.{Event, node, leaf, Visit, at, ◌then◌, each, inside_then, inside, visits}
+use Rattle.specification.specs.Run.{Conditions, conditions, add_node, add_answer, add_error, block_count, Stop, spent, path, output, Run, going, stopped, block, arrive, visit, scan}
+use Rattle.specification.specs.Outcome.{result_of, visits_of, run_of}
+use Rattle.specification.specs.Tidy.{tidied_procedures, tidied}
+use Rattle.specification.specs.Moving.{fresh, kept, passed, without_at, RunsAlike, HadRoom}
 use Rattle.specification.proofs.Laws.Lists.{each-++}
 use Rattle.specification.proofs.Laws.Print.{IsDigit, Lacks, printℕ-numeral, printℤ-lacks}
 use Rattle.specification.proofs.Laws.Text.{label-lacks}
@@ -34,30 +34,30 @@ use Rattle.specification.proofs.Laws.Alike.{Same, successes, failures, errors, s
 
 -- ---- bytes without their `at=` lines, a line at a time; 10 is the line feed and 61 the equals sign
 
-kept_line : (xs ys : Bytes) → Lacks 10 xs → withoutAt kept (xs ++ 10 ∷ ys) ≡ xs ++ 10 ∷ withoutAt fresh ys
-unfolding withoutAt Each
+kept_line : (xs ys : Bytes) → Lacks 10 xs → without_at kept (xs ++ 10 ∷ ys) ≡ xs ++ 10 ∷ without_at fresh ys
+unfolding without_at Each
 kept_line [] ys h = refl
 kept_line (x ∷ xs) ys h = rw h.0 (ap (x ∷◌) (kept_line xs ys h.1))
 
-passed-line : (xs ys : Bytes) → Lacks 10 xs → withoutAt passed (xs ++ 10 ∷ ys) ≡ withoutAt fresh ys
-unfolding withoutAt Each
+passed-line : (xs ys : Bytes) → Lacks 10 xs → without_at passed (xs ++ 10 ∷ ys) ≡ without_at fresh ys
+unfolding without_at Each
 passed-line [] ys h = refl
-passed-line (x ∷ xs) ys h = ap (λ c. withoutAt (pick c fresh passed) (xs ++ 10 ∷ ys)) h.0 ∙ passed-line xs ys h.1
+passed-line (x ∷ xs) ys h = ap (λ c. without_at (pick c fresh passed) (xs ++ 10 ∷ ys)) h.0 ∙ passed-line xs ys h.1
 
 fresh-line : (xs ys : Bytes) → Lacks 10 xs →
-    withoutAt fresh (xs ++ 10 ∷ ys) ≡ pick (begins (bytes "at=") (xs ++ 10 ∷ ys)) (withoutAt fresh ys) (xs ++ 10 ∷ withoutAt fresh ys)
-unfolding withoutAt Each begins
+    without_at fresh (xs ++ 10 ∷ ys) ≡ pick (begins (bytes "at=") (xs ++ 10 ∷ ys)) (without_at fresh ys) (xs ++ 10 ∷ without_at fresh ys)
+unfolding without_at Each begins
 fresh-line [] ys h = refl
 fresh-line (x ∷ xs) ys h = rw (h.0, kept_line xs ys h.1, passed-line xs ys h.1)
 
 -- ---- lines of a block
 
-abbrev isToken : Label → Bool
-isToken answerLabel = false
-isToken errorLabel = false
-isToken kindLabel = false
-isToken tokenLabel = true
-isToken (cellLabel n) = false
+abbrev is_token : Label → Bool
+is_token answer_label = false
+is_token error_label = false
+is_token kind_label = false
+is_token token_label = true
+is_token (cell_label n) = false
 
 -- the letter of an array is followed by a digit
 begins-digit : (xs ys zs : Bytes) → Each IsDigit xs → begins (bytes "t=") ((xs ++ 46 ∷ ys) ++ zs) ≡ false
@@ -65,43 +65,43 @@ unfolding Each begins
 begins-digit [] ys zs h = refl
 begins-digit (x ∷ xs) ys zs h = rw (ne_eqb 116 x (λ e. omega (arith, h.0.1)))
 
-begins-at : (l : Label) (r : Bytes) → begins (bytes "at=") (labelText l ++ 61 ∷ r) ≡ isToken l
-unfolding labelText begins
-begins-at answerLabel r = refl
-begins-at errorLabel r = refl
-begins-at kindLabel r = refl
-begins-at tokenLabel r = refl
-begins-at (cellLabel (scalar n)) r = refl
-begins-at (cellLabel (element a e)) r = begins-digit (printℕ a) (printℕ e) (61 ∷ r) (printℕ-numeral a).all_digits
+begins-at : (l : Label) (r : Bytes) → begins (bytes "at=") (label_text l ++ 61 ∷ r) ≡ is_token l
+unfolding label_text begins
+begins-at answer_label r = refl
+begins-at error_label r = refl
+begins-at kind_label r = refl
+begins-at token_label r = refl
+begins-at (cell_label (scalar n)) r = refl
+begins-at (cell_label (element a e)) r = begins-digit (printℕ a) (printℕ e) (61 ∷ r) (printℕ-numeral a).all_digits
 
 -- a line up to its feed
-abbrev upToFeed : Line → Bytes
-upToFeed l = labelText l.label ++ 61 ∷ printℤ l.value
+abbrev up_to_feed : Line → Bytes
+up_to_feed l = label_text l.label ++ 61 ∷ printℤ l.value
 
-upToFeed-lacks : (l : Line) → Lacks 10 (upToFeed l)
+up_to_feed-lacks : (l : Line) → Lacks 10 (up_to_feed l)
 unfolding Each
-upToFeed-lacks l =
-    each-++ (λ b. eqb b 10 ≡ false) (labelText l.label) (61 ∷ printℤ l.value) (label-lacks 10 tt l.label)
+up_to_feed-lacks l =
+    each-++ (λ b. eqb b 10 ≡ false) (label_text l.label) (61 ∷ printℤ l.value) (label-lacks 10 tt l.label)
     (refl, printℤ-lacks 10 (λ h. omega (arith, h.0)) refl l.value)
 
-first-line : (l : Line) (ls : List Line) (x : Bytes) → linesText (l ∷ ls) ++ x ≡ upToFeed l ++ 10 ∷ (linesText ls ++ x)
-unfolding linesText
+first-line : (l : Line) (ls : List Line) (x : Bytes) → lines_text (l ∷ ls) ++ x ≡ up_to_feed l ++ 10 ∷ (lines_text ls ++ x)
+unfolding lines_text
 first-line l ls x = simp append_assoc
 
-without-line : (l : Line) (ls : List Line) (x : Bytes) → let r = withoutAt fresh (linesText ls ++ x) in
-    withoutAt fresh (linesText (l ∷ ls) ++ x) ≡ pick (isToken l.label) r (upToFeed l ++ 10 ∷ r)
+without-line : (l : Line) (ls : List Line) (x : Bytes) → let r = without_at fresh (lines_text ls ++ x) in
+    without_at fresh (lines_text (l ∷ ls) ++ x) ≡ pick (is_token l.label) r (up_to_feed l ++ 10 ∷ r)
 without-line l ls x =
-    let r = linesText ls ++ x in
-    let whole = append_assoc (labelText l.label) (61 ∷ printℤ l.value) (10 ∷ r) in
-    ap (withoutAt fresh) (first-line l ls x) ∙ fresh-line (upToFeed l) r (upToFeed-lacks l)
-    ∙ ap (λ b. pick b (withoutAt fresh r) (upToFeed l ++ 10 ∷ withoutAt fresh r))
+    let r = lines_text ls ++ x in
+    let whole = append_assoc (label_text l.label) (61 ∷ printℤ l.value) (10 ∷ r) in
+    ap (without_at fresh) (first-line l ls x) ∙ fresh-line (up_to_feed l) r (up_to_feed-lacks l)
+    ∙ ap (λ b. pick b (without_at fresh r) (up_to_feed l ++ 10 ∷ without_at fresh r))
     (ap (begins (bytes "at=")) whole ∙ begins-at l.label (printℤ l.value ++ 10 ∷ r))
 
 -- ---- alike bytes
 
 -- the same but for `at=` lines, and so with what follows them
 record Alike (w w' : Bytes) : Type 0 where
-  alike : (x x' : Bytes) → withoutAt fresh x ≡ withoutAt fresh x' → withoutAt fresh (w ++ x) ≡ withoutAt fresh (w' ++ x')
+  alike : (x x' : Bytes) → without_at fresh x ≡ without_at fresh x' → without_at fresh (w ++ x) ≡ without_at fresh (w' ++ x')
 
 alike-none : Alike [] []
 alike-none = record { alike = λ x x' e. e }
@@ -111,39 +111,39 @@ alike-++ {w = w} {w' = w'} {b = b} {b' = b'} h k = record {
   alike = λ x x' e. rw (append_assoc w b x, append_assoc w' b' x') (h.alike (b ++ x) (b' ++ x') (k.alike x x' e));
 }
 
-alike-alone : {w w' : Bytes} → Alike w w' → withoutAt fresh w ≡ withoutAt fresh w'
+alike-alone : {w w' : Bytes} → Alike w w' → without_at fresh w ≡ without_at fresh w'
 alike-alone {w = w} {w' = w'} h = rw (append-nil w, append-nil w') at (h.alike [] [] refl)
 
-module _ (ls ls' : List Line) (h : Alike (linesText ls) (linesText ls')) where
-  line-alike : (l : Line) → Alike (linesText (l ∷ ls)) (linesText (l ∷ ls'))
+module _ (ls ls' : List Line) (h : Alike (lines_text ls) (lines_text ls')) where
+  line-alike : (l : Line) → Alike (lines_text (l ∷ ls)) (lines_text (l ∷ ls'))
   line-alike l = record {
     alike = λ x x' e.
-        without-line l ls x ∙ ap (λ r. pick (isToken l.label) r (upToFeed l ++ 10 ∷ r)) (h.alike x x' e) ∙ sym (without-line l ls' x');
+        without-line l ls x ∙ ap (λ r. pick (is_token l.label) r (up_to_feed l ++ 10 ∷ r)) (h.alike x x' e) ∙ sym (without-line l ls' x');
   }
 
-  token-alike : (y y' : ℤ) → Alike (linesText (tokenLabel is y ∷ ls)) (linesText (tokenLabel is y' ∷ ls'))
+  token-alike : (y y' : ℤ) → Alike (lines_text (token_label is y ∷ ls)) (lines_text (token_label is y' ∷ ls'))
   token-alike y y' = record {
-    alike = λ x x' e. without-line (tokenLabel is y) ls x ∙ h.alike x x' e ∙ sym (without-line (tokenLabel is y') ls' x');
+    alike = λ x x' e. without-line (token_label is y) ls x ∙ h.alike x x' e ∙ sym (without-line (token_label is y') ls' x');
   }
 
-lines-alike : (ls : List Line) → Alike (linesText ls) (linesText ls)
-unfolding linesText
+lines-alike : (ls : List Line) → Alike (lines_text ls) (lines_text ls)
+unfolding lines_text
 lines-alike [] = alike-none
 lines-alike (l ∷ ls) = line-alike ls ls (lines-alike ls) l
 
-block-alike : (b : Block) → Alike (blockText b) (blockText b)
-unfolding blockText
+block-alike : (b : Block) → Alike (block_text b) (block_text b)
+unfolding block_text
 block-alike b = lines-alike (block_lines b)
 
 -- the blocks of an error with one token and with another
 error-alike : (n kind token token' : ℕ) (cs : List Named) →
-    Alike (blockText (record { head = errorHead n kind token; cells = cs })) (blockText (record { head = errorHead n kind token'; cells = cs }))
-unfolding blockText block_lines headLines
+    Alike (block_text (record { head = error_head n kind token; cells = cs })) (block_text (record { head = error_head n kind token'; cells = cs }))
+unfolding block_text block_lines head_lines
 error-alike n kind token token' cs =
-    let ls = cellLines cs in
+    let ls = cell_lines cs in
     let at = token-alike ls ls (lines-alike ls) (pos token) (pos token') in
-    let two = line-alike _ _ at (kindLabel is pos kind) in
-    line-alike _ _ two (errorLabel is pos n)
+    let two = line-alike _ _ at (kind_label is pos kind) in
+    line-alike _ _ two (error_label is pos n)
 
 -- ---- visits
 
@@ -173,7 +173,7 @@ told-each (suc n) i f f' h = told-then (h i) (told-each n (suc i) f f' h)
 told-inside : {xs ys : List Visit} → Told xs ys → inside xs ≡ inside ys
 unfolding inside
 told-inside no_more = refl
-told-inside (same v h) = ap (insideThen v.depth v.event) (told-inside h)
+told-inside (same v h) = ap (inside_then v.depth v.event) (told-inside h)
 told-inside (renumbered d kind token token' β h) = ap (at d node ∷◌) (told-inside h)
 
 told-visits : {T T' : Tree} → Same T T' → (d : ℕ) → Told (visits d T) (visits d T')
@@ -207,7 +207,7 @@ module _ (C : Conditions) where
   block-both : (t t' : Tallies) (w w' b b' : Bytes) → Alike w w' → Alike b b' → Both (block C t t' w b) (block C t t' w' b')
   unfolding block
   block-both t t' w w' b b' h k =
-      go (ltb (blockCount t) C.setting.skip) (leb (length w + length b) C.size) (leb (length w' + length b') C.size)
+      go (ltb (block_count t) C.setting.skip) (leb (length w + length b) C.size) (leb (length w' + length b') C.size)
     where
       go : (skip room room' : Bool) → Both (pick skip (going t' w) (pick room (going t' (w ++ b)) (stopped output t w)))
           (pick skip (going t' w') (pick room' (going t' (w' ++ b')) (stopped output t w')))
@@ -221,25 +221,25 @@ module _ (C : Conditions) where
   arrive-both node t w w' h = on h
   arrive-both (leaf fail) t w w' h = on h
   arrive-both (leaf (answer β)) t w w' h =
-      let b = block_of C.declared (answerHead (suc t.answers)) β in
-      block-both t (addAnswer t) w w' (blockText b) (blockText b) h (block-alike b)
+      let b = block_of C.declared (answer_head (suc t.answers)) β in
+      block-both t (add_answer t) w w' (block_text b) (block_text b) h (block-alike b)
   arrive-both (leaf (error kind token β)) t w w' h =
-      let b = block_of C.declared (errorHead (suc t.errors) kind token) β in
-      block-both t (addError t) w w' (blockText b) (blockText b) h (block-alike b)
+      let b = block_of C.declared (error_head (suc t.errors) kind token) β in
+      block-both t (add_error t) w w' (block_text b) (block_text b) h (block-alike b)
 
   error-both : (kind token token' : ℕ) (β : Valuation) (t : Tallies) (w w' : Bytes) → Alike w w' →
       Both (arrive C (leaf (error kind token β)) t w) (arrive C (leaf (error kind token' β)) t w')
   unfolding arrive block_of
   error-both kind token token' β t w w' h =
-      block-both t (addError t) w w' _ _ h (error-alike (suc t.errors) kind token token' (valued C.declared β (cellNames C.declared)))
+      block-both t (add_error t) w w' _ _ h (error-alike (suc t.errors) kind token token' (valued C.declared β (cell_names C.declared)))
 
-  visit-both : (d : ℕ) (e e' : Event) (t : Tallies) (w w' : Bytes) → Alike w w' → Both (arrive C e (addNode t) w) (arrive C e' (addNode t) w') →
+  visit-both : (d : ℕ) (e e' : Event) (t : Tallies) (w w' : Bytes) → Alike w w' → Both (arrive C e (add_node t) w) (arrive C e' (add_node t) w') →
       Both (visit C (at d e) t w) (visit C (at d e') t w')
   unfolding visit
   visit-both d e e' t w w' h k = go (eqb t.nodes C.setting.budget) (ltb C.setting.path d)
     where
-      go : (b c : Bool) → Both (pick b (stopped spent t w) (pick c (stopped path t w) (arrive C e (addNode t) w)))
-          (pick b (stopped spent t w') (pick c (stopped path t w') (arrive C e' (addNode t) w')))
+      go : (b c : Bool) → Both (pick b (stopped spent t w) (pick c (stopped path t w) (arrive C e (add_node t) w)))
+          (pick b (stopped spent t w') (pick c (stopped path t w') (arrive C e' (add_node t) w')))
       go true c = off h
       go false true = off h
       go false false = k
@@ -248,9 +248,9 @@ module _ (C : Conditions) where
   unfolding scan
   scan-both no_more b = b
   scan-both (same v h) (on {t = t} {w = w} {w' = w'} a) =
-      scan-both h (visit-both v.depth v.event v.event t w w' a (arrive-both v.event (addNode t) w w' a))
+      scan-both h (visit-both v.depth v.event v.event t w w' a (arrive-both v.event (add_node t) w w' a))
   scan-both (renumbered d kind token token' β h) (on {t = t} {w = w} {w' = w'} a) =
-      scan-both h (visit-both d (leaf (error kind token β)) (leaf (error kind token' β)) t w w' a (error-both kind token token' β (addNode t) w w' a))
+      scan-both h (visit-both d (leaf (error kind token β)) (leaf (error kind token' β)) t w w' a (error-both kind token token' β (add_node t) w w' a))
   scan-both (same v h) (off a) = off a
   scan-both (renumbered d kind token token' β h) (off a) = off a
   scan-both (same v h) one-full = one-full
@@ -262,10 +262,10 @@ module _ (C : Conditions) where
 
 module _ (s : Sheet) (well : WellFormed s) (S : Setting) (size : ℕ) where
   both_run : Both (run_of s S size) (run_of (reformed s) S size)
-  unfolding run_of visitsOf
+  unfolding run_of visits_of
   both_run = scan-both (conditions s.declared S size) (told-visits (same-root s well) 1) (on alike-none)
 
   pub tidied-runs : HadRoom (result_of (run_of s S size)) → HadRoom (result_of (run_of (tidied s) S size)) →
       RunsAlike (result_of (run_of s S size)) (result_of (run_of (tidied s) S size))
   unfolding tidied
-  tidied-runs = rw (procedures-alike (tidiedProcedures [] s.declared.procedures) (reformed s) S size) (both-results both_run)
+  tidied-runs = rw (procedures-alike (tidied_procedures [] s.declared.procedures) (reformed s) S size) (both-results both_run)

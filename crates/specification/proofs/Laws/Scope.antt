@@ -9,7 +9,7 @@ use lib.IntN.{ℤ}
 use Rattle.specification.specs.Lines.{Declared, cells, in_range}
 use Rattle.specification.specs.Place.{Place, cell, local}
 use Rattle.specification.specs.Value.{full, Valuation}
-use Rattle.specification.specs.Tree.{Tree, successLeaf, failureLeaf, errorLeaf, step, fork, fan, ask}
+use Rattle.specification.specs.Tree.{Tree, success_leaf, failure_leaf, error_leaf, step, fork, fan, ask}
 use Rattle.specification.specs.WellFormed.{Scope}
 use Rattle.specification.specs.Plain.{Env}
 
@@ -17,9 +17,9 @@ use Rattle.specification.specs.Plain.{Env}
 
 -- each success leaf
 unfoldable pub Every : (Valuation → Type 0) → Tree → Type 0
-Every P (successLeaf β) = P β
-Every P failureLeaf = Unit {0}
-Every P (errorLeaf κ t β) = Unit {0}
+Every P (success_leaf β) = P β
+Every P failure_leaf = Unit {0}
+Every P (error_leaf κ t β) = Unit {0}
 Every P (step T) = Every P T
 Every P (fork T U) = Every P T × Every P U
 Every P (fan x n f) = (i : ℕ) → i < n → Every P (f i)
@@ -27,9 +27,9 @@ Every P (ask I T) = Every P T
 
 -- some success or error leaf
 unfoldable pub Any : (Valuation → Type 0) → Tree → Type 0
-Any P (successLeaf β) = P β
-Any P failureLeaf = ⊥
-Any P (errorLeaf κ t β) = P β
+Any P (success_leaf β) = P β
+Any P failure_leaf = ⊥
+Any P (error_leaf κ t β) = P β
 Any P (step T) = Any P T
 Any P (fork T U) = Any P T ⊎ Any P U
 Any P (fan x n f) = (i : ℕ) × (i < n) × Any P (f i)

@@ -8,10 +8,10 @@ use mathlib.Core.List.{List, []}
 use lib.ListN.{length}
 use Rattle.specification.specs.Bytes.{bytes, feed}
 use Rattle.specification.specs.Parser.{Reader, Read, refused, found, Parser, give, and_then, ◌>>=◌, ◌>>◌, mark, key, finish}
-use Rattle.specification.specs.Lines.{line, Declared, arraysLine, rangesLine}
-use Rattle.specification.specs.Given.{Item, givenLine}
+use Rattle.specification.specs.Lines.{line, Declared, arrays_line, ranges_line}
+use Rattle.specification.specs.Given.{Item, given_line}
 use Rattle.specification.specs.Formula.{formula}
-use Rattle.specification.specs.Sheet.{withParameters, withProcedures, procedureLines, mostProcedures, Sheet, beginning, refuses, sheet}
+use Rattle.specification.specs.Sheet.{with_parameters, with_procedures, procedure_lines, most_procedures, Sheet, beginning, refuses, sheet}
 use Rattle.specification.proofs.Laws.Parser.{Post, refusal, holds, of-found}
 use Rattle.specification.proofs.Laws.LineReaders.{Composed, line-by, arrays-by, ranges-by, given_by}
 
@@ -23,19 +23,19 @@ pub record Gives {A : Type 0} (m : Parser A) (r : Reader) (a : A) : Type 0 where
   pub is : m r ≡ found a after
 
 -- what is declared before the procedures
-abbrev pub firstDeclared : Declared → Declared
-firstDeclared D = beginning D.edition D.scalars D.locals D.arrays D.ranges
+abbrev pub first_declared : Declared → Declared
+first_declared D = beginning D.edition D.scalars D.locals D.arrays D.ranges
 
 -- each line gives its part of the sheet, from where the line before it ended
 pub record Lines (strict : Bool) (r : Reader) (s : Sheet) : Type 0 where
   pub edition : Gives (line (bytes "edition=") 1 3) r s.declared.edition
   pub scalars : Gives (line (bytes "scalars=") 0 64) edition.after s.declared.scalars
   pub locals : Gives (line (bytes "locals=") 0 32) scalars.after s.declared.locals
-  pub arrays : Gives (arraysLine s.declared.scalars) locals.after s.declared.arrays
-  pub ranges : Gives (rangesLine s.declared.edition (s.declared.scalars + length s.declared.arrays)) arrays.after s.declared.ranges
-  pub given : Gives (givenLine (firstDeclared s.declared)) ranges.after s.given
+  pub arrays : Gives (arrays_line s.declared.scalars) locals.after s.declared.arrays
+  pub ranges : Gives (ranges_line s.declared.edition (s.declared.scalars + length s.declared.arrays)) arrays.after s.declared.ranges
+  pub given : Gives (given_line (first_declared s.declared)) ranges.after s.given
   pub procedures :
-      Gives (procedureLines (refuses strict s.declared.edition) (mostProcedures s.declared.edition) (firstDeclared s.declared))
+      Gives (procedure_lines (refuses strict s.declared.edition) (most_procedures s.declared.edition) (first_declared s.declared))
       given.after s.declared.procedures
   pub parameters : s.declared.parameters ≡ 0
   pub start : Gives (key (bytes "formula=")) procedures.after tt
@@ -54,12 +54,12 @@ sheet-known strict r =
     known (line (bytes "edition=") 1 3 r) λ edition r₁ e.
     known (line (bytes "scalars=") 0 64 r₁) λ scalars r₂ v.
     known (line (bytes "locals=") 0 32 r₂) λ locals r₃ l.
-    known (arraysLine scalars r₃) λ arrays r₄ a.
-    known (rangesLine edition (scalars + length arrays) r₄) λ ranges r₅ x.
+    known (arrays_line scalars r₃) λ arrays r₄ a.
+    known (ranges_line edition (scalars + length arrays) r₄) λ ranges r₅ x.
     let E : Declared = beginning edition scalars locals arrays ranges in
-    known (givenLine E r₅) λ is r₆ g.
-    known (procedureLines (refuses strict edition) (mostProcedures edition) E r₆) λ Ps r₇ p.
-    let D : Declared = withProcedures Ps E in
+    known (given_line E r₅) λ is r₆ g.
+    known (procedure_lines (refuses strict edition) (most_procedures edition) E r₆) λ Ps r₇ p.
+    let D : Declared = with_procedures Ps E in
     known (key (bytes "formula=") r₇) λ u r₈ k.
     known (formula (refuses strict edition) D 64 [] r₈) λ F r₉ f.
     known (mark feed r₉) λ u r₁₀ m.
@@ -87,8 +87,8 @@ pub lines-sheet : {strict : Bool} {r : Reader} {s : Sheet} (l : Lines strict r s
 unfolding sheet
 lines-sheet {strict} {r} {s} l =
     let D = s.declared in
-    let whole : Declared = withProcedures D.procedures (firstDeclared D) in
-    let is : D ≡ whole = ap (λ (n : ℕ). withParameters n D) l.parameters in
+    let whole : Declared = with_procedures D.procedures (first_declared D) in
+    let is : D ≡ whole = ap (λ (n : ℕ). with_parameters n D) l.parameters in
     let formula : formula (refuses strict D.edition) whole 64 [] l.start.after ≡ found s.formula l.formula.after =
     subst (λ C. formula (refuses strict D.edition) C 64 [] l.start.after ≡ found s.formula l.formula.after) is l.formula.is in
     rw (
@@ -108,20 +108,20 @@ lines-sheet {strict} {r} {s} l =
 -- ---- what every line has
 
 -- from the formula's first token on
-abbrev pub fromFormula : Bool → Declared → List Item → Parser Sheet
-fromFormula strict D is =
+abbrev pub from_formula : Bool → Declared → List Item → Parser Sheet
+from_formula strict D is =
     formula (refuses strict D.edition) D 64 [] >>= λ F. mark feed >> (finish >> give (record { declared = D; given = is; formula = F }))
 
 -- from the procedures on, where E is declared before them
-abbrev pub fromProcedures : Bool → Declared → List Item → Parser Sheet
-fromProcedures strict E is =
-    procedureLines (refuses strict E.edition) (mostProcedures E.edition) E >>= λ Ps.
-    key (bytes "formula=") >> fromFormula strict (withProcedures Ps E) is
+abbrev pub from_procedures : Bool → Declared → List Item → Parser Sheet
+from_procedures strict E is =
+    procedure_lines (refuses strict E.edition) (most_procedures E.edition) E >>= λ Ps.
+    key (bytes "formula=") >> from_formula strict (with_procedures Ps E) is
 
 -- W of the whole sheet: it goes back over each line that has Q, and holds from the procedures on
 module _ {P : ℕ → Type 0} {Q : (A : Type 0) → Parser A → Type 0} (c : Composed P Q) (W : Parser Sheet → Type 0)
     (back : (A : Type 0) (m : Parser A) (f : A → Parser Sheet) → Q A m → ((a : A) → W (f a)) → W (m >>= f)) where
-  pub sheet-by : (strict : Bool) → ((E : Declared) (is : List Item) → W (fromProcedures strict E is)) → W (sheet strict)
+  pub sheet-by : (strict : Bool) → ((E : Declared) (is : List Item) → W (from_procedures strict E is)) → W (sheet strict)
   unfolding sheet
   sheet-by strict rest =
       back _ _ _ (line-by c (bytes "edition=") 1 3) λ edition.

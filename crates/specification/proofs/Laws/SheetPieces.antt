@@ -9,40 +9,40 @@ use lib.ListN.{length}
 use Rattle.specification.specs.Lists.{Each}
 use Rattle.specification.specs.Bytes.{Bytes, bytes, feed}
 use Rattle.specification.specs.Parser.{Reader, found, Parser, mark, key, ended, finish}
-use Rattle.specification.specs.Lines.{line, Declared, arraysLine, rangesLine}
-use Rattle.specification.specs.Given.{givenLine}
+use Rattle.specification.specs.Lines.{line, Declared, arrays_line, ranges_line}
+use Rattle.specification.specs.Given.{given_line}
 use Rattle.specification.specs.Ast.{Procedure}
-use Rattle.specification.specs.Sheet.{mostProcedures, Sheet, refuses, opened, readWith}
-use Rattle.specification.specs.Listing.{cellNames}
-use Rattle.specification.specs.Text.{formulaWords, spelt, numberLine, arraysText, itemText, proceduresText, headText, rangesText, givenText, textIn, text_of}
-use Rattle.specification.specs.Tidy.{anyEmpty, hasEmptyRange, tokenCount, numbered, tokensBefore}
+use Rattle.specification.specs.Sheet.{most_procedures, Sheet, refuses, opened, read_with}
+use Rattle.specification.specs.Listing.{cell_names}
+use Rattle.specification.specs.Text.{formula_words, spelt, number_line, arrays_text, item_text, procedures_text, head_text, ranges_text, given_text, text_in, text_of}
+use Rattle.specification.specs.Tidy.{any_empty, has_empty_range, token_count, numbered, tokens_before}
 use Rattle.specification.proofs.Laws.Contradiction.{contradiction}
 use Rattle.specification.proofs.Laws.Parser.{Post, refusal, holds, of-found, pick_post}
 use Rattle.specification.proofs.Laws.LineReaders.{line-by, arrays-by, ranges-by, given_by}
-use Rattle.specification.proofs.Laws.SheetLines.{Gives, Lines, firstDeclared, sheet-lines}
+use Rattle.specification.proofs.Laws.SheetLines.{Gives, Lines, first_declared, sheet-lines}
 use Rattle.specification.proofs.Laws.Pieces.{at, Anything, Reads, Piece, feed-piece, exactly-piece}
 use Rattle.specification.proofs.Laws.LinePieces.{line-piece, arrays-piece, ranges-piece, Still, Stays, stays}
 use Rattle.specification.proofs.Laws.GivenPieces.{given-piece}
 use Rattle.specification.proofs.Laws.Legible.{shape_of, Legible, binders, added, Fresh, fresh-++}
-use Rattle.specification.proofs.Laws.Taken.{mostTokens, Taken}
+use Rattle.specification.proofs.Laws.Taken.{most_tokens, Taken}
 use Rattle.specification.proofs.Laws.WordPieces.{Fits, Spelt}
 use Rattle.specification.proofs.Laws.FormulaPieces.{AsRead, formula-spelt}
 use Rattle.specification.proofs.Laws.TidiedSheet.{NumberedLines, NumberedSheet}
-use Rattle.specification.proofs.Laws.ProcedurePieces.{ProcedureFits, deepest, LegibleLines, bindersOf, LinesPiece, lines-piece}
+use Rattle.specification.proofs.Laws.ProcedurePieces.{ProcedureFits, deepest, LegibleLines, binders_of, LinesPiece, lines-piece}
 
 -- ---- the text
 
 -- the lines before that of ranges, one by one
 pub head-parts : (D : Declared) (w : Bytes) →
-    headText D ++ w ≡
-    numberLine (bytes "edition=") D.edition ++ (numberLine (bytes "scalars=") D.scalars
-    ++ (numberLine (bytes "locals=") D.locals ++ (arraysText D.arrays ++ w)))
-unfolding headText
+    head_text D ++ w ≡
+    number_line (bytes "edition=") D.edition ++ (number_line (bytes "scalars=") D.scalars
+    ++ (number_line (bytes "locals=") D.locals ++ (arrays_text D.arrays ++ w)))
+unfolding head_text
 head-parts D w =
-    let e = numberLine (bytes "edition=") D.edition in
-    let v = numberLine (bytes "scalars=") D.scalars in
-    let l = numberLine (bytes "locals=") D.locals in
-    let a = arraysText D.arrays in
+    let e = number_line (bytes "edition=") D.edition in
+    let v = number_line (bytes "scalars=") D.scalars in
+    let l = number_line (bytes "locals=") D.locals in
+    let a = arrays_text D.arrays in
     append_assoc e (v ++ (l ++ a)) w ∙ ap (λ (x : Bytes). e ++ x) (append_assoc v (l ++ a) w ∙ ap (λ (x : Bytes). v ++ x) (append_assoc l a w))
 
 -- a piece, and what stands after it
@@ -73,14 +73,14 @@ finish-post r = pick_post (ended r.rest) _ _ (λ e. holds {r = r} (empty r.rest 
 pub record ReadAs (strict : Bool) (b : Bytes) (s : Sheet) : Type 0 where
   pub text : b ≡ text_of s
   pub lines_fit : Each (ProcedureFits s.declared.edition) s.declared.procedures
-  pub formula-fits : Each (Fits s.declared.edition) (formulaWords s.formula)
-  pub few : length s.declared.procedures ≤ mostProcedures s.declared.edition
-  pub lines : LegibleLines (shape_of (firstDeclared s.declared)) s.declared.procedures
+  pub formula_fits : Each (Fits s.declared.edition) (formula_words s.formula)
+  pub few : length s.declared.procedures ≤ most_procedures s.declared.edition
+  pub lines : LegibleLines (shape_of (first_declared s.declared)) s.declared.procedures
   pub formula : Legible (shape_of s.declared) deepest [] s.formula
   pub numbers : NumberedSheet s
-  pub room : tokensBefore s.declared.procedures + tokenCount s.formula ≤ mostTokens
-  pub fresh : Fresh [] (bindersOf s.declared.procedures ++ binders s.formula)
-  pub orderly : refuses strict s.declared.edition ≡ true → hasEmptyRange s ≡ false
+  pub room : tokens_before s.declared.procedures + token_count s.formula ≤ most_tokens
+  pub fresh : Fresh [] (binders_of s.declared.procedures ++ binders s.formula)
+  pub orderly : refuses strict s.declared.edition ≡ true → has_empty_range s ≡ false
 
 module _ (strict : Bool) (b : Bytes) (s : Sheet) (l : Lines strict (opened b) s) where
   abbrev D : Declared
@@ -93,13 +93,13 @@ module _ (strict : Bool) (b : Bytes) (s : Sheet) (l : Lines strict (opened b) s)
   refusing = refuses strict D.edition
 
   -- how many scalars and arrays
-  abbrev pub howMany : ℕ
-  howMany = D.scalars + length D.arrays
+  abbrev pub how_many : ℕ
+  how_many = D.scalars + length D.arrays
 
   -- ---- the lines before the procedures: their texts, and that none has a token
 
   abbrev LineHere : Bytes → ℕ → ℕ → ℕ → Reader → Reader → Type 0
-  LineHere k lo hi n r r' = Piece Anything (line k lo hi) (numberLine k n) n r r'
+  LineHere k lo hi n r r' = Piece Anything (line k lo hi) (number_line k n) n r r'
 
   edition-here : LineHere (bytes "edition=") 1 3 D.edition (opened b) l.edition.after
   edition-here = of-found (line-piece (bytes "edition=") 1 3 (opened b)) l.edition.is
@@ -110,16 +110,16 @@ module _ (strict : Bool) (b : Bytes) (s : Sheet) (l : Lines strict (opened b) s)
   pub locals-here : LineHere (bytes "locals=") 0 32 D.locals l.scalars.after l.locals.after
   locals-here = of-found (line-piece (bytes "locals=") 0 32 l.scalars.after) l.locals.is
 
-  pub arrays-here : Piece Anything (arraysLine D.scalars) (arraysText D.arrays) D.arrays l.locals.after l.arrays.after
+  pub arrays-here : Piece Anything (arrays_line D.scalars) (arrays_text D.arrays) D.arrays l.locals.after l.arrays.after
   arrays-here = of-found (arrays-piece D.scalars l.locals.after) l.arrays.is
 
-  ranges-here : Piece Anything (rangesLine D.edition howMany) (rangesText D.edition D.ranges) D.ranges
+  ranges-here : Piece Anything (ranges_line D.edition how_many) (ranges_text D.edition D.ranges) D.ranges
       l.arrays.after l.ranges.after
-  ranges-here = of-found (ranges-piece D.edition howMany l.arrays.after) l.ranges.is
+  ranges-here = of-found (ranges-piece D.edition how_many l.arrays.after) l.ranges.is
 
-  given-here : Piece Anything (givenLine (firstDeclared D)) (givenText D s.given) s.given l.ranges.after l.given.after
-  unfolding itemText cellNames
-  given-here = of-found (given-piece (firstDeclared D) D.edition D.ranges (λ c z h. h) l.ranges.after) l.given.is
+  given-here : Piece Anything (given_line (first_declared D)) (given_text D s.given) s.given l.ranges.after l.given.after
+  unfolding item_text cell_names
+  given-here = of-found (given-piece (first_declared D) D.edition D.ranges (λ c z h. h) l.ranges.after) l.given.is
 
   -- no token was read, and there is no binder
   abbrev Still₀ : Reader → Type 0
@@ -141,25 +141,25 @@ module _ (strict : Bool) (b : Bytes) (s : Sheet) (l : Lines strict (opened b) s)
   arrays-still = further (arrays-by stays D.scalars) locals-still l.arrays
 
   pub ranges-still : Still₀ l.ranges.after
-  ranges-still = further (ranges-by stays D.edition howMany) arrays-still l.ranges
+  ranges-still = further (ranges-by stays D.edition how_many) arrays-still l.ranges
 
   pub given-still : Still₀ l.given.after
-  given-still = further (given_by stays (firstDeclared D)) ranges-still l.given
+  given-still = further (given_by stays (first_declared D)) ranges-still l.given
 
   -- ---- the procedures and the formula
 
-  procedures-here : LinesPiece refusing (firstDeclared D) (mostProcedures D.edition) l.given.after Ps l.procedures.after
-  unfolding tokensBefore
+  procedures-here : LinesPiece refusing (first_declared D) (most_procedures D.edition) l.given.after Ps l.procedures.after
+  unfolding tokens_before
   procedures-here =
-      of-found (lines-piece refusing (mostProcedures D.edition) (firstDeclared D) l.given.after (sym given-still.0)) l.procedures.is
+      of-found (lines-piece refusing (most_procedures D.edition) (first_declared D) l.given.after (sym given-still.0)) l.procedures.is
 
   -- what holds of the new procedures holds of all
   of-all : (P : List Procedure → Type 0) → P procedures-here.new → P Ps
   of-all P h = subst P (sym procedures-here.all) h
 
-  procedures-taken : Taken (proceduresText D.edition Ps) (tokensBefore Ps) (bindersOf Ps) l.given.after l.procedures.after
+  procedures-taken : Taken (procedures_text D.edition Ps) (tokens_before Ps) (binders_of Ps) l.given.after l.procedures.after
   procedures-taken =
-      of-all (λ Qs. Taken (proceduresText D.edition Qs) (tokensBefore Qs) (bindersOf Qs) l.given.after l.procedures.after)
+      of-all (λ Qs. Taken (procedures_text D.edition Qs) (tokens_before Qs) (binders_of Qs) l.given.after l.procedures.after)
       procedures-here.taken
 
   start-here : Piece Anything (key (bytes "formula=")) (bytes "formula=") tt l.procedures.after l.start.after
@@ -168,7 +168,7 @@ module _ (strict : Bool) (b : Bytes) (s : Sheet) (l : Lines strict (opened b) s)
   start-still : Still l.procedures.after l.start.after
   start-still = of-found (stays.exactly 3 (bytes "formula=") refl l.procedures.after) l.start.is
 
-  formula-here : Spelt D (formulaWords s.formula) (binders s.formula) l.start.after l.formula.after
+  formula-here : Spelt D (formula_words s.formula) (binders s.formula) l.start.after l.formula.after
       × AsRead refusing D deepest [] l.start.after.tokens s.formula
   formula-here = of-found (formula-spelt refusing D deepest [] l.start.after) l.formula.is
 
@@ -178,7 +178,7 @@ module _ (strict : Bool) (b : Bytes) (s : Sheet) (l : Lines strict (opened b) s)
   -- ---- the whole
 
   stands : b ≡ text_of s
-  unfolding textIn
+  unfolding text_in
   stands =
       then-stands edition-here (then-stands scalars-here (then-stands locals-here (then-stands arrays-here (then-stands ranges-here
       (then-stands given-here (then-taken procedures-taken (then-stands start-here (then-taken formula-here.0.taken
@@ -186,22 +186,22 @@ module _ (strict : Bool) (b : Bytes) (s : Sheet) (l : Lines strict (opened b) s)
       ∙ sym (head-parts D _)
 
   -- the tokens before the formula
-  tokens-here : l.start.after.tokens ≡ tokensBefore Ps
+  tokens-here : l.start.after.tokens ≡ tokens_before Ps
   tokens-here = omega (arith, given-still.0, procedures-taken.tokens, start-still.0)
 
-  bound-here : l.start.after.bound ≡ added (bindersOf Ps) []
-  bound-here = sym start-still.1 ∙ procedures-taken.bound ∙ ap (added (bindersOf Ps)) (sym given-still.1)
+  bound-here : l.start.after.bound ≡ added (binders_of Ps) []
+  bound-here = sym start-still.1 ∙ procedures-taken.bound ∙ ap (added (binders_of Ps)) (sym given-still.1)
 
   pub lines-read : ReadAs strict b s
-  unfolding hasEmptyRange
+  unfolding has_empty_range
   lines-read =
       let (spelt, good) = formula-here in
       record {
         text = stands;
         lines_fit = of-all (λ Qs. Each (ProcedureFits D.edition) Qs) procedures-here.fits;
-        formula-fits = spelt.fits;
-        few = of-all (λ Qs. length Qs ≤ mostProcedures D.edition) procedures-here.few;
-        lines = of-all (λ Qs. LegibleLines (shape_of (firstDeclared D)) Qs) procedures-here.legible;
+        formula_fits = spelt.fits;
+        few = of-all (λ Qs. length Qs ≤ most_procedures D.edition) procedures-here.few;
+        lines = of-all (λ Qs. LegibleLines (shape_of (first_declared D)) Qs) procedures-here.legible;
         formula = good.legible;
         numbers = record {
           lines = of-all (λ Qs. NumberedLines [] Qs) procedures-here.numbers;
@@ -211,11 +211,11 @@ module _ (strict : Bool) (b : Bytes) (s : Sheet) (l : Lines strict (opened b) s)
             let few = spelt.taken.few (omega (arith, start-still.0, procedures-taken.few (omega (arith, given-still.0)))) in
             omega (arith, few, spelt.taken.tokens, tokens-here);
         fresh =
-            fresh-++ (bindersOf Ps) (binders s.formula) [] (subst (λ B. Fresh B (bindersOf Ps)) (sym given-still.1) procedures-taken.fresh)
+            fresh-++ (binders_of Ps) (binders s.formula) [] (subst (λ B. Fresh B (binders_of Ps)) (sym given-still.1) procedures-taken.fresh)
             (subst (λ B. Fresh B (binders s.formula)) bound-here spelt.taken.fresh);
-        orderly = λ h. rw (of-all (λ Qs. anyEmpty Qs ≡ false) (procedures-here.orderly h)) (good.orderly h);
+        orderly = λ h. rw (of-all (λ Qs. any_empty Qs ≡ false) (procedures-here.orderly h)) (good.orderly h);
       }
 
-pub read_as : (strict : Bool) (b : Bytes) {s : Sheet} {r : Reader} → readWith strict b ≡ found s r → ReadAs strict b s
-unfolding readWith
+pub read_as : (strict : Bool) (b : Bytes) {s : Sheet} {r : Reader} → read_with strict b ≡ found s r → ReadAs strict b s
+unfolding read_with
 read_as strict b {s} e = lines-read strict b s (sheet-lines e)

@@ -16,37 +16,37 @@ use Rattle.specification.specs.Lists.{Each}
 use Rattle.specification.specs.Bytes.{Bytes, bytes, pick, between, begins}
 use Rattle.specification.specs.Number.{within, in32}
 use Rattle.specification.specs.Parser.{Reader, found}
-use Rattle.specification.specs.Lines.{line, Range, Declared, firstRanged, contains, rangeNumber, range_of, in_range, arraysLine}
-use Rattle.specification.specs.Given.{givenLine}
+use Rattle.specification.specs.Lines.{line, Range, Declared, first_ranged, contains, range_number, range_of, in_range, arrays_line}
+use Rattle.specification.specs.Given.{given_line}
 use Rattle.specification.specs.Ast.{Procedure}
 use Rattle.specification.specs.Formula.{formula}
-use Rattle.specification.specs.Sheet.{withParameters, withProcedures, mostProcedures, Sheet, firstStrict, refuses, sheet, opened, readWith}
-use Rattle.specification.specs.Listing.{cellNames}
-use Rattle.specification.specs.Text.{formulaWords, spelt, numberLine, arraysText, itemText, proceduresText, formulaText, rangesText, givenText, textIn, text_of}
-use Rattle.specification.specs.Tidy.{hasEmptyRange, tokensBefore, tidiedFormula, tidied}
-use Rattle.specification.specs.Moves.{declaredIn, inEdition}
+use Rattle.specification.specs.Sheet.{with_parameters, with_procedures, most_procedures, Sheet, first_strict, refuses, sheet, opened, read_with}
+use Rattle.specification.specs.Listing.{cell_names}
+use Rattle.specification.specs.Text.{formula_words, spelt, number_line, arrays_text, item_text, procedures_text, formula_text, ranges_text, given_text, text_in, text_of}
+use Rattle.specification.specs.Tidy.{has_empty_range, tokens_before, tidied_formula, tidied}
+use Rattle.specification.specs.Moves.{declared_in, in_edition}
 use Rattle.specification.specs.WellFormed.{Ordered}
 use Rattle.specification.proofs.Laws.Lists.{each_map}
 use Rattle.specification.proofs.Laws.Parser.{T_true, of-found}
-use Rattle.specification.proofs.Laws.SheetLines.{Lines, firstDeclared, sheet-lines}
+use Rattle.specification.proofs.Laws.SheetLines.{Lines, first_declared, sheet-lines}
 use Rattle.specification.proofs.Laws.ReadSheet.{read-well-formed}
 use Rattle.specification.proofs.Laws.Pieces.{at, Anything, Reads, bind-reads, then-reads, feed-reads, exactly_reads}
 use Rattle.specification.proofs.Laws.LinePieces.{line_reads, Sound, ranges-reads, still-reads}
 use Rattle.specification.proofs.Laws.GivenPieces.{given-piece}
 use Rattle.specification.proofs.Laws.Legible.{Shape, counts, shape_of, Legible, binders, added, Fresh, fresh-parts, part_same, fresh-part}
 use Rattle.specification.proofs.Laws.WordPieces.{NoToken, Fits}
-use Rattle.specification.proofs.Laws.TidiedSheet.{tidiedAfter, tidied-after, tidied-numbered, counts-tidied}
-use Rattle.specification.proofs.Laws.ProcedurePieces.{ProcedureFits, deepest, bindersOf, feed-token}
+use Rattle.specification.proofs.Laws.TidiedSheet.{tidied_after, tidied-after, tidied-numbered, counts-tidied}
+use Rattle.specification.proofs.Laws.ProcedurePieces.{ProcedureFits, deepest, binders_of, feed-token}
 use Rattle.specification.proofs.Laws.ProcedureReads.{past, tidied-reads, LinesRead, lines-reads}
 use Rattle.specification.proofs.Laws.SheetPieces.{head-parts, Nothing, finish-reads, ReadAs, scalars-here, locals-here, arrays-here, edition-still, scalars-still, locals-still, arrays-still, ranges-still, given-still, lines-read, read_as}
 
 -- ---- the text of the tidied sheet, in an edition with these ranges
 
 module _ (strict : Bool) (b : Bytes) (s : Sheet) (l : Lines strict (opened b) s) (edition : ℕ) (ranges : List Range)
-    (known : between 1 3 edition ≡ true) (same : mostProcedures s.declared.edition ≡ mostProcedures edition)
-    (many : length ranges ≡ pick (ltb edition firstRanged) 0 (s.declared.scalars + length s.declared.arrays)) (sound : Each Sound ranges)
-    (keeps : (c : ℕ) (z : ℤ) → in_range s.declared c z ≡ true → in_range (declaredIn edition ranges s.declared) c z ≡ true)
-    (lines_fit : Each (ProcedureFits edition) s.declared.procedures) (formula-fits : Each (Fits edition) (formulaWords s.formula))
+    (known : between 1 3 edition ≡ true) (same : most_procedures s.declared.edition ≡ most_procedures edition)
+    (many : length ranges ≡ pick (ltb edition first_ranged) 0 (s.declared.scalars + length s.declared.arrays)) (sound : Each Sound ranges)
+    (keeps : (c : ℕ) (z : ℤ) → in_range s.declared c z ≡ true → in_range (declared_in edition ranges s.declared) c z ≡ true)
+    (lines_fit : Each (ProcedureFits edition) s.declared.procedures) (formula_fits : Each (Fits edition) (formula_words s.formula))
     (strict' : Bool) where
   abbrev D : Declared
   D = s.declared
@@ -63,36 +63,36 @@ module _ (strict : Bool) (b : Bytes) (s : Sheet) (l : Lines strict (opened b) s)
 
   -- what is declared for the lines of procedures, and for the formula
   abbrev first' : Declared
-  first' = declaredIn edition ranges (firstDeclared D)
+  first' = declared_in edition ranges (first_declared D)
 
   abbrev whole' : Declared
-  whole' = withProcedures (tidiedAfter [] Ps) first'
+  whole' = with_procedures (tidied_after [] Ps) first'
 
   abbrev refusing : Bool
   refusing = refuses strict' edition
 
-  scalars-read : Reads Anything (line (bytes "scalars=") 0 64) (numberLine (bytes "scalars=") D.scalars) D.scalars first first
+  scalars-read : Reads Anything (line (bytes "scalars=") 0 64) (number_line (bytes "scalars=") D.scalars) D.scalars first first
   scalars-read = still-reads first first (edition-still strict b s l) (scalars-still strict b s l) (scalars-here strict b s l).again
 
-  locals-read : Reads Anything (line (bytes "locals=") 0 32) (numberLine (bytes "locals=") D.locals) D.locals first first
+  locals-read : Reads Anything (line (bytes "locals=") 0 32) (number_line (bytes "locals=") D.locals) D.locals first first
   locals-read = still-reads first first (scalars-still strict b s l) (locals-still strict b s l) (locals-here strict b s l).again
 
-  arrays-read : Reads Anything (arraysLine D.scalars) (arraysText D.arrays) D.arrays first first
+  arrays-read : Reads Anything (arrays_line D.scalars) (arrays_text D.arrays) D.arrays first first
   arrays-read = still-reads first first (locals-still strict b s l) (arrays-still strict b s l) (arrays-here strict b s l).again
 
-  given-read : Reads Anything (givenLine first') (givenText D s.given) s.given first first
-  unfolding in_range range_of rangeNumber itemText cellNames
+  given-read : Reads Anything (given_line first') (given_text D s.given) s.given first first
+  unfolding in_range range_of range_number item_text cell_names
   given-read =
       still-reads first first (ranges-still strict b s l) (given-still strict b s l)
-      (of-found (given-piece (firstDeclared D) edition ranges keeps l.ranges.after) l.given.is).again
+      (of-found (given-piece (first_declared D) edition ranges keeps l.ranges.after) l.given.is).again
 
-  parts : Fresh [] (bindersOf Ps) × Fresh (added (bindersOf Ps) []) (binders s.formula)
-  parts = fresh-parts (bindersOf Ps) (binders s.formula) [] h.fresh
+  parts : Fresh [] (binders_of Ps) × Fresh (added (binders_of Ps) []) (binders s.formula)
+  parts = fresh-parts (binders_of Ps) (binders s.formula) [] h.fresh
 
-  procedures-read : LinesRead refusing first' (mostProcedures edition) Ps first
-  unfolding tokensBefore
+  procedures-read : LinesRead refusing first' (most_procedures edition) Ps first
+  unfolding tokens_before
   procedures-read =
-      lines-reads refusing (mostProcedures edition) first' Ps first (subst (λ (n : ℕ). length Ps ≤ n) same h.few) h.lines lines_fit refl
+      lines-reads refusing (most_procedures edition) first' Ps first (subst (λ (n : ℕ). length Ps ≤ n) same h.few) h.lines lines_fit refl
       (omega (arith, h.room)) parts.0
 
   -- both formulas stand behind the same
@@ -102,26 +102,26 @@ module _ (strict : Bool) (b : Bytes) (s : Sheet) (l : Lines strict (opened b) s)
       λ n ns. record { scalars = D.scalars; locals = D.locals; arrays = length D.arrays; parameters = n; called = ns } in
       ap (λ (n : ℕ). shape n (counts Ps)) l.parameters ∙ ap (shape 0) (sym (counts-tidied [] Ps))
 
-  formula-read : Reads NoToken (formula refusing whole' deepest []) (spelt edition (formulaWords (tidiedFormula (tidiedAfter [] Ps) s.formula)))
-      (tidiedFormula (tidiedAfter [] Ps) s.formula) procedures-read.after (past refusing s.formula procedures-read.after)
+  formula-read : Reads NoToken (formula refusing whole' deepest []) (spelt edition (formula_words (tidied_formula (tidied_after [] Ps) s.formula)))
+      (tidied_formula (tidied_after [] Ps) s.formula) procedures-read.after (past refusing s.formula procedures-read.after)
   formula-read =
       let r = procedures-read.after in
-      tidied-reads refusing whole' s.formula r (subst (λ H. Legible H deepest [] s.formula) same_shape h.formula) formula-fits
+      tidied-reads refusing whole' s.formula r (subst (λ H. Legible H deepest [] s.formula) same_shape h.formula) formula_fits
       procedures-read.tokens (omega (arith, h.room, procedures-read.fewer))
-      (fresh-part (part_same (binders s.formula)) r.bound (added (bindersOf Ps) []) procedures-read.bound parts.1)
+      (fresh-part (part_same (binders s.formula)) r.bound (added (binders_of Ps) []) procedures-read.bound parts.1)
 
   -- at its end
   abbrev after : Reader
   after = past refusing s.formula procedures-read.after
 
   abbrev s' : Sheet
-  s' = record { declared = whole'; given = s.given; formula = tidiedFormula (tidiedAfter [] Ps) s.formula }
+  s' = record { declared = whole'; given = s.given; formula = tidied_formula (tidied_after [] Ps) s.formula }
 
   lines-reads' : Reads Nothing (sheet strict')
-      (numberLine (bytes "edition=") edition ++ (numberLine (bytes "scalars=") D.scalars
-      ++ (numberLine (bytes "locals=") D.locals ++ (arraysText D.arrays ++ (rangesText edition ranges ++ (givenText D s.given
-      ++ (proceduresText edition (tidiedAfter [] Ps) ++ (bytes "formula="
-      ++ (spelt edition (formulaWords (tidiedFormula (tidiedAfter [] Ps) s.formula)) ++ bytes "\n")))))))))
+      (number_line (bytes "edition=") edition ++ (number_line (bytes "scalars=") D.scalars
+      ++ (number_line (bytes "locals=") D.locals ++ (arrays_text D.arrays ++ (ranges_text edition ranges ++ (given_text D s.given
+      ++ (procedures_text edition (tidied_after [] Ps) ++ (bytes "formula="
+      ++ (spelt edition (formula_words (tidied_formula (tidied_after [] Ps) s.formula)) ++ bytes "\n")))))))))
       s' first after
   unfolding sheet begins
   lines-reads' =
@@ -136,22 +136,22 @@ module _ (strict : Bool) (b : Bytes) (s : Sheet) (l : Lines strict (opened b) s)
       (bind-reads _ (λ w n. feed-token w) formula-read
       (bind-reads _ (λ w n. tt) (feed-reads after) (then-reads _ (finish-reads after) (λ p w. refl)))))))))))
 
-  rewritten : readWith strict' (text_of s') ≡ found s' (at (0 + length (text_of s')) [] after)
-  unfolding readWith textIn itemText cellNames
+  rewritten : read_with strict' (text_of s') ≡ found s' (at (0 + length (text_of s')) [] after)
+  unfolding read_with text_in item_text cell_names
   rewritten =
       let X =
-      rangesText edition ranges ++ (givenText D s.given
-      ++ (proceduresText edition (tidiedAfter [] Ps) ++ formulaText edition s'.formula)) in
+      ranges_text edition ranges ++ (given_text D s.given
+      ++ (procedures_text edition (tidied_after [] Ps) ++ formula_text edition s'.formula)) in
       let t : text_of s' ≡ _ = head-parts whole' X in
       rw t (ap (λ (w : Bytes). sheet strict' (opened w)) (sym (append-nil _)) ∙ lines-reads'.is 0 [] refl)
 
   -- the tidied sheet
-  tidied-is : inEdition edition ranges (tidied s) ≡ s'
+  tidied-is : in_edition edition ranges (tidied s) ≡ s'
   unfolding tidied
   tidied-is =
-      ap (λ Qs. inEdition edition ranges (record { declared = withProcedures Qs D; given = s.given; formula = tidiedFormula Qs s.formula }))
+      ap (λ Qs. in_edition edition ranges (record { declared = with_procedures Qs D; given = s.given; formula = tidied_formula Qs s.formula }))
       (tidied-after [] Ps)
-      ∙ ap (λ (n : ℕ). record { declared = withParameters n whole'; given = s.given; formula = s'.formula }) l.parameters
+      ∙ ap (λ (n : ℕ). record { declared = with_parameters n whole'; given = s.given; formula = s'.formula }) l.parameters
 
 -- ---- the laws
 
@@ -163,48 +163,48 @@ ordered-sound x (low, high) =
     let (e, f) = and_yes (le_z x.low x.low) (le_z x.low x.high) c in
     record { low = T_true (in32 x.low) a; high = T_true (in32 x.high) b; ordered = T_true (le_z x.low x.high) f }
 
-module _ {s : Sheet} {r : Reader} (strict : Bool) (b : Bytes) (e : readWith strict b ≡ found s r) where
+module _ {s : Sheet} {r : Reader} (strict : Bool) (b : Bytes) (e : read_with strict b ≡ found s r) where
   abbrev is : ReadAs strict b s
   is = read_as strict b e
 
   -- its edition has its words
   pub words-fit : Each (ProcedureFits s.declared.edition) s.declared.procedures
-      × Each (Fits s.declared.edition) (formulaWords s.formula)
-  words-fit = (is.lines_fit, is.formula-fits)
+      × Each (Fits s.declared.edition) (formula_words s.formula)
+  words-fit = (is.lines_fit, is.formula_fits)
 
   -- an accepted sheet's bytes are what is written for it
   pub read-text : b ≡ text_of s
   read-text = is.text
 
   -- without empty ranges it is tidy
-  pub tidied-same : hasEmptyRange s ≡ false → tidied s ≡ s
+  pub tidied-same : has_empty_range s ≡ false → tidied s ≡ s
   tidied-same o = tidied-numbered s is.numbers o
 
   -- an edition that has its words, with ranges that allow its given values, reads the text of the tidied sheet
-  pub text_in : (edition : ℕ) (ranges : List Range) →
-      between 1 3 edition ≡ true → mostProcedures s.declared.edition ≡ mostProcedures edition →
-      length ranges ≡ pick (ltb edition firstRanged) 0 (s.declared.scalars + length s.declared.arrays) → Each Sound ranges →
-      ((c : ℕ) (z : ℤ) → in_range s.declared c z ≡ true → in_range (declaredIn edition ranges s.declared) c z ≡ true) →
-      Each (ProcedureFits edition) s.declared.procedures → Each (Fits edition) (formulaWords s.formula) → (strict' : Bool) →
-      (r' : Reader) × (readWith strict' (text_of (inEdition edition ranges (tidied s))) ≡ found (inEdition edition ranges (tidied s)) r')
-  unfolding readWith
-  text_in edition ranges known same many sound keeps i k strict' =
+  pub text-in : (edition : ℕ) (ranges : List Range) →
+      between 1 3 edition ≡ true → most_procedures s.declared.edition ≡ most_procedures edition →
+      length ranges ≡ pick (ltb edition first_ranged) 0 (s.declared.scalars + length s.declared.arrays) → Each Sound ranges →
+      ((c : ℕ) (z : ℤ) → in_range s.declared c z ≡ true → in_range (declared_in edition ranges s.declared) c z ≡ true) →
+      Each (ProcedureFits edition) s.declared.procedures → Each (Fits edition) (formula_words s.formula) → (strict' : Bool) →
+      (r' : Reader) × (read_with strict' (text_of (in_edition edition ranges (tidied s))) ≡ found (in_edition edition ranges (tidied s)) r')
+  unfolding read_with
+  text-in edition ranges known same many sound keeps i k strict' =
       let l = sheet-lines e in
       let w = tidied-is strict b s l edition ranges known same many sound keeps i k strict' in
       let read = rewritten strict b s l edition ranges known same many sound keeps i k strict' in
       let end : Reader = _ in
-      (end, ap (λ (x : Sheet). readWith strict' (text_of x)) w ∙ read ∙ ap (λ (x : Sheet). found x end) (sym w))
+      (end, ap (λ (x : Sheet). read_with strict' (text_of x)) w ∙ read ∙ ap (λ (x : Sheet). found x end) (sym w))
 
   -- its own does
-  pub text-tidied : (strict' : Bool) → (r' : Reader) × (readWith strict' (text_of (tidied s)) ≡ found (tidied s) r')
+  pub text-tidied : (strict' : Bool) → (r' : Reader) × (read_with strict' (text_of (tidied s)) ≡ found (tidied s) r')
   unfolding tidied
   text-tidied strict' =
       let D = s.declared in
       let well = (read-well-formed strict b s r e).limits in
       let known : between 1 3 D.edition ≡ true = rw (le-leb 1 D.edition well.edition.0, le-leb D.edition 3 well.edition.1) in
-      text_in D.edition D.ranges known refl well.ranges (each_map ordered-sound D.ranges well.ordered) (λ c z h. h) is.lines_fit
-      is.formula-fits strict'
+      text-in D.edition D.ranges known refl well.ranges (each_map ordered-sound D.ranges well.ordered) (λ c z h. h) is.lines_fit
+      is.formula_fits strict'
 
 -- a strict reader of the edition that refuses empty ranges lets none through
-pub strict-orderly : (b : Bytes) {s : Sheet} {r : Reader} → readWith true b ≡ found s r → s.declared.edition ≡ firstStrict → hasEmptyRange s ≡ false
+pub strict-orderly : (b : Bytes) {s : Sheet} {r : Reader} → read_with true b ≡ found s r → s.declared.edition ≡ first_strict → has_empty_range s ≡ false
 strict-orderly b e d = (read_as true b e).orderly (rw d)

@@ -50,8 +50,8 @@ module _ (q : Bytes) where
 -- ---- steady
 
 -- the reader, with these bytes left
-abbrev pub withRest : Bytes → Reader → Reader
-withRest bs r = record { place = r.place; rest = bs; tokens = r.tokens; bound = r.bound }
+abbrev pub with_rest : Bytes → Reader → Reader
+with_rest bs r = record { place = r.place; rest = bs; tokens = r.tokens; bound = r.bound }
 
 -- the place of the sheet's end
 abbrev pub end : Reader → ℕ
@@ -59,7 +59,7 @@ end r = r.place + length r.rest
 
 -- the reader, in the sheet that has the bytes q more
 abbrev pub extended : Bytes → Reader → Reader
-extended q r = withRest (r.rest ++ q) r
+extended q r = with_rest (r.rest ++ q) r
 
 -- a is read from r, where a byte was left, and then comes r', in the same sheet; y, the reading from r extended, is the same
 pub record Same (q : Bytes) {A : Type 0} (r : Reader) (y : Read A) (a : A) (r' : Reader) : Type 0 where
@@ -145,7 +145,7 @@ module _ {q : Bytes} where
   bind-local-steady p l r = pick-steady (has l r.bound) (refusal tt) (holds unread)
 
   mark-more : (c : Class) (r : Reader) (bs : Bytes) → next c bs ≡ true →
-      Same q (withRest bs r) (mark c (withRest (bs ++ q) r)) tt (past 1 (withRest bs r))
+      Same q (with_rest bs r) (mark c (with_rest (bs ++ q) r)) tt (past 1 (with_rest bs r))
   unfolding mark
   mark-more c r [] e = contradiction cc
   mark-more c r (b ∷ bs) e = record { left = omega arith; sheet = omega arith; same = rw e }
@@ -164,7 +164,7 @@ module _ {q : Bytes} where
     alike = λ h. record {
       left = omega (arith, length-drop n r.rest);
       sheet = omega (arith, length-drop n r.rest);
-      same = ap (λ bs. found a (withRest bs (past n r))) (drop_more q n r.rest h);
+      same = ap (λ bs. found a (with_rest bs (past n r))) (drop_more q n r.rest h);
     };
   }
 

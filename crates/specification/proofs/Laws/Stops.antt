@@ -10,10 +10,10 @@ use borrow.Author.Tests.{ltb-true, ltb-false, leb-true, leb-false, eqb-true, eqb
 use Rattle.specification.specs.declared.Tallies.{Tallies}
 use Rattle.specification.specs.Bytes.{Bytes, pick}
 use Rattle.specification.specs.Lines.{Declared}
-use Rattle.specification.specs.Listing.{answerHead, errorHead, Block, block_of, blockText}
+use Rattle.specification.specs.Listing.{answer_head, error_head, Block, block_of, block_text}
 use Rattle.specification.specs.Leaves.{answer, error, fail}
 use Rattle.specification.specs.Visits.{Event, node, leaf, Visit}
-use Rattle.specification.specs.Run.{blockCount, Conditions, addNode, addAnswer, addError, addFail, Stop, spent, path, output, Run, going, stopped, block, arrive, visit}
+use Rattle.specification.specs.Run.{block_count, Conditions, add_node, add_answer, add_error, add_fail, Stop, spent, path, output, Run, going, stopped, block, arrive, visit}
 use Rattle.specification.proofs.Laws.Contradiction.{contradiction}
 
 -- ---- the block of an event, and the tallies after it
@@ -27,30 +27,30 @@ unless false b = some b
 abbrev pub due : Declared → ℕ → Tallies → Event → Option Block
 due D skip t node = none
 due D skip t (leaf fail) = none
-due D skip t (leaf (answer β)) = unless (ltb (blockCount t) skip) (block_of D (answerHead (suc t.answers)) β)
-due D skip t (leaf (error κ k β)) = unless (ltb (blockCount t) skip) (block_of D (errorHead (suc t.errors) κ k) β)
+due D skip t (leaf (answer β)) = unless (ltb (block_count t) skip) (block_of D (answer_head (suc t.answers)) β)
+due D skip t (leaf (error κ k β)) = unless (ltb (block_count t) skip) (block_of D (error_head (suc t.errors) κ k) β)
 
-abbrev pub dueText : Option Block → Bytes
-dueText none = []
-dueText (some b) = blockText b
+abbrev pub due_text : Option Block → Bytes
+due_text none = []
+due_text (some b) = block_text b
 
 -- the bytes that a visit adds where it is passed
 abbrev pub added : Declared → ℕ → Tallies → Event → Bytes
-added D skip t ev = dueText (due D skip t ev)
+added D skip t ev = due_text (due D skip t ev)
 
 -- the same of a run's conditions
-abbrev pub dueUnder : Conditions → Tallies → Event → Option Block
-dueUnder C t ev = due C.declared C.setting.skip t ev
+abbrev pub due_under : Conditions → Tallies → Event → Option Block
+due_under C t ev = due C.declared C.setting.skip t ev
 
-abbrev pub addedUnder : Conditions → Tallies → Event → Bytes
-addedUnder C t ev = added C.declared C.setting.skip t ev
+abbrev pub added_under : Conditions → Tallies → Event → Bytes
+added_under C t ev = added C.declared C.setting.skip t ev
 
 -- the tallies after a visit that is passed
 abbrev pub counted : Event → Tallies → Tallies
-counted node t = addNode t
-counted (leaf fail) t = addFail (addNode t)
-counted (leaf (answer β)) t = addAnswer (addNode t)
-counted (leaf (error κ k β)) t = addError (addNode t)
+counted node t = add_node t
+counted (leaf fail) t = add_fail (add_node t)
+counted (leaf (answer β)) t = add_answer (add_node t)
+counted (leaf (error κ k β)) t = add_error (add_node t)
 
 pub counted-nodes : (ev : Event) (t : Tallies) → (counted ev t).nodes ≡ suc t.nodes
 counted-nodes node t = refl
@@ -59,10 +59,10 @@ counted-nodes (leaf (answer β)) t = refl
 counted-nodes (leaf (error κ k β)) t = refl
 
 -- the tallies of a run that is stopped, by those before the visit: a leaf whose block finds no room is in the nodes only
-abbrev pub atStop : Stop → Tallies → Tallies
-atStop spent t = t
-atStop path t = t
-atStop output t = addNode t
+abbrev pub at_stop : Stop → Tallies → Tallies
+at_stop spent t = t
+at_stop path t = t
+at_stop output t = add_node t
 
 -- ---- what comes of a visit
 
@@ -73,60 +73,60 @@ module _ (C : Conditions) where
   Meets path v t w = (¬ (t.nodes ≡ C.setting.budget)) × (C.setting.path < v.depth)
   Meets output v t w =
       (¬ (t.nodes ≡ C.setting.budget)) × (v.depth ≤ C.setting.path) ×
-      ((b : Block) × (dueUnder C t v.event ≡ some b) × (C.size < length w + length (blockText b)))
+      ((b : Block) × (due_under C t v.event ≡ some b) × (C.size < length w + length (block_text b)))
 
   -- none of them
   abbrev pub Passes : Visit → Tallies → Bytes → Type 0
   Passes v t w =
       (¬ (t.nodes ≡ C.setting.budget)) × (v.depth ≤ C.setting.path) ×
-      ((b : Block) → dueUnder C t v.event ≡ some b → length w + length (blockText b) ≤ C.size)
+      ((b : Block) → due_under C t v.event ≡ some b → length w + length (block_text b) ≤ C.size)
 
   -- after a visit within budget and path limit: a block that is due is written, or finds no room
   abbrev settled : Tallies → Tallies → Bytes → Option Block → Run
   settled t t' w none = going t' w
-  settled t t' w (some b) = pick (leb (length w + length (blockText b)) C.size) (going t' (w ++ blockText b)) (stopped output t w)
+  settled t t' w (some b) = pick (leb (length w + length (block_text b)) C.size) (going t' (w ++ block_text b)) (stopped output t w)
 
   settles : (c : Bool) (t t' : Tallies) (w : Bytes) (b : Block) →
-      pick c (going t' w) (pick (leb (length w + length (blockText b)) C.size) (going t' (w ++ blockText b)) (stopped output t w)) ≡
+      pick c (going t' w) (pick (leb (length w + length (block_text b)) C.size) (going t' (w ++ block_text b)) (stopped output t w)) ≡
       settled t t' w (unless c b)
   settles true t t' w b = refl
   settles false t t' w b = refl
 
   arrive-is : (ev : Event) (t : Tallies) (w : Bytes) →
-      arrive C ev (addNode t) w ≡ settled (addNode t) (counted ev t) w (dueUnder C t ev)
+      arrive C ev (add_node t) w ≡ settled (add_node t) (counted ev t) w (due_under C t ev)
   unfolding arrive block
   arrive-is node t w = refl
   arrive-is (leaf fail) t w = refl
   arrive-is (leaf (answer β)) t w =
-      settles (ltb (blockCount t) C.setting.skip) (addNode t) (addAnswer (addNode t)) w (block_of C.declared (answerHead (suc t.answers)) β)
+      settles (ltb (block_count t) C.setting.skip) (add_node t) (add_answer (add_node t)) w (block_of C.declared (answer_head (suc t.answers)) β)
   arrive-is (leaf (error κ k β)) t w =
-      settles (ltb (blockCount t) C.setting.skip) (addNode t) (addError (addNode t)) w (block_of C.declared (errorHead (suc t.errors) κ k) β)
+      settles (ltb (block_count t) C.setting.skip) (add_node t) (add_error (add_node t)) w (block_of C.declared (error_head (suc t.errors) κ k) β)
 
   visit-is : (v : Visit) (t : Tallies) (w : Bytes) →
       visit C v t w ≡
       pick (eqb t.nodes C.setting.budget) (stopped spent t w)
-      (pick (ltb C.setting.path v.depth) (stopped path t w) (settled (addNode t) (counted v.event t) w (dueUnder C t v.event)))
+      (pick (ltb C.setting.path v.depth) (stopped path t w) (settled (add_node t) (counted v.event t) w (due_under C t v.event)))
   unfolding visit
   visit-is v t w = rw arrive-is
 
   -- where the condition of a stop is met, the run is stopped with it
-  pub visit-stops : (e : Stop) (v : Visit) (t : Tallies) (w : Bytes) → Meets e v t w → visit C v t w ≡ stopped e (atStop e t) w
+  pub visit-stops : (e : Stop) (v : Visit) (t : Tallies) (w : Bytes) → Meets e v t w → visit C v t w ≡ stopped e (at_stop e t) w
   visit-stops spent v t w m = rw (visit-is v t w, eq-eqb t.nodes C.setting.budget m)
   visit-stops path v t w m = rw (visit-is v t w, ne_eqb t.nodes C.setting.budget m.0, lt-ltb C.setting.path v.depth m.1)
   visit-stops output v t w m =
-      let full = lt-leb (length w + length (blockText m.2.0)) C.size m.2.2 in
+      let full = lt-leb (length w + length (block_text m.2.0)) C.size m.2.2 in
       rw (visit-is v t w, ne_eqb t.nodes C.setting.budget m.0, le-ltb C.setting.path v.depth m.1, m.2.1, full)
 
   -- where none is, the run goes on
   pub visit-passes : (v : Visit) (t : Tallies) (w : Bytes) → Passes v t w →
-      visit C v t w ≡ going (counted v.event t) (w ++ addedUnder C t v.event)
+      visit C v t w ≡ going (counted v.event t) (w ++ added_under C t v.event)
   visit-passes v t w m =
-      rw (visit-is v t w, ne_eqb t.nodes C.setting.budget m.0, le-ltb C.setting.path v.depth m.1) (fits (dueUnder C t v.event) m.2)
+      rw (visit-is v t w, ne_eqb t.nodes C.setting.budget m.0, le-ltb C.setting.path v.depth m.1) (fits (due_under C t v.event) m.2)
     where
-      fits : (o : Option Block) → ((b : Block) → o ≡ some b → length w + length (blockText b) ≤ C.size) →
-          settled (addNode t) (counted v.event t) w o ≡ going (counted v.event t) (w ++ dueText o)
+      fits : (o : Option Block) → ((b : Block) → o ≡ some b → length w + length (block_text b) ≤ C.size) →
+          settled (add_node t) (counted v.event t) w o ≡ going (counted v.event t) (w ++ due_text o)
       fits none f = rw append-nil
-      fits (some b) f = rw (le-leb (length w + length (blockText b)) C.size (f b refl))
+      fits (some b) f = rw (le-leb (length w + length (block_text b)) C.size (f b refl))
 
   -- a visit meets the condition of a stop, or passes
   pub data Comes (v : Visit) (t : Tallies) (w : Bytes) : Type 0 where
@@ -134,21 +134,21 @@ module _ (C : Conditions) where
     passes : Passes v t w → Comes v t w
 
   pub comes : (v : Visit) (t : Tallies) (w : Bytes) → Comes v t w
-  comes v t w = byBudget (eqb t.nodes C.setting.budget) refl
+  comes v t w = by_budget (eqb t.nodes C.setting.budget) refl
     where
-      byRoom : (¬ (t.nodes ≡ C.setting.budget)) → v.depth ≤ C.setting.path → (b : Block) → dueUnder C t v.event ≡ some b →
-          (c : Bool) → leb (length w + length (blockText b)) C.size ≡ c → Comes v t w
-      byRoom n l b e true q = passes (n, l, λ b' e'. let same : b' ≡ b = cc in rw same (leb-true (length w + length (blockText b)) C.size q))
-      byRoom n l b e false q = stops output (n, l, (b, e, leb-false (length w + length (blockText b)) C.size q))
+      by_room : (¬ (t.nodes ≡ C.setting.budget)) → v.depth ≤ C.setting.path → (b : Block) → due_under C t v.event ≡ some b →
+          (c : Bool) → leb (length w + length (block_text b)) C.size ≡ c → Comes v t w
+      by_room n l b e true q = passes (n, l, λ b' e'. let same : b' ≡ b = cc in rw same (leb-true (length w + length (block_text b)) C.size q))
+      by_room n l b e false q = stops output (n, l, (b, e, leb-false (length w + length (block_text b)) C.size q))
 
-      byDue : (¬ (t.nodes ≡ C.setting.budget)) → v.depth ≤ C.setting.path → (o : Option Block) → dueUnder C t v.event ≡ o → Comes v t w
-      byDue n l none e = passes (n, l, λ b e'. contradiction cc)
-      byDue n l (some b) e = byRoom n l b e (leb (length w + length (blockText b)) C.size) refl
+      by_due : (¬ (t.nodes ≡ C.setting.budget)) → v.depth ≤ C.setting.path → (o : Option Block) → due_under C t v.event ≡ o → Comes v t w
+      by_due n l none e = passes (n, l, λ b e'. contradiction cc)
+      by_due n l (some b) e = by_room n l b e (leb (length w + length (block_text b)) C.size) refl
 
-      byPath : (¬ (t.nodes ≡ C.setting.budget)) → (c : Bool) → ltb C.setting.path v.depth ≡ c → Comes v t w
-      byPath n true q = stops path (n, ltb-true C.setting.path v.depth q)
-      byPath n false q = byDue n (ltb-false C.setting.path v.depth q) (dueUnder C t v.event) refl
+      by_path : (¬ (t.nodes ≡ C.setting.budget)) → (c : Bool) → ltb C.setting.path v.depth ≡ c → Comes v t w
+      by_path n true q = stops path (n, ltb-true C.setting.path v.depth q)
+      by_path n false q = by_due n (ltb-false C.setting.path v.depth q) (due_under C t v.event) refl
 
-      byBudget : (c : Bool) → eqb t.nodes C.setting.budget ≡ c → Comes v t w
-      byBudget true q = stops spent (eqb-true t.nodes C.setting.budget q)
-      byBudget false q = byPath (eqb-false t.nodes C.setting.budget q) (ltb C.setting.path v.depth) refl
+      by_budget : (c : Bool) → eqb t.nodes C.setting.budget ≡ c → Comes v t w
+      by_budget true q = stops spent (eqb-true t.nodes C.setting.budget q)
+      by_budget false q = by_path (eqb-false t.nodes C.setting.budget q) (ltb C.setting.path v.depth) refl

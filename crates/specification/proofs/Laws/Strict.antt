@@ -10,12 +10,12 @@ use lib.Dec.{ltb}
 use borrow.Author.Tests.{ltb-true, lt-leb}
 use Rattle.specification.specs.Bytes.{Bytes, bytes, pick, space, feed, colon, begins}
 use Rattle.specification.specs.Parser.{Reader, Read, refused, found, Parser, give, require, and_then, ◌>>=◌, ◌>>◌, mark, key, finish}
-use Rattle.specification.specs.Lines.{count, line, Declared, arraysLine, rangesLine}
-use Rattle.specification.specs.Given.{givenLine}
+use Rattle.specification.specs.Lines.{count, line, Declared, arrays_line, ranges_line}
+use Rattle.specification.specs.Given.{given_line}
 use Rattle.specification.specs.Ast.{Procedure, Term, Formula, and, or, imp, ex, some, all, neg}
-use Rattle.specification.specs.Words.{FormulaWord, trueWord, andWord, orWord, impWord, notWord, eqWord, exWord, someWord, allWord, call_word, relWord, Word, formulaWord, termWord, numberWord, unknown, word_of}
-use Rattle.specification.specs.Formula.{Token, token, operand, Locals, binder, procedure, term, emptyRange, nonEmpty, formulaOf, formulaWith, formula}
-use Rattle.specification.specs.Sheet.{withParameters, withProcedures, procedureLine, procedureLines, mostProcedures, Sheet, beginning, firstStrict, refuses, sheet, opened, readWith}
+use Rattle.specification.specs.Words.{FormulaWord, true_word, and_word, or_word, imp_word, not_word, eq_word, ex_word, some_word, all_word, call_word, rel_word, Word, formula_word, term_word, number_word, unknown, word_of}
+use Rattle.specification.specs.Formula.{Token, token, operand, Locals, binder, procedure, term, empty_range, non_empty, formula_of, formula_with, formula}
+use Rattle.specification.specs.Sheet.{with_parameters, with_procedures, procedure_line, procedure_lines, most_procedures, Sheet, beginning, first_strict, refuses, sheet, opened, read_with}
 use Rattle.specification.proofs.Laws.Contradiction.{contradiction}
 use Rattle.specification.proofs.Laws.SheetLines.{Lines, sheet-lines, lines-sheet}
 
@@ -55,8 +55,8 @@ operand-alike h = after (mark space) λ u. h
 -- ---- formulas
 
 module _ (refusing : Bool) where
-  range-alike : (p : ℕ) (a b : Term) → Alike (nonEmpty refusing p a b) (nonEmpty false p a b)
-  range-alike p a b r = go refusing (emptyRange a b)
+  range-alike : (p : ℕ) (a b : Term) → Alike (non_empty refusing p a b) (non_empty false p a b)
+  range-alike p a b r = go refusing (empty_range a b)
     where
       go : (x y : Bool) → Agree (require (not (x && y)) 17 p (give {A = Unit {0}} tt) r) (found tt r)
       go true true = inr (p, refl)
@@ -70,29 +70,29 @@ module _ (refusing : Bool) where
     joined g = then (operand-alike (h S)) λ x. then (operand-alike (h S)) λ y. same (give (g x y))
 
     quantified : (p : ℕ) (g : ℕ → Term → Term → Formula → Formula) →
-        Alike (operand L >>= λ l. operand T >>= λ a. operand T >>= λ b. nonEmpty refusing p a b >> (operand (F (l ∷ S)) >>= λ x. give (g l a b x)))
-        (operand L >>= λ l. operand T >>= λ a. operand T >>= λ b. nonEmpty false p a b >> (operand (F' (l ∷ S)) >>= λ x. give (g l a b x)))
+        Alike (operand L >>= λ l. operand T >>= λ a. operand T >>= λ b. non_empty refusing p a b >> (operand (F (l ∷ S)) >>= λ x. give (g l a b x)))
+        (operand L >>= λ l. operand T >>= λ a. operand T >>= λ b. non_empty false p a b >> (operand (F' (l ∷ S)) >>= λ x. give (g l a b x)))
     quantified p g =
         after (operand L) λ l. after (operand T) λ a. after (operand T) λ b.
         then (range-alike p a b) λ u. then (operand-alike (h (l ∷ S))) λ x. same (give (g l a b x))
 
-    formula-of : (p n : ℕ) (w : FormulaWord) → Alike (formulaOf refusing D F T L K S p n w) (formulaOf false D F' T L K S p n w)
-    formula-of p n trueWord = same _
-    formula-of p n andWord = joined and
-    formula-of p n orWord = joined or
-    formula-of p n impWord = joined (imp n)
-    formula-of p n notWord = then (operand-alike (h S)) λ x. same (give (neg n x))
-    formula-of p n eqWord = same _
-    formula-of p n (relWord c) = same _
-    formula-of p n exWord = after (operand L) λ l. then (operand-alike (h (l ∷ S))) λ x. same (give (ex l x))
-    formula-of p n someWord = quantified p (some n)
-    formula-of p n allWord = quantified p (all n)
+    formula-of : (p n : ℕ) (w : FormulaWord) → Alike (formula_of refusing D F T L K S p n w) (formula_of false D F' T L K S p n w)
+    formula-of p n true_word = same _
+    formula-of p n and_word = joined and
+    formula-of p n or_word = joined or
+    formula-of p n imp_word = joined (imp n)
+    formula-of p n not_word = then (operand-alike (h S)) λ x. same (give (neg n x))
+    formula-of p n eq_word = same _
+    formula-of p n (rel_word c) = same _
+    formula-of p n ex_word = after (operand L) λ l. then (operand-alike (h (l ∷ S))) λ x. same (give (ex l x))
+    formula-of p n some_word = quantified p (some n)
+    formula-of p n all_word = quantified p (all n)
     formula-of p n call_word = same _
 
-    formula-with : (t : Token) (w : Word) → Alike (formulaWith refusing D F T L K S t w) (formulaWith false D F' T L K S t w)
-    formula-with t (formulaWord w) = formula-of t.place t.number w
-    formula-with t (termWord w) = same _
-    formula-with t (numberWord n) = same _
+    formula-with : (t : Token) (w : Word) → Alike (formula_with refusing D F T L K S t w) (formula_with false D F' T L K S t w)
+    formula-with t (formula_word w) = formula-of t.place t.number w
+    formula-with t (term_word w) = same _
+    formula-with t (number_word n) = same _
     formula-with t unknown = same _
 
   formula-alike : (D : Declared) (k : ℕ) (S : Locals) → Alike (formula refusing D k S) (formula false D k S)
@@ -105,25 +105,25 @@ module _ (refusing : Bool) where
 
   -- ---- lines
 
-  line-alike : (D : Declared) → Alike (procedureLine refusing D) (procedureLine false D)
-  unfolding procedureLine
+  line-alike : (D : Declared) → Alike (procedure_line refusing D) (procedure_line false D)
+  unfolding procedure_line
   line-alike D =
       after (key (bytes "proc=")) λ u.
       after (count 0 8) λ n.
       after (mark colon) λ u.
-      then (formula-alike (withParameters n D) 64 []) λ F. same (mark feed >> give (record { parameters = n; formula = F }))
+      then (formula-alike (with_parameters n D) 64 []) λ F. same (mark feed >> give (record { parameters = n; formula = F }))
 
-  lines-alike : (k : ℕ) (D : Declared) → Alike (procedureLines refusing k D) (procedureLines false k D)
-  unfolding procedureLines
+  lines-alike : (k : ℕ) (D : Declared) → Alike (procedure_lines refusing k D) (procedure_lines false k D)
+  unfolding procedure_lines
   lines-alike zero D r = inl refl
-  lines-alike (suc k) D r = go (begins (bytes "p") r.rest) (λ P. lines-alike k (withProcedures (D.procedures ++ (P ∷ [])) D))
+  lines-alike (suc k) D r = go (begins (bytes "p") r.rest) (λ P. lines-alike k (with_procedures (D.procedures ++ (P ∷ [])) D))
     where
       more : Bool → Parser (List Procedure)
-      more b = procedureLine b D >>= λ P. procedureLines b k (withProcedures (D.procedures ++ (P ∷ [])) D)
+      more b = procedure_line b D >>= λ P. procedure_lines b k (with_procedures (D.procedures ++ (P ∷ [])) D)
 
       go : (b : Bool) →
-          ((P : Procedure) → Alike (procedureLines refusing k (withProcedures (D.procedures ++ (P ∷ [])) D))
-          (procedureLines false k (withProcedures (D.procedures ++ (P ∷ [])) D))) →
+          ((P : Procedure) → Alike (procedure_lines refusing k (with_procedures (D.procedures ++ (P ∷ [])) D))
+          (procedure_lines false k (with_procedures (D.procedures ++ (P ∷ [])) D))) →
           Agree (pick b (more refusing) (give D.procedures) r) (pick b (more false) (give D.procedures) r)
       go true h = then (line-alike D) h r
       go false h = inl refl
@@ -136,35 +136,35 @@ sheet-alike =
     after (line (bytes "edition=") 1 3) λ edition.
     after (line (bytes "scalars=") 0 64) λ scalars.
     after (line (bytes "locals=") 0 32) λ locals.
-    after (arraysLine scalars) λ arrays.
-    after (rangesLine edition (scalars + length arrays)) λ ranges.
+    after (arrays_line scalars) λ arrays.
+    after (ranges_line edition (scalars + length arrays)) λ ranges.
     let E : Declared = beginning edition scalars locals arrays ranges in
-    after (givenLine E) λ given.
-    then (lines-alike (refuses true edition) (mostProcedures edition) E) λ Ps.
-    let D : Declared = withProcedures Ps E in
+    after (given_line E) λ given.
+    then (lines-alike (refuses true edition) (most_procedures edition) E) λ Ps.
+    let D : Declared = with_procedures Ps E in
     after (key (bytes "formula=")) λ u.
     then (formula-alike (refuses true edition) D 64 []) λ F.
     same (mark feed >> (finish >> give (record { declared = D; given = given; formula = F })))
 
-pub strict-agrees : (b : Bytes) → Agree (readWith true b) (readWith false b)
-unfolding readWith
+pub strict-agrees : (b : Bytes) → Agree (read_with true b) (read_with false b)
+unfolding read_with
 strict-agrees b = sheet-alike (opened b)
 
 -- what is read strictly
-pub strict-read : (b : Bytes) {s : Sheet} {r : Reader} → readWith true b ≡ found s r → readWith false b ≡ found s r
+pub strict-read : (b : Bytes) {s : Sheet} {r : Reader} → read_with true b ≡ found s r → read_with false b ≡ found s r
 strict-read b {s} {r} e = go (strict-agrees b)
   where
-    go : Agree (readWith true b) (readWith false b) → readWith false b ≡ found s r
+    go : Agree (read_with true b) (read_with false b) → read_with false b ≡ found s r
     go (inl f) = sym f ∙ e
     go (inr (p, f)) = contradiction cc
 
 -- an edition before the first that refuses empty ranges
-pub older-alike : (b : Bytes) {s : Sheet} {r : Reader} → readWith false b ≡ found s r → ltb s.declared.edition firstStrict ≡ true →
-    readWith true b ≡ found s r
-unfolding readWith
+pub older-alike : (b : Bytes) {s : Sheet} {r : Reader} → read_with false b ≡ found s r → ltb s.declared.edition first_strict ≡ true →
+    read_with true b ≡ found s r
+unfolding read_with
 older-alike b {s} {r} e h =
     let l : Lines false (opened b) s = sheet-lines e in
-    let k : refuses true s.declared.edition ≡ false = lt-leb firstStrict s.declared.edition (ltb-true s.declared.edition firstStrict h) in
+    let k : refuses true s.declared.edition ≡ false = lt-leb first_strict s.declared.edition (ltb-true s.declared.edition first_strict h) in
     let l' : Lines true (opened b) s = record {
       edition = l.edition;
       scalars = l.scalars;

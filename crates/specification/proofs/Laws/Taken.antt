@@ -11,13 +11,13 @@ use Rattle.specification.proofs.Laws.LinePieces.{Still}
 use Rattle.specification.proofs.Laws.Legible.{added, Fresh, added-++, fresh-++}
 
 -- how many tokens a sheet has at most
-abbrev pub mostTokens : ℕ
-mostTokens = 1024
+abbrev pub most_tokens : ℕ
+most_tokens = 1024
 
 pub record Taken (t : Bytes) (n : ℕ) (ls : List ℕ) (r r' : Reader) : Type 0 where
   pub rest : r.rest ≡ t ++ r'.rest
   pub tokens : r'.tokens ≡ r.tokens + n
-  pub few : r.tokens ≤ mostTokens → r'.tokens ≤ mostTokens
+  pub few : r.tokens ≤ most_tokens → r'.tokens ≤ most_tokens
   pub fresh : Fresh r.bound ls
   pub bound : r'.bound ≡ added ls r.bound
 

@@ -9,7 +9,7 @@ use Rattle.specification.proofs.Laws.Outside.{Covers}
 use Rattle.specification.proofs.Laws.Correct.{Proves, Sound, Complete, truth-sound, truth-complete, and_sound, and-complete, or_sound, or-complete, call-sound, call-complete}
 use Rattle.specification.proofs.Laws.Atoms.{eq-sound, eq-complete, compare-sound, compare-complete}
 use Rattle.specification.proofs.Laws.Quantifiers.{ex-sound, ex-complete, some-sound, some-complete, all_sound, all-complete}
-use Rattle.specification.proofs.Laws.Negation.{innerTree, Refutes, succeeds-proves, fails-refutes, neg-sound, neg-complete, imp-sound, imp-complete}
+use Rattle.specification.proofs.Laws.Negation.{inner_tree, Refutes, succeeds-proves, fails-refutes, neg-sound, neg-complete, imp-sound, imp-complete}
 
 pub laws : (D : Declared) (F : Formula) → Sound D F × Complete D F
 laws D truth = (truth-sound D, truth-complete D)
@@ -34,9 +34,9 @@ laws D (call K ts F) = let (sF, cF) = laws D F in (call-sound D K ts F sF, call-
 
 module _ (D : Declared) (F : Formula) (S : Scope) (c : Covers D S) (o : Ok D S F) (α : Valuation) (v : Valid D α) where
   -- a success leaf, which gave nothing, makes F true in each environment that agrees with the valuation
-  pub inner-success-true : verdict (innerTree D F α) ≡ succeeds → Proves D S F α
+  pub inner-success-true : verdict (inner_tree D F α) ≡ succeeds → Proves D S F α
   inner-success-true = succeeds-proves D F S c o α v (laws D F).0
 
   -- failure leaves only means that F is true in none
-  pub inner-failures-false : verdict (innerTree D F α) ≡ fails → Refutes D S F α
+  pub inner-failures-false : verdict (inner_tree D F α) ≡ fails → Refutes D S F α
   inner-failures-false = fails-refutes D F S c o α v (laws D F).1

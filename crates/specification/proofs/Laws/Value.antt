@@ -10,12 +10,12 @@ use lib.Signed.{quot_z}
 use Rattle.specification.specs.Bytes.{pick}
 use Rattle.specification.specs.Number.{in32}
 use Rattle.specification.specs.Lines.{Declared, cells, first_of, length_of}
-use Rattle.specification.specs.Ast.{Op, add, sub, mul, quo, rem, div, modulo, Term, constant, scalarAt, local_at, parameter, elementAt, apply}
-use Rattle.specification.specs.Arithmetic.{noValue, outsideArray, outside32, Computed, value, fault, fit, divided, floorZ, remains, compute}
+use Rattle.specification.specs.Ast.{Op, add, sub, mul, quo, rem, div, modulo, Term, constant, scalar_at, local_at, parameter, element_at, apply}
+use Rattle.specification.specs.Arithmetic.{no_value, outside_array, outside32, Computed, value, fault, fit, divided, floor_z, remains, compute}
 use Rattle.specification.specs.Place.{Place, cell, local}
-use Rattle.specification.specs.Value.{Slot, empty, full, Valuation, Side, val, bare, err, look, Pair, values, faulty, pair_of, side_of, operate, in_array, elementSide, side}
+use Rattle.specification.specs.Value.{Slot, empty, full, Valuation, Side, val, bare, err, look, Pair, values, faulty, pair_of, side_of, operate, in_array, element_side, side}
 use Rattle.specification.specs.WellFormed.{Scope, OkTerm, Valid}
-use Rattle.specification.specs.Plain.{Env, kept, applied, elementValue, value_of, Has}
+use Rattle.specification.specs.Plain.{Env, kept, applied, element_value, value_of, Has}
 use Rattle.specification.proofs.Laws.Allowed.{allowed-in32}
 use Rattle.specification.proofs.Laws.Scope.{In, Agree}
 use Rattle.specification.proofs.Laws.Elements.{scalar-declared, element-declared}
@@ -36,16 +36,16 @@ computed-tells ρ (value z) = refl
 computed-tells ρ (fault κ) = tt
 
 module _ (D : Declared) (S : Scope) (ρ : Env) (α : Valuation) (a : Agree D S ρ α) where
-  inArray-tells : (b : Bool) (c : ℕ) → (T b → c < cells D) → Tells ρ (in_array D α b c) (pick b (just (ρ (cell c))) none)
-  inArray-tells true c h = look-tells ρ (cell c) (α (cell c)) (a.1 (cell c) (h tt))
-  inArray-tells false c h = tt
+  in_array-tells : (b : Bool) (c : ℕ) → (T b → c < cells D) → Tells ρ (in_array D α b c) (pick b (just (ρ (cell c))) none)
+  in_array-tells true c h = look-tells ρ (cell c) (α (cell c)) (a.1 (cell c) (h tt))
+  in_array-tells false c h = tt
 
   element-tells :
       (n : ℕ) (s : Side) (o : Option ℤ) → Tells ρ s o →
-      Tells ρ (elementSide D α n s) (elementValue D ρ n o)
-  unfolding elementSide
+      Tells ρ (element_side D α n s) (element_value D ρ n o)
+  unfolding element_side
   element-tells n (val (pos i)) o e =
-      rw e (inArray-tells (ltb i (length_of D n)) (first_of D n + i) (λ t. element-declared D n i (ltb→lt i (length_of D n) t)))
+      rw e (in_array-tells (ltb i (length_of D n)) (first_of D n + i) (λ t. element-declared D n i (ltb→lt i (length_of D n) t)))
   element-tells n (val (negsuc i)) o e = tt
   element-tells n (bare p) o e = tt
   element-tells n (err κ) o e = tt
@@ -63,10 +63,10 @@ module _ (D : Declared) (S : Scope) (ρ : Env) (α : Valuation) (a : Agree D S �
   side-tells : (t : Term) → OkTerm D S t → Tells ρ (side D α t) (value_of D ρ t)
   unfolding side value_of OkTerm
   side-tells (constant z) h = refl
-  side-tells (scalarAt c) h = look-tells ρ (cell c) (α (cell c)) (a.1 (cell c) (scalar-declared D c h))
+  side-tells (scalar_at c) h = look-tells ρ (cell c) (α (cell c)) (a.1 (cell c) (scalar-declared D c h))
   side-tells (local_at l) h = look-tells ρ (local l) (α (local l)) (a.1 (local l) h)
   side-tells (parameter n) h = tt
-  side-tells (elementAt n t) h = element-tells n (side D α t) (value_of D ρ t) (side-tells t h.1)
+  side-tells (element_at n t) h = element-tells n (side D α t) (value_of D ρ t) (side-tells t h.1)
   side-tells (apply o s t) h =
       operate-tells o (side D α s) (side D α t) (value_of D ρ s) (value_of D ρ t) (side-tells s h.0) (side-tells t h.1)
 
@@ -110,8 +110,8 @@ compute-firm sub x y = fit-firm (x -ℤ y)
 compute-firm mul x y = fit-firm (x *ℤ y)
 compute-firm quo x y = quotient-firm y (quot_z x y)
 compute-firm rem x y = quotient-firm y (remains x y (quot_z x y))
-compute-firm div x y = quotient-firm y (floorZ x y)
-compute-firm modulo x y = quotient-firm y (remains x y (floorZ x y))
+compute-firm div x y = quotient-firm y (floor_z x y)
+compute-firm modulo x y = quotient-firm y (remains x y (floor_z x y))
 
 -- what holds of firm sides, and of the places in scope as they are looked at, holds of every side
 module _ (D : Declared) (S : Scope) (α : Valuation) (G : Side → Type 0) (firm : (s : Side) → Firm s → G s)
@@ -120,25 +120,25 @@ module _ (D : Declared) (S : Scope) (α : Valuation) (G : Side → Type 0) (firm
   operate-firm o (values x y) = firm (side_of (compute o x y)) (compute-firm o x y)
   operate-firm o (faulty κ) = firm (err κ) tt
 
-  inArray-firm : (b : Bool) (c : ℕ) → (T b → c < cells D) → G (in_array D α b c)
-  inArray-firm true c h = looked (cell c) (h tt) (α (cell c)) refl
-  inArray-firm false c h = firm (err outsideArray) tt
+  in_array-firm : (b : Bool) (c : ℕ) → (T b → c < cells D) → G (in_array D α b c)
+  in_array-firm true c h = looked (cell c) (h tt) (α (cell c)) refl
+  in_array-firm false c h = firm (err outside_array) tt
 
-  element-firm : (n : ℕ) (s : Side) → G (elementSide D α n s)
-  unfolding elementSide
+  element-firm : (n : ℕ) (s : Side) → G (element_side D α n s)
+  unfolding element_side
   element-firm n (val (pos i)) =
-      inArray-firm (ltb i (length_of D n)) (first_of D n + i) (λ t. element-declared D n i (ltb→lt i (length_of D n) t))
-  element-firm n (val (negsuc i)) = firm (err outsideArray) tt
-  element-firm n (bare p) = firm (err noValue) tt
+      in_array-firm (ltb i (length_of D n)) (first_of D n + i) (λ t. element-declared D n i (ltb→lt i (length_of D n) t))
+  element-firm n (val (negsuc i)) = firm (err outside_array) tt
+  element-firm n (bare p) = firm (err no_value) tt
   element-firm n (err κ) = firm (err κ) tt
 
   side-firm : (t : Term) → OkTerm D S t → G (side D α t)
   unfolding side OkTerm
   side-firm (constant z) h = firm (val z) h
-  side-firm (scalarAt c) h = looked (cell c) (scalar-declared D c h) (α (cell c)) refl
+  side-firm (scalar_at c) h = looked (cell c) (scalar-declared D c h) (α (cell c)) refl
   side-firm (local_at l) h = looked (local l) h (α (local l)) refl
-  side-firm (parameter n) h = firm (err noValue) tt
-  side-firm (elementAt n t) h = element-firm n (side D α t)
+  side-firm (parameter n) h = firm (err no_value) tt
+  side-firm (element_at n t) h = element-firm n (side D α t)
   side-firm (apply o s t) h = operate-firm o (pair_of (side D α s) (side D α t))
 
 -- ---- a value is in 32 bits

@@ -11,52 +11,52 @@ use lib.ListN.{length, drop, length-append}
 use lib.Dec.{ltb}
 use borrow.Author.Tests.{ltb-true}
 use Rattle.specification.specs.Lists.{Each}
-use Rattle.specification.specs.Bytes.{Bytes, bytes, space, class_of, classNumber, isIn, inToken, run}
+use Rattle.specification.specs.Bytes.{Bytes, bytes, space, class_of, class_number, is_in, in_token, run}
 use Rattle.specification.specs.Parser.{Reader, Read, Parser, taken}
 use Rattle.specification.specs.Lines.{Declared}
 use Rattle.specification.specs.Ast.{Term}
-use Rattle.specification.specs.Words.{TermWord, constantWord, scalarWord, localWord, arrayWord, parameterWord, opWord, Word, formulaWord, termWord, numberWord, unknown, word_of, number_of}
-use Rattle.specification.specs.Formula.{Token, token, operand, Locals, has, binderOf, binderWith, binder, procedureWith, procedure, termOf, termWith, term, arguments}
-use Rattle.specification.specs.Text.{led, parted, wordText, termWords, argumentWords, binderWord, spelt}
+use Rattle.specification.specs.Words.{TermWord, constant_word, scalar_word, local_word, array_word, parameter_word, op_word, Word, formula_word, term_word, number_word, unknown, word_of, number_of}
+use Rattle.specification.specs.Formula.{Token, token, operand, Locals, has, binder_of, binder_with, binder, procedure_with, procedure, term_of, term_with, term, arguments}
+use Rattle.specification.specs.Text.{led, parted, word_text, term_words, argument_words, binder_word, spelt}
 use Rattle.specification.proofs.Laws.Contradiction.{contradiction}
 use Rattle.specification.proofs.Laws.Lists.{each-++}
 use Rattle.specification.proofs.Laws.Parser.{Post, refusal, holds, map-post, both_post, bind-post, require-post, present-post, pick_post}
 use Rattle.specification.proofs.Laws.Canonical.{starts, run-split}
-use Rattle.specification.proofs.Laws.Spelling.{Belongs, wordOf-spelt, number-spelt}
+use Rattle.specification.proofs.Laws.Spelling.{Belongs, word_of-spelt, number-spelt}
 use Rattle.specification.proofs.Laws.Pieces.{space-piece}
 use Rattle.specification.proofs.Laws.LinePieces.{stays}
 use Rattle.specification.proofs.Laws.Legible.{Shape, shape_of, counts-length, Deep, LegibleTerm, binders, added, Fresh}
-use Rattle.specification.proofs.Laws.Taken.{mostTokens, Taken, taken_none, taken-both, taken-same, still-taken}
+use Rattle.specification.proofs.Laws.Taken.{most_tokens, Taken, taken_none, taken-both, taken-same, still-taken}
 
 -- ---- words one after the other
 
 -- what comes next is no byte of a token
 abbrev pub NoToken : Bytes → Type 0
-NoToken w = starts inToken w ≡ false
+NoToken w = starts in_token w ≡ false
 
 -- an edition has the word; a procedure's number is the same in all
 abbrev pub Fits : ℕ → Word → Type 0
-Fits edition (formulaWord w) = Belongs edition (formulaWord w)
-Fits edition (termWord w) = Belongs edition (termWord w)
-Fits edition (numberWord n) = Unit {0}
+Fits edition (formula_word w) = Belongs edition (formula_word w)
+Fits edition (term_word w) = Belongs edition (term_word w)
+Fits edition (number_word n) = Unit {0}
 Fits edition unknown = ⊥
 
 -- each word after a space
-abbrev pub ledIn : ℕ → List Word → Bytes
-ledIn e ws = led (bytes " ") (wordText e) ws
+abbrev pub led_in : ℕ → List Word → Bytes
+led_in e ws = led (bytes " ") (word_text e) ws
 
-pub led-token : (e : ℕ) (ws : List Word) (w : Bytes) → NoToken w → NoToken (ledIn e ws ++ w)
-unfolding led starts inToken isIn classNumber class_of
+pub led-token : (e : ℕ) (ws : List Word) (w : Bytes) → NoToken w → NoToken (led_in e ws ++ w)
+unfolding led starts in_token is_in class_number class_of
 led-token e [] w h = h
 led-token e (x ∷ xs) w h = refl
 
-pub led-++ : (e : ℕ) (ws us : List Word) → ledIn e ws ++ ledIn e us ≡ ledIn e (ws ++ us)
+pub led-++ : (e : ℕ) (ws us : List Word) → led_in e ws ++ led_in e us ≡ led_in e (ws ++ us)
 unfolding led
 led-++ e [] us = refl
 led-++ e (w ∷ ws) us =
-    ap (λ (x : Bytes). 32 ∷ x) (append_assoc (wordText e w) (ledIn e ws) (ledIn e us) ∙ ap (λ (x : Bytes). wordText e w ++ x) (led-++ e ws us))
+    ap (λ (x : Bytes). 32 ∷ x) (append_assoc (word_text e w) (led_in e ws) (led_in e us) ∙ ap (λ (x : Bytes). word_text e w ++ x) (led-++ e ws us))
 
-pub led-some : (e : ℕ) (ws : List Word) → ¬ (ws ≡ []) → bytes " " ++ spelt e ws ≡ ledIn e ws
+pub led-some : (e : ℕ) (ws : List Word) → ¬ (ws ≡ []) → bytes " " ++ spelt e ws ≡ led_in e ws
 unfolding led parted
 led-some e [] h = absurd (h refl)
 led-some e (w ∷ ws) h = refl
@@ -68,7 +68,7 @@ module _ (D : Declared) where
   -- words that were read, each after a space
   pub record Led (ws : List Word) (ls : List ℕ) (r r' : Reader) : Type 0 where
     pub fits : Each (Fits edition) ws
-    pub taken : Taken (ledIn edition ws) (length ws) ls r r'
+    pub taken : Taken (led_in edition ws) (length ws) ls r r'
 
   -- the same, the first without the space
   pub record Spelt (ws : List Word) (ls : List ℕ) (r r' : Reader) : Type 0 where
@@ -124,21 +124,21 @@ module _ (D : Declared) where
   pub token-read : (word : Bytes → Option Word) (r : Reader) → Post (TokenRead word r) (token word r)
   unfolding token taken added Fresh
   token-read word r =
-      bind-post {P = λ n r₁. (n ≡ r.tokens) × (ltb r.tokens mostTokens ≡ true) × (r₁ ≡ counted)}
-      (pick_post (ltb r.tokens mostTokens) _ _ (λ e. holds (refl, e, refl)) (λ e. refusal tt)) λ n r₁ (e, f, g).
+      bind-post {P = λ n r₁. (n ≡ r.tokens) × (ltb r.tokens most_tokens ≡ true) × (r₁ ≡ counted)}
+      (pick_post (ltb r.tokens most_tokens) _ _ (λ e. holds (refl, e, refl)) (λ e. refusal tt)) λ n r₁ (e, f, g).
       rw g
       (bind-post {P = λ w r₂. (word letters ≡ just w) × (r₂ ≡ passed)} (present-post 4 r.place (word letters) _ tt λ w k. (k, refl)) λ w r₂ (k, l).
-      let few : suc r.tokens ≤ mostTokens = ltb-true r.tokens mostTokens f in
+      let few : suc r.tokens ≤ most_tokens = ltb-true r.tokens most_tokens f in
       rw l (holds {r = passed} (record {
         letters = letters;
         is = k;
         number = e;
         next = refl;
-        read = record { rest = run-split inToken r.rest; tokens = omega arith; few = λ h. few; fresh = tt; bound = refl };
+        read = record { rest = run-split in_token r.rest; tokens = omega arith; few = λ h. few; fresh = tt; bound = refl };
       })))
     where
       letters : Bytes
-      letters = run inToken r.rest
+      letters = run in_token r.rest
 
       counted : Reader
       counted = record { place = r.place; rest = r.rest; tokens = suc r.tokens; bound = r.bound }
@@ -154,7 +154,7 @@ module _ (D : Declared) where
   After X w n r a r' = (us : List Word) × (X.words a ≡ w ∷ us) × Led us (X.binders a) r r' × X.Good n a
 
   token-spelt : {A : Type 0} (X : Sort A) {word : Bytes → Option Word} {r r₁ : Reader} (p n : ℕ) (w : Word) →
-      (h : TokenRead word r (tok p n w) r₁) → (h.letters ≡ wordText edition w) → Fits edition w →
+      (h : TokenRead word r (tok p n w) r₁) → (h.letters ≡ word_text edition w) → Fits edition w →
       {x : Read A} → Post (After X w n r₁) x → Post (Is X r) x
   unfolding Each parted
   token-spelt X {r = r} {r₁} p n w h s fits =
@@ -169,12 +169,12 @@ module _ (D : Declared) where
 
   -- these letters are the word's, and the edition has it
   abbrev Known : Word → Bytes → Type 0
-  Known w letters = (letters ≡ wordText edition w) × Belongs edition w
+  Known w letters = (letters ≡ word_text edition w) × Belongs edition w
 
   -- a token that is a word of the set
   pub word-spelt : {A : Type 0} (X : Sort A) {r r₁ : Reader} (p n : ℕ) (w : Word) → TokenRead (word_of edition) r (tok p n w) r₁ → ¬ (w ≡ unknown) →
       (Belongs edition w → Fits edition w) → {x : Read A} → Post (After X w n r₁) x → Post (Is X r) x
-  word-spelt X p n w h k fits = let (s, b) = known (wordOf-spelt edition h.letters w h.is) in token-spelt X p n w h s (fits b)
+  word-spelt X p n w h k fits = let (s, b) = known (word_of-spelt edition h.letters w h.is) in token-spelt X p n w h s (fits b)
     where
       known : {t : Bytes} → (w ≡ unknown) ⊎ Known w t → Known w t
       known (inl u) = absurd (k u)
@@ -186,30 +186,30 @@ module _ (D : Declared) where
   H = shape_of D
 
   abbrev pub terms : ℕ → Locals → Sort Term
-  terms k S = record { words = termWords; binders = λ t. []; Good = λ n t. LegibleTerm H k S t }
+  terms k S = record { words = term_words; binders = λ t. []; Good = λ n t. LegibleTerm H k S t }
 
   module _ (k : ℕ) (S : Locals) (T : Parser Term) (h : (r : Reader) → Post (Is (terms k S) r) (T r)) where
-    term_of : (q n : ℕ) (w : TermWord) (r : Reader) → Post (After (terms (suc k) S) (termWord w) n r) (termOf D T S q w r)
-    unfolding termWords LegibleTerm
-    term_of q n (constantWord z) r = holds ([], refl, led-none r, tt)
-    term_of q n (scalarWord c) r = require-post (ltb c D.scalars) _ _ _ _ tt λ e. holds ([], refl, led-none r, e)
-    term_of q n (localWord l) r =
+    term-of : (q n : ℕ) (w : TermWord) (r : Reader) → Post (After (terms (suc k) S) (term_word w) n r) (term_of D T S q w r)
+    unfolding term_words LegibleTerm
+    term-of q n (constant_word z) r = holds ([], refl, led-none r, tt)
+    term-of q n (scalar_word c) r = require-post (ltb c D.scalars) _ _ _ _ tt λ e. holds ([], refl, led-none r, e)
+    term-of q n (local_word l) r =
         require-post (ltb l D.locals) _ _ _ _ tt λ d.
         require-post (has l S) _ _ _ _ tt λ e. holds ([], refl, led-none r, (d, e))
-    term_of q n (parameterWord m) r = require-post (ltb m D.parameters) _ _ _ _ tt λ e. holds ([], refl, led-none r, e)
-    term_of q n (arrayWord a) r =
+    term-of q n (parameter_word m) r = require-post (ltb m D.parameters) _ _ _ _ tt λ e. holds ([], refl, led-none r, e)
+    term-of q n (array_word a) r =
         require-post (ltb a (length D.arrays)) _ _ _ _ tt λ e.
-        bind-post (operand-led (terms k S) T h r) λ i r₁ (k₁, g₁). holds (termWords i, refl, k₁, (e, g₁))
-    term_of q n (opWord o) r =
+        bind-post (operand-led (terms k S) T h r) λ i r₁ (k₁, g₁). holds (term_words i, refl, k₁, (e, g₁))
+    term-of q n (op_word o) r =
         bind-post (operand-led (terms k S) T h r) λ s r₁ (k₁, g₁).
         bind-post (operand-led (terms k S) T h r₁) λ t r₂ (k₂, g₂).
-        holds (termWords s ++ termWords t, refl, led-both k₁ k₂, (g₁, g₂))
+        holds (term_words s ++ term_words t, refl, led-both k₁ k₂, (g₁, g₂))
 
     term-with : (p n : ℕ) (w : Word) {r r₁ : Reader} → TokenRead (word_of edition) r (tok p n w) r₁ →
-        Post (Is (terms (suc k) S) r) (termWith D T S (tok p n w) w r₁)
-    term-with p n (termWord w) {r₁ = r₁} h = word-spelt (terms (suc k) S) p n (termWord w) h (λ e. contradiction cc) (λ b. b) (term_of p n w r₁)
-    term-with p n (formulaWord w) h = refusal tt
-    term-with p n (numberWord m) h = refusal tt
+        Post (Is (terms (suc k) S) r) (term_with D T S (tok p n w) w r₁)
+    term-with p n (term_word w) {r₁ = r₁} h = word-spelt (terms (suc k) S) p n (term_word w) h (λ e. contradiction cc) (λ b. b) (term-of p n w r₁)
+    term-with p n (formula_word w) h = refusal tt
+    term-with p n (number_word m) h = refusal tt
     term-with p n unknown h = refusal tt
 
   pub term-spelt : (k : ℕ) (S : Locals) (r : Reader) → Post (Is (terms k S) r) (term D k S r)
@@ -222,11 +222,11 @@ module _ (D : Declared) where
   -- ---- binders
 
   abbrev pub locals : Sort ℕ
-  locals = record { words = λ l. binderWord l ∷ []; binders = λ l. l ∷ []; Good = λ n l. ltb l D.locals ≡ true }
+  locals = record { words = λ l. binder_word l ∷ []; binders = λ l. l ∷ []; Good = λ n l. ltb l D.locals ≡ true }
 
-  binder-of : (q n : ℕ) (w : TermWord) (r : Reader) → Post (After locals (termWord w) n r) (binderOf D q w r)
+  binder-of : (q n : ℕ) (w : TermWord) (r : Reader) → Post (After locals (term_word w) n r) (binder_of D q w r)
   unfolding Each led added Fresh
-  binder-of q n (localWord l) r =
+  binder-of q n (local_word l) r =
       require-post (ltb l D.locals) _ _ _ _ tt λ e.
       pick_post (has l r.bound) _ _ (λ f. refusal tt) (λ f. holds {r = bound-in} (
         [],
@@ -237,17 +237,17 @@ module _ (D : Declared) where
     where
       bound-in : Reader
       bound-in = record { place = r.place; rest = r.rest; tokens = r.tokens; bound = l ∷ r.bound }
-  binder-of q n (constantWord z) r = refusal tt
-  binder-of q n (scalarWord c) r = refusal tt
-  binder-of q n (arrayWord a) r = refusal tt
-  binder-of q n (parameterWord m) r = refusal tt
-  binder-of q n (opWord o) r = refusal tt
+  binder-of q n (constant_word z) r = refusal tt
+  binder-of q n (scalar_word c) r = refusal tt
+  binder-of q n (array_word a) r = refusal tt
+  binder-of q n (parameter_word m) r = refusal tt
+  binder-of q n (op_word o) r = refusal tt
 
   binder-with : (p n : ℕ) (w : Word) {r r₁ : Reader} → TokenRead (word_of edition) r (tok p n w) r₁ →
-      Post (Is locals r) (binderWith D (tok p n w) w r₁)
-  binder-with p n (termWord w) {r₁ = r₁} h = word-spelt locals p n (termWord w) h (λ e. contradiction cc) (λ b. b) (binder-of p n w r₁)
-  binder-with p n (formulaWord w) h = refusal tt
-  binder-with p n (numberWord m) h = refusal tt
+      Post (Is locals r) (binder_with D (tok p n w) w r₁)
+  binder-with p n (term_word w) {r₁ = r₁} h = word-spelt locals p n (term_word w) h (λ e. contradiction cc) (λ b. b) (binder-of p n w r₁)
+  binder-with p n (formula_word w) h = refusal tt
+  binder-with p n (number_word m) h = refusal tt
   binder-with p n unknown h = refusal tt
 
   pub binder-spelt : (k : ℕ) (r : Reader) → Post (Is locals r) (binder D k r)
@@ -258,17 +258,17 @@ module _ (D : Declared) where
   -- ---- the procedure of a call, and its arguments
 
   abbrev pub called : ℕ → Sort ℕ
-  called k = record { words = λ K. numberWord K ∷ []; binders = λ K. []; Good = λ n K. Deep k × (ltb K (length H.called) ≡ true) }
+  called k = record { words = λ K. number_word K ∷ []; binders = λ K. []; Good = λ n K. Deep k × (ltb K (length H.called) ≡ true) }
 
   procedure-with : (k p n : ℕ) (w : Word) {r r₁ : Reader} → TokenRead number_of r (tok p n w) r₁ →
-      Post (Is (called (suc k)) r) (procedureWith D (tok p n w) w r₁)
-  unfolding wordText
-  procedure-with k p n (numberWord K) {r₁ = r₁} h =
-      token-spelt (called (suc k)) p n (numberWord K) h (number-spelt h.letters K h.is) tt
+      Post (Is (called (suc k)) r) (procedure_with D (tok p n w) w r₁)
+  unfolding word_text
+  procedure-with k p n (number_word K) {r₁ = r₁} h =
+      token-spelt (called (suc k)) p n (number_word K) h (number-spelt h.letters K h.is) tt
       (require-post (ltb K (length D.procedures)) _ _ _ _ tt λ e.
       holds ([], refl, led-none r₁, (tt, ap (ltb K) (counts-length D.procedures) ∙ e)))
-  procedure-with k p n (formulaWord w) h = refusal tt
-  procedure-with k p n (termWord w) h = refusal tt
+  procedure-with k p n (formula_word w) h = refusal tt
+  procedure-with k p n (term_word w) h = refusal tt
   procedure-with k p n unknown h = refusal tt
 
   pub procedure-spelt : (k : ℕ) (r : Reader) → Post (Is (called k) r) (procedure D k r)
@@ -277,8 +277,8 @@ module _ (D : Declared) where
   procedure-spelt (suc k) r = bind-post (token-read number_of r) λ t r₁ h. procedure-with k t.place t.number t.word h
 
   pub arguments-led : (k : ℕ) (S : Locals) (n : ℕ) (r : Reader) →
-      Post (λ ts r'. Led (argumentWords ts) [] r r' × (length ts ≡ n) × Each (LegibleTerm H k S) ts) (arguments D (term D k S) n r)
-  unfolding arguments argumentWords Each
+      Post (λ ts r'. Led (argument_words ts) [] r r' × (length ts ≡ n) × Each (LegibleTerm H k S) ts) (arguments D (term D k S) n r)
+  unfolding arguments argument_words Each
   arguments-led k S zero r = holds (led-none r, refl, tt)
   arguments-led k S (suc n) r =
       bind-post (operand-led (terms k S) (term D k S) (term-spelt k S) r) λ t r₁ (k₁, g).

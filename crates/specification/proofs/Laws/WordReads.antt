@@ -11,21 +11,21 @@ use lib.Dec.{ltb}
 use lib.Seq.{drop-append_seam}
 use borrow.Author.Tests.{lt-ltb}
 use Rattle.specification.specs.Lists.{Each}
-use Rattle.specification.specs.Bytes.{Bytes, inToken}
+use Rattle.specification.specs.Bytes.{Bytes, in_token}
 use Rattle.specification.specs.Parser.{Reader, found, Parser, give, require, and_then, ◌>>=◌, ◌>>◌, taken}
 use Rattle.specification.specs.Lines.{Declared}
-use Rattle.specification.specs.Ast.{Term, constant, scalarAt, local_at, parameter, elementAt, apply}
-use Rattle.specification.specs.Words.{Word, numberWord, word_of, number_of}
+use Rattle.specification.specs.Ast.{Term, constant, scalar_at, local_at, parameter, element_at, apply}
+use Rattle.specification.specs.Words.{Word, number_word, word_of, number_of}
 use Rattle.specification.specs.Formula.{Token, token, operand, Locals, has, binder, procedure, term, arguments}
-use Rattle.specification.specs.Text.{led, parted, wordText, termWords, argumentWords, binderWord, spelt}
+use Rattle.specification.specs.Text.{led, parted, word_text, term_words, argument_words, binder_word, spelt}
 use Rattle.specification.proofs.Laws.Contradiction.{contradiction}
 use Rattle.specification.proofs.Laws.Lists.{each-parts}
 use Rattle.specification.proofs.Laws.Canonical.{run-whole, printℕ-token}
-use Rattle.specification.proofs.Laws.Spelling.{Belongs, wordOf-text, wordText-token, spelt-number}
+use Rattle.specification.proofs.Laws.Spelling.{Belongs, word_of-text, word_text-token, spelt-number}
 use Rattle.specification.proofs.Laws.Pieces.{at, Reads, give-reads, bind-reads, then-reads, space-reads}
 use Rattle.specification.proofs.Laws.Legible.{Shape, shape_of, counts-length, Deep, LegibleTerm, added, Fresh, added-++, fresh-parts}
-use Rattle.specification.proofs.Laws.Taken.{mostTokens}
-use Rattle.specification.proofs.Laws.WordPieces.{NoToken, Fits, ledIn, led-token, led-++, led-some}
+use Rattle.specification.proofs.Laws.Taken.{most_tokens}
+use Rattle.specification.proofs.Laws.WordPieces.{NoToken, Fits, led_in, led-token, led-++, led-some}
 
 -- ---- what a reader needs, and what it has afterwards
 
@@ -48,7 +48,7 @@ module _ (D : Declared) where
   -- the edition has the words, there is room for them, and the locals have no binder
   pub record Ready (ws : List Word) (ls : List ℕ) (r : Reader) : Type 0 where
     pub fits : Each (Fits edition) ws
-    pub room : r.tokens + length ws ≤ mostTokens
+    pub room : r.tokens + length ws ≤ most_tokens
     pub fresh : Fresh r.bound ls
 
   pub ready-parts : (ws us : List Word) (ls ms : List ℕ) (r : Reader) → Ready (ws ++ us) (ls ++ ms) r →
@@ -62,7 +62,7 @@ module _ (D : Declared) where
   module _ {A : Type 0} where
     -- words are read as a, each after a space
     abbrev pub Goes : Parser A → List Word → List ℕ → A → Reader → Type 0
-    Goes q ws ls a r = Reads NoToken q (ledIn edition ws) a r (grown (length ws) ls r)
+    Goes q ws ls a r = Reads NoToken q (led_in edition ws) a r (grown (length ws) ls r)
 
     -- the first without the space
     abbrev pub Starts : Parser A → List Word → List ℕ → A → Reader → Type 0
@@ -113,28 +113,28 @@ module _ (D : Declared) where
   abbrev tok : ℕ → ℕ → Word → Token
   tok p n w = record { place = p; number = n; word = w }
 
-  token-reads : (word : Bytes → Option Word) (w : Word) (t : Bytes) → word t ≡ just w → Each (λ b. inToken b ≡ true) t →
-      (r : Reader) → r.tokens < mostTokens → (p : ℕ) (v : Bytes) → NoToken v →
+  token-reads : (word : Bytes → Option Word) (w : Word) (t : Bytes) → word t ≡ just w → Each (λ b. in_token b ≡ true) t →
+      (r : Reader) → r.tokens < most_tokens → (p : ℕ) (v : Bytes) → NoToken v →
       token word (at p (t ++ v) r) ≡ found (tok p r.tokens w) (at (p + length t) v (counted r))
   unfolding token taken
-  token-reads word w t e h r few p v n = rw (lt-ltb r.tokens mostTokens few, run-whole inToken t v h n, e, drop-append_seam t v)
+  token-reads word w t e h r few p v n = rw (lt-ltb r.tokens most_tokens few, run-whole in_token t v h n, e, drop-append_seam t v)
 
   -- and the words after it
-  token-starts : {A : Type 0} (word : Bytes → Option Word) (w : Word) → word (wordText edition w) ≡ just w →
-      Each (λ b. inToken b ≡ true) (wordText edition w) → (f : Token → Parser A) (us : List Word) (ls : List ℕ) (a : A) (r : Reader) →
-      r.tokens + length (w ∷ us) ≤ mostTokens → ((p : ℕ) → Goes (f (tok p r.tokens w)) us ls a (counted r)) →
+  token-starts : {A : Type 0} (word : Bytes → Option Word) (w : Word) → word (word_text edition w) ≡ just w →
+      Each (λ b. in_token b ≡ true) (word_text edition w) → (f : Token → Parser A) (us : List Word) (ls : List ℕ) (a : A) (r : Reader) →
+      r.tokens + length (w ∷ us) ≤ most_tokens → ((p : ℕ) → Goes (f (tok p r.tokens w)) us ls a (counted r)) →
       Starts (token word >>= f) (w ∷ us) ls a r
   unfolding parted
   token-starts word w e h f us ls a r room k = record {
     is = λ p v n.
-        let t = wordText edition w in
-        let few : r.tokens < mostTokens = omega (arith, room) in
+        let t = word_text edition w in
+        let few : r.tokens < most_tokens = omega (arith, room) in
         let read =
-        ap (λ (b : Bytes). token word (at p b r)) (append_assoc t (ledIn edition us) v)
-        ∙ token-reads word w t e h r few p (ledIn edition us ++ v) (led-token edition us v n) in
+        ap (λ (b : Bytes). token word (at p b r)) (append_assoc t (led_in edition us) v)
+        ∙ token-reads word w t e h r few p (led_in edition us ++ v) (led-token edition us v n) in
         ap (and_then f) read ∙ (k p).is (p + length t) v n
-        ∙ ap (λ (m : ℕ). found a (at m v (grown (length us) ls (counted r)))) (omega (arith, length-append t (ledIn edition us)))
-        ∙ ap (λ (m : ℕ). found a (at (p + length (t ++ ledIn edition us)) v (having m (added ls r.bound) r))) (omega arith);
+        ∙ ap (λ (m : ℕ). found a (at m v (grown (length us) ls (counted r)))) (omega (arith, length-append t (led_in edition us)))
+        ∙ ap (λ (m : ℕ). found a (at (p + length (t ++ led_in edition us)) v (having m (added ls r.bound) r))) (omega arith);
   }
 
   -- a word of the set
@@ -144,7 +144,7 @@ module _ (D : Declared) where
       Starts (token (word_of edition) >>= f) (w ∷ us) ls a r
   unfolding Each
   word-starts w belongs f us ls a r h k =
-      token-starts (word_of edition) w (wordOf-text edition w (belongs h.fits.0)) (wordText-token edition w) f us ls a r h.room
+      token-starts (word_of edition) w (word_of-text edition w (belongs h.fits.0)) (word_text-token edition w) f us ls a r h.room
       (k (record { fits = h.fits.1; room = omega (arith, h.room); fresh = h.fresh }))
 
   -- ---- terms
@@ -152,82 +152,82 @@ module _ (D : Declared) where
   abbrev H : Shape
   H = shape_of D
 
-  term-some : (t : Term) → ¬ (termWords t ≡ [])
-  unfolding termWords
+  term-some : (t : Term) → ¬ (term_words t ≡ [])
+  unfolding term_words
   term-some (constant z) e = contradiction cc
-  term-some (scalarAt n) e = contradiction cc
+  term-some (scalar_at n) e = contradiction cc
   term-some (local_at l) e = contradiction cc
   term-some (parameter n) e = contradiction cc
-  term-some (elementAt a t) e = contradiction cc
+  term-some (element_at a t) e = contradiction cc
   term-some (apply o s t) e = contradiction cc
 
   -- each term of its words
   abbrev pub TermReads : ℕ → Locals → Type 0
-  TermReads k S = (t : Term) (r : Reader) → LegibleTerm H k S t → Ready (termWords t) [] r → Starts (term D k S) (termWords t) [] t r
+  TermReads k S = (t : Term) (r : Reader) → LegibleTerm H k S t → Ready (term_words t) [] r → Starts (term D k S) (term_words t) [] t r
 
   module _ (k : ℕ) (S : Locals) (T : TermReads k S) where
-    pub one-term : (t : Term) (r : Reader) → LegibleTerm H k S t → Ready (termWords t) [] r → Goes (operand (term D k S)) (termWords t) [] t r
-    one-term t r h k = operand-goes _ (termWords t) [] t r (term-some t) (T t r h k)
+    pub one-term : (t : Term) (r : Reader) → LegibleTerm H k S t → Ready (term_words t) [] r → Goes (operand (term D k S)) (term_words t) [] t r
+    one-term t r h k = operand-goes _ (term_words t) [] t r (term-some t) (T t r h k)
 
     -- two terms, and what is made of them
     pub two-terms : {A : Type 0} (g : Term → Term → A) (s t : Term) (r : Reader) → LegibleTerm H k S s → LegibleTerm H k S t →
-        Ready (termWords s ++ termWords t) [] r →
-        Goes (operand (term D k S) >>= λ x. operand (term D k S) >>= λ y. give (g x y)) (termWords s ++ termWords t) [] (g s t) r
+        Ready (term_words s ++ term_words t) [] r →
+        Goes (operand (term D k S) >>= λ x. operand (term D k S) >>= λ y. give (g x y)) (term_words s ++ term_words t) [] (g s t) r
     two-terms g s t r hs ht ready =
-        let (x, y) = ready-parts (termWords s) (termWords t) [] [] r ready in
-        both _ _ (termWords s) (termWords t) [] [] s (g s t) r (one-term s r hs x) (into (g s) (one-term t _ ht y))
+        let (x, y) = ready-parts (term_words s) (term_words t) [] [] r ready in
+        both _ _ (term_words s) (term_words t) [] [] s (g s t) r (one-term s r hs x) (into (g s) (one-term t _ ht y))
 
-    term_of : (t : Term) (r : Reader) → LegibleTerm H (suc k) S t → Ready (termWords t) [] r → Starts (term D (suc k) S) (termWords t) [] t r
-    unfolding term termWords LegibleTerm
-    term_of (constant z) r h ready = word-starts _ (λ b. b) _ [] [] (constant z) r ready λ ok p. none-goes (constant z) (counted r)
-    term_of (scalarAt n) r h ready =
-        word-starts _ (λ b. b) _ [] [] (scalarAt n) r ready λ ok p. required (ltb n D.scalars) 7 p h (none-goes (scalarAt n) (counted r))
-    term_of (local_at l) r h ready =
+    term-of : (t : Term) (r : Reader) → LegibleTerm H (suc k) S t → Ready (term_words t) [] r → Starts (term D (suc k) S) (term_words t) [] t r
+    unfolding term term_words LegibleTerm
+    term-of (constant z) r h ready = word-starts _ (λ b. b) _ [] [] (constant z) r ready λ ok p. none-goes (constant z) (counted r)
+    term-of (scalar_at n) r h ready =
+        word-starts _ (λ b. b) _ [] [] (scalar_at n) r ready λ ok p. required (ltb n D.scalars) 7 p h (none-goes (scalar_at n) (counted r))
+    term-of (local_at l) r h ready =
         word-starts _ (λ b. b) _ [] [] (local_at l) r ready λ ok p.
         required (ltb l D.locals) 7 p h.0 (required (has l S) 8 p h.1 (none-goes (local_at l) (counted r)))
-    term_of (parameter n) r h ready =
+    term-of (parameter n) r h ready =
         word-starts _ (λ b. b) _ [] [] (parameter n) r ready λ ok p. required (ltb n D.parameters) 12 p h (none-goes (parameter n) (counted r))
-    term_of (elementAt a t) r h ready =
-        word-starts _ (λ b. b) _ (termWords t) [] (elementAt a t) r ready λ ok p.
-        required (ltb a (length D.arrays)) 7 p h.0 (into (elementAt a) (one-term t (counted r) h.1 ok))
-    term_of (apply o s t) r h ready =
-        word-starts _ (λ b. b) _ (termWords s ++ termWords t) [] (apply o s t) r ready λ ok p.
+    term-of (element_at a t) r h ready =
+        word-starts _ (λ b. b) _ (term_words t) [] (element_at a t) r ready λ ok p.
+        required (ltb a (length D.arrays)) 7 p h.0 (into (element_at a) (one-term t (counted r) h.1 ok))
+    term-of (apply o s t) r h ready =
+        word-starts _ (λ b. b) _ (term_words s ++ term_words t) [] (apply o s t) r ready λ ok p.
         two-terms (apply o) s t (counted r) h.0 h.1 ok
 
   pub term-starts : (k : ℕ) (S : Locals) → TermReads k S
   unfolding LegibleTerm
   term-starts zero S t r h ready = absurd h
-  term-starts (suc k) S t r h ready = term_of k S (term-starts k S) t r h ready
+  term-starts (suc k) S t r h ready = term-of k S (term-starts k S) t r h ready
 
   -- ---- binders, the procedure of a call, and its arguments
 
-  pub binder-goes : (k l : ℕ) (r : Reader) → Deep k → ltb l D.locals ≡ true → Ready (binderWord l ∷ []) (l ∷ []) r →
-      Goes (operand (binder D k)) (binderWord l ∷ []) (l ∷ []) l r
+  pub binder-goes : (k l : ℕ) (r : Reader) → Deep k → ltb l D.locals ≡ true → Ready (binder_word l ∷ []) (l ∷ []) r →
+      Goes (operand (binder D k)) (binder_word l ∷ []) (l ∷ []) l r
   unfolding binder led added Fresh
   binder-goes zero l r d e ready = absurd d
   binder-goes (suc k) l r d e ready =
-      operand-goes _ (binderWord l ∷ []) (l ∷ []) l r (λ f. contradiction cc)
-      (word-starts (binderWord l) (λ b. b) _ [] (l ∷ []) l r ready λ ok p.
+      operand-goes _ (binder_word l ∷ []) (l ∷ []) l r (λ f. contradiction cc)
+      (word-starts (binder_word l) (λ b. b) _ [] (l ∷ []) l r ready λ ok p.
       required (ltb l D.locals) 7 p e (record {
         is = λ m w n.
             rw ready.fresh.0 (ap (λ (x : ℕ). found l (at x w (having (suc r.tokens) (l ∷ r.bound) r))) (omega arith)
             ∙ ap (λ (x : ℕ). found l (at (m + 0) w (having x (l ∷ r.bound) r))) (omega arith));
       }))
 
-  pub procedure-goes : (k K : ℕ) (r : Reader) → Deep k → ltb K (length H.called) ≡ true → r.tokens + 1 ≤ mostTokens →
-      Goes (operand (procedure D k)) (numberWord K ∷ []) [] K r
-  unfolding procedure wordText
+  pub procedure-goes : (k K : ℕ) (r : Reader) → Deep k → ltb K (length H.called) ≡ true → r.tokens + 1 ≤ most_tokens →
+      Goes (operand (procedure D k)) (number_word K ∷ []) [] K r
+  unfolding procedure word_text
   procedure-goes zero K r d e room = absurd d
   procedure-goes (suc k) K r d e room =
-      operand-goes _ (numberWord K ∷ []) [] K r (λ f. contradiction cc)
-      (token-starts number_of (numberWord K) (spelt-number K) (printℕ-token K) _ [] [] K r room λ p.
+      operand-goes _ (number_word K ∷ []) [] K r (λ f. contradiction cc)
+      (token-starts number_of (number_word K) (spelt-number K) (printℕ-token K) _ [] [] K r room λ p.
       required (ltb K (length D.procedures)) 11 p (ap (ltb K) (sym (counts-length D.procedures)) ∙ e) (none-goes K (counted r)))
 
-  pub arguments-goes : (k : ℕ) (S : Locals) (ts : List Term) (r : Reader) → Each (LegibleTerm H k S) ts → Ready (argumentWords ts) [] r →
-      Goes (arguments D (term D k S) (length ts)) (argumentWords ts) [] ts r
-  unfolding arguments argumentWords Each
+  pub arguments-goes : (k : ℕ) (S : Locals) (ts : List Term) (r : Reader) → Each (LegibleTerm H k S) ts → Ready (argument_words ts) [] r →
+      Goes (arguments D (term D k S) (length ts)) (argument_words ts) [] ts r
+  unfolding arguments argument_words Each
   arguments-goes k S [] r h ready = none-goes [] r
   arguments-goes k S (t ∷ ts) r h ready =
-      let (x, y) = ready-parts (termWords t) (argumentWords ts) [] [] r ready in
-      both _ _ (termWords t) (argumentWords ts) [] [] t (t ∷ ts) r (one-term k S (term-starts k S) t r h.0 x)
+      let (x, y) = ready-parts (term_words t) (argument_words ts) [] [] r ready in
+      both _ _ (term_words t) (argument_words ts) [] [] t (t ∷ ts) r (one-term k S (term-starts k S) t r h.0 x)
       (into (λ (us : List Term). t ∷ us) (arguments-goes k S ts _ h.1 y))

@@ -18,12 +18,12 @@ zero-div : (l : ℕ) → 0 / 2 ^ l ≡ 0
 zero-div zero = refl
 zero-div (suc l) = half 0 l ∙ zero-div l
 
-abbrev toBit : Bool → ℕ
-toBit true = 1
-toBit false = 0
+abbrev to_bit : Bool → ℕ
+to_bit true = 1
+to_bit false = 0
 
 -- a single local has one bit
-single : (k l : ℕ) → 2 ^ k / 2 ^ l % 2 ≡ toBit (eqb l k)
+single : (k l : ℕ) → 2 ^ k / 2 ^ l % 2 ≡ to_bit (eqb l k)
 single zero zero = refl
 single zero (suc l) = rw (eqb-suc-zero, half 1 l) (ap (λ (x : ℕ). x % 2) (zero-div l))
 single (suc k) zero =
@@ -31,18 +31,18 @@ single (suc k) zero =
     rw (eqb-zero-suc, h) (ap (λ (x : ℕ). x % 2) (sym (one-mul (2 ^ suc k))) ∙ shifted_even 1 k)
 single (suc k) (suc l) = rw (eqb-suc-suc, half (2 ^ suc k) l, double k) (single k l)
 
-joined : (x : ℕ) (t : Bool) → x < 2 → eqb (bit_or x (toBit t)) 1 ≡ (t || eqb x 1)
+joined : (x : ℕ) (t : Bool) → x < 2 → eqb (bit_or x (to_bit t)) 1 ≡ (t || eqb x 1)
 joined zero true h = refl
 joined zero false h = refl
 joined (suc zero) true h = refl
 joined (suc zero) false h = refl
 joined (suc (suc x)) t h = absurd (omega arith)
 
-pub inSet-none : (l : ℕ) → in_set 0 l ≡ false
+pub in_set-none : (l : ℕ) → in_set 0 l ≡ false
 unfolding in_set
-inSet-none l = ap (λ (x : ℕ). eqb (x % 2) 1) (zero-div l)
+in_set-none l = ap (λ (x : ℕ). eqb (x % 2) 1) (zero-div l)
 
-pub inSet-with : (m k l : ℕ) → in_set (bit_or m (2 ^ k)) l ≡ (eqb l k || in_set m l)
+pub in_set-with : (m k l : ℕ) → in_set (bit_or m (2 ^ k)) l ≡ (eqb l k || in_set m l)
 unfolding in_set
-inSet-with m k l =
+in_set-with m k l =
     rw (or_shr m (2 ^ k) l, or_mod (m / 2 ^ l) (2 ^ k / 2 ^ l) 1, single k l) (joined (m / 2 ^ l % 2) (eqb l k) (mod-lt (m / 2 ^ l) (omega arith)))

@@ -5,13 +5,13 @@ use mathlib.Core.List.{List, [], ◌∷◌}
 use lib.ListN.{length, get_or, drop}
 use Rattle.specification.specs.Lines.{Declared}
 use Rattle.specification.specs.Ast.{Term, parameter}
-use Rattle.specification.specs.Fill.{fillTerm, fillTerms}
+use Rattle.specification.specs.Fill.{fill_term, fill_terms}
 use Rattle.specification.specs.WellFormed.{OkTerm}
 use Rattle.specification.proofs.Laws.Fill.{length-fill, fill-at, each_at}
-use Rattle.tables.specs.Layout.{maxNesting}
+use Rattle.tables.specs.Layout.{max_nesting}
 use Rattle.sheet.specs.Tables.{Words}
 use Rattle.sheet.specs.Held.{end_at, TermAt, ArgumentsAt, height}
-use Rattle.terms.specs.Environment.{Environment, termsOf, Arguments}
+use Rattle.terms.specs.Environment.{Environment, terms_of, Arguments}
 use Rattle.terms.proofs.Laws.Here.{Ends, term-ends}
 
 module _ (w : Words) where
@@ -47,10 +47,10 @@ module _ (w : Words) where
 -- ---- each can be valued
 
 module _ {D : Declared} {E : Environment} {ts : List Term} (a : Arguments D E ts) (n : ℕ) (inside : n < length ts) where
-  pub argument-ok : OkTerm D a.scope (fillTerm (termsOf E) (get_or ts n (parameter n)))
+  pub argument-ok : OkTerm D a.scope (fill_term (terms_of E) (get_or ts n (parameter n)))
   argument-ok =
-      rw (fill-at (termsOf E) ts n (parameter n) (parameter n) inside) at
-      (each_at (OkTerm D a.scope) (fillTerms (termsOf E) ts) n (parameter n) (omega (arith, length-fill (termsOf E) ts)) a.ok)
+      rw (fill-at (terms_of E) ts n (parameter n) (parameter n) inside) at
+      (each_at (OkTerm D a.scope) (fill_terms (terms_of E) ts) n (parameter n) (omega (arith, length-fill (terms_of E) ts)) a.ok)
 
-  pub argument-low : height (get_or ts n (parameter n)) ≤ maxNesting
-  argument-low = each_at (λ t. height t ≤ maxNesting) ts n (parameter n) inside a.low
+  pub argument-low : height (get_or ts n (parameter n)) ≤ max_nesting
+  argument-low = each_at (λ t. height t ≤ max_nesting) ts n (parameter n) inside a.low

@@ -7,10 +7,10 @@ use mathlib.Core.List.{[], ◌∷◌}
 use lib.ListN.{length, get_or, drop}
 use lib.Seq.{drop-cons}
 use Rattle.specification.specs.Lines.{Declared}
-use Rattle.tables.specs.Layout.{Words, pathAt, maxProcs, tokenSlot, plan_at}
+use Rattle.tables.specs.Layout.{Words, path_at, max_procs, token_slot, plan_at}
 use Rattle.tables.specs.Frames.{call_at}
-use Rattle.terms.specs.Environment.{Level, Environment, pointerOf, LevelAt, EnvAt}
-use Rattle.terms.specs.Calls.{Settles, Active, number_at, aroundAt, Counted, Outward, Reached}
+use Rattle.terms.specs.Environment.{Level, Environment, pointer_of, LevelAt, EnvAt}
+use Rattle.terms.specs.Calls.{Settles, Active, number_at, around_at, Counted, Outward, Reached}
 use Rattle.terms.proofs.Laws.Here.{token-ends}
 use Rattle.terms.proofs.Laws.Environment.{env-few, number-low}
 
@@ -20,14 +20,14 @@ pub number_is : {D : Declared} {w : Words} {L : Level} {E : Environment} (p : �
     number_at w p ≡ suc v.token
 number_is {w = w} {L = L} p v e =
     let number : p - 1 ≡ L.number = omega arith in
-    let place : call_at w (p - 1) ≡ tokenSlot v.token = rw number v.place in
+    let place : call_at w (p - 1) ≡ token_slot v.token = rw number v.place in
     omega (arith, place)
 
 pub around-is : {D : Declared} {w : Words} {L : Level} {E : Environment} (p : ℕ) → LevelAt D w L E → p ≡ suc L.number →
-    aroundAt w p ≡ pointerOf E
+    around_at w p ≡ pointer_of E
 around-is {w = w} p v e = ap (λ (i : ℕ). plan_at w i) (number_is p v e) ∙ v.calls.around
 
-pub active-of : (D : Declared) (w : Words) (L : Level) (E : Environment) (p : ℕ) → EnvAt D w (L ∷ E) → p ≡ suc L.number → pathAt ≤ length w →
+pub active-of : (D : Declared) (w : Words) (L : Level) (E : Environment) (p : ℕ) → EnvAt D w (L ∷ E) → p ≡ suc L.number → path_at ≤ length w →
     Active w p
 active-of D w L E p h e size =
     let low = number-low D w L E h in
@@ -52,49 +52,49 @@ none_left [] (suc n) l = refl
 none_left (L ∷ E) zero l = absurd (omega arith)
 none_left (L ∷ E) (suc n) l = none_left E n (omega arith)
 
-some_left : (E : Environment) (n : ℕ) → (pointerOf (drop n E) ≡ 0 → ⊥) → n < length E
+some_left : (E : Environment) (n : ℕ) → (pointer_of (drop n E) ≡ 0 → ⊥) → n < length E
 some_left [] zero d = absurd (d refl)
 some_left [] (suc n) d = absurd (d refl)
 some_left (L ∷ E) zero d = omega arith
 some_left (L ∷ E) (suc n) d = omega (arith, some_left E n d)
 
-all-passed : (E : Environment) (n : ℕ) → pointerOf (drop n E) ≡ 0 → length E ≤ n
+all-passed : (E : Environment) (n : ℕ) → pointer_of (drop n E) ≡ 0 → length E ≤ n
 all-passed [] n e = omega arith
 all-passed (L ∷ E) zero e = absurd (omega arith)
 all-passed (L ∷ E) (suc n) e = omega (arith, all-passed E n e)
 
 -- no call
-abbrev noLevel : Level
-noLevel = record { number = 0; arguments = []; terms = [] }
+abbrev no_level : Level
+no_level = record { number = 0; arguments = []; terms = [] }
 
 -- the call after the first n
-abbrev pub levelAt : Environment → ℕ → Level
-levelAt E n = get_or E n noLevel
+abbrev pub level_at : Environment → ℕ → Level
+level_at E n = get_or E n no_level
 
-pub split : (E : Environment) (n : ℕ) → n < length E → drop n E ≡ levelAt E n ∷ drop (suc n) E
-split E n h = drop-cons E n noLevel h
+pub split : (E : Environment) (n : ℕ) → n < length E → drop n E ≡ level_at E n ∷ drop (suc n) E
+split E n h = drop-cons E n no_level h
 
-module _ (D : Declared) (w : Words) (E : Environment) (n q : ℕ) (h : EnvAt D w E) (l : n < length E) (e : q ≡ pointerOf (drop n E)) where
-  here : EnvAt D w (levelAt E n ∷ drop (suc n) E)
+module _ (D : Declared) (w : Words) (E : Environment) (n q : ℕ) (h : EnvAt D w E) (l : n < length E) (e : q ≡ pointer_of (drop n E)) where
+  here : EnvAt D w (level_at E n ∷ drop (suc n) E)
   here = subst (EnvAt D w) (split E n l) (env-drop D w E n h)
 
-  pointed : q ≡ suc (levelAt E n).number
-  pointed = e ∙ ap pointerOf (split E n l)
+  pointed : q ≡ suc (level_at E n).number
+  pointed = e ∙ ap pointer_of (split E n l)
 
-  out-active : pathAt ≤ length w → Active w q
-  out-active = active-of D w (levelAt E n) (drop (suc n) E) q here pointed
+  out-active : path_at ≤ length w → Active w q
+  out-active = active-of D w (level_at E n) (drop (suc n) E) q here pointed
 
-  out-next : aroundAt w q ≡ pointerOf (drop (suc n) E)
+  out-next : around_at w q ≡ pointer_of (drop (suc n) E)
   out-next = around-is q here.0 pointed
 
-pub calls-few : {w : Words} {p : ℕ} (a : Settles w p) → length a.environment ≤ maxProcs
+pub calls-few : {w : Words} {p : ℕ} (a : Settles w p) → length a.environment ≤ max_procs
 calls-few {w} a = omega (arith, env-few a.declared w a.environment a.memory.environment)
 
 -- ---- how many they are
 
 -- n calls are passed, and q points to the next
 pub record Passing (w : Words) (p n q : ℕ) : Type 0 where
-  pub each : (D : Declared) (E : Environment) → EnvAt D w E → p ≡ pointerOf E → (n ≤ length E) × (q ≡ pointerOf (drop n E))
+  pub each : (D : Declared) (E : Environment) → EnvAt D w E → p ≡ pointer_of E → (n ≤ length E) × (q ≡ pointer_of (drop n E))
 
 pub passing-start : (w : Words) (p : ℕ) → Passing w p 0 p
 passing-start w p = record { each = λ D E h e. (omega arith, e) }
@@ -105,7 +105,7 @@ passing-end {n = n} g z D E h e =
     omega (arith, r.0, all-passed E n (sym r.1 ∙ z))
 
 module _ {w : Words} {p n q : ℕ} (g : Passing w p n q) (some : q ≡ 0 → ⊥) where
-  passing-more : (D : Declared) (E : Environment) → EnvAt D w E → p ≡ pointerOf E → n < length E
+  passing-more : (D : Declared) (E : Environment) → EnvAt D w E → p ≡ pointer_of E → n < length E
   passing-more D E h e = some_left E n (λ z. some ((g.each D E h e).1 ∙ z))
 
   pub passing-asks : Settles w p → Active w q
@@ -115,12 +115,12 @@ module _ {w : Words} {p n q : ℕ} (g : Passing w p n q) (some : q ≡ 0 → ⊥
       out-active a.declared w E n q m.environment (passing-more a.declared E m.environment m.pointer)
       (g.each a.declared E m.environment m.pointer).1 m.size
 
-  pub passing-few : Settles w p → n < maxProcs
+  pub passing-few : Settles w p → n < max_procs
   passing-few a =
       let m = a.memory in
       omega (arith, passing-more a.declared a.environment m.environment m.pointer, calls-few a)
 
-  pub passing-next : {r : ℕ} → r ≡ aroundAt w q → Passing w p (n + 1) r
+  pub passing-next : {r : ℕ} → r ≡ around_at w q → Passing w p (n + 1) r
   passing-next {r} is =
       record {
         each = λ D E h e.
@@ -142,8 +142,8 @@ module _ (w : Words) (p : ℕ) {n q j : ℕ} (g : Reached w p n q) (less : n < j
       out-active s.declared w E n q m.environment (omega (arith, a.within))
       (g s.declared E m.environment m.pointer (omega (arith, a.within))) m.size
 
-  pub outward-few : Outward w p j → n < maxProcs
+  pub outward-few : Outward w p j → n < max_procs
   outward-few a = omega (arith, a.within, calls-few a.settles)
 
-  pub outward-next : {r : ℕ} → r ≡ aroundAt w q → Reached w p (n + 1) r
+  pub outward-next : {r : ℕ} → r ≡ around_at w q → Reached w p (n + 1) r
   outward-next {r} is D E h e l = rw add-one (is ∙ out-next D w E n q h (omega arith) (g D E h e (omega arith)))

@@ -12,19 +12,19 @@ use lib.ListN.{length, get_or, drop}
 use lib.Bits.{bit_or}
 use Rattle.specification.specs.Lines.{Declared}
 use Rattle.specification.specs.Ast.{Term, parameter}
-use Rattle.specification.specs.Fill.{fillTerm}
+use Rattle.specification.specs.Fill.{fill_term}
 use Rattle.specification.specs.Value.{Valuation, Side, side}
 use Rattle.specification.proofs.Laws.Contradiction.{contradiction}
-use Rattle.tables.specs.Layout.{duesAt, opens_at, pathAt, maxParameters, maxProcs, maxTokens}
-use Rattle.tables.specs.Frames.{argumentSlot}
+use Rattle.tables.specs.Layout.{dues_at, opens_at, path_at, max_parameters, max_procs, max_tokens}
+use Rattle.tables.specs.Frames.{argument_slot}
 use Rattle.tables.specs.Kept.{SameTokens}
 use Rattle.tables.specs.Locals.{in_set}
-use Rattle.tables.proofs.Laws.Locals.{inSet-none, inSet-with}
+use Rattle.tables.proofs.Laws.Locals.{in_set-none, in_set-with}
 use Rattle.sheet.specs.Tables.{Words}
 use Rattle.sheet.specs.Held.{end_at, TermAt, ArgumentsAt}
 use Rattle.plan.specs.Planned.{ArgumentPlanned, ArgumentsPlanned}
 use Rattle.plan.proofs.Laws.Carried.{arguments-planned-same}
-use Rattle.terms.specs.Environment.{Environment, termsOf, number_of}
+use Rattle.terms.specs.Environment.{Environment, terms_of, number_of}
 use Rattle.terms.specs.Results.{Upto}
 use Rattle.terms.specs.Calls.{Call, Fresh, Tells, Arrives, Arrived}
 use Rattle.terms.specs.Arguments.{Says, Bound, Stands, Gives, Argues, noted}
@@ -43,14 +43,14 @@ noted-with set n {b = false} e q = q
 module _ (set n : ℕ) where
   noted_other : (b : Bool) (m : ℕ) → (m ≡ n → ⊥) → in_set (noted set n b) m ≡ in_set set m
   noted_other true m d = refl
-  noted_other false m d = rw (inSet-with set n m, ne_eqb m n d) refl
+  noted_other false m d = rw (in_set-with set n m, ne_eqb m n d) refl
 
   noted_here : in_set set n ≡ false → (b : Bool) → in_set (noted set n b) n ≡ not b
   noted_here e true = e
-  noted_here e false = rw (inSet-with set n n, eq-eqb n n refl) refl
+  noted_here e false = rw (in_set-with set n n, eq-eqb n n refl) refl
 
 -- what the slot says, the set says
-tells-here : {w : Words} {K set n : ℕ} {x : Side} (b : Bool) → in_set set n ≡ not b → Says w (argumentSlot K n) b x → Tells w K set n x
+tells-here : {w : Words} {K set n : ℕ} {x : Side} (b : Bool) → in_set set n ≡ not b → Says w (argument_slot K n) b x → Tells w K set n x
 tells-here true e s =
     record { value = λ a. sym s.told; other = λ a. contradiction (cc); flag = rw e s.flag; word = s.word }
 tells-here false e s =
@@ -58,7 +58,7 @@ tells-here false e s =
 
 -- and it stays where the slot and the set do
 tells-same : {w w' : Words} {K set set' n : ℕ} {x : Side} → in_set set' n ≡ in_set set n →
-    get_or w' (argumentSlot K n) 0 ≡ get_or w (argumentSlot K n) 0 → get_or w' (argumentSlot K n + 1) 0 ≡ get_or w (argumentSlot K n + 1) 0 →
+    get_or w' (argument_slot K n) 0 ≡ get_or w (argument_slot K n) 0 → get_or w' (argument_slot K n + 1) 0 ≡ get_or w (argument_slot K n + 1) 0 →
     Tells w K set n x → Tells w' K set' n x
 tells-same e f g t =
     record {
@@ -80,9 +80,9 @@ next-planned w K (t ∷ ts) (suc n) k i e h l p = next-planned w K ts n k i e h 
 argument-planned-here : (w w' : Words) → SameTokens w w' → (K : ℕ) (t : Term) (i : ℕ) → TermAt w i t → ArgumentPlanned w K i t →
     ArgumentPlanned w' K i t
 argument-planned-here w w' same K t i q p =
-    (arguments-planned-same w w' maxTokens (λ k h. same k (omega arith)) K (t ∷ []) i (end_at w i) (q, refl) (term-ends w i t q).inside (p, tt)).0
+    (arguments-planned-same w w' max_tokens (λ k h. same k (omega arith)) K (t ∷ []) i (end_at w i) (q, refl) (term-ends w i t q).inside (p, tt)).0
 
-number-few : {w : Words} {h K p : ℕ} {D : Declared} {α : Valuation} {E : Environment} {ts : List Term} → Call w h K p D α E ts → K < maxProcs
+number-few : {w : Words} {h K p : ℕ} {D : Declared} {α : Valuation} {E : Environment} {ts : List Term} → Call w h K p D α E ts → K < max_procs
 number-few {w} {D = D} {E = E} c = omega (arith, c.earlier, env-few D w E c.memory.environment)
 
 -- ---- the loop
@@ -91,13 +91,13 @@ number-few {w} {D = D} {E = E} c = omega (arith, c.earlier, env-few D w E c.memo
 pub record Fills (w₀ w : Words) (h K i n set : ℕ) (D : Declared) (α : Valuation) (E : Environment) (ts : List Term) : Type 0 where
   pub rest : ArgumentsAt w₀ i (end_at w₀ (suc h)) (drop n ts)
   pub planned : ArgumentsPlanned w₀ (number_of E) i (drop n ts)
-  pub each : (m : ℕ) → m < n → Tells w K set m (side D α (fillTerm (termsOf E) (get_or ts m (parameter m))))
+  pub each : (m : ℕ) → m < n → Tells w K set m (side D α (fill_term (terms_of E) (get_or ts m (parameter m))))
   pub later : (m : ℕ) → n ≤ m → in_set set m ≡ false
 
 -- all words but those of the stack and of the slots of procedure K
 abbrev KeptSlots : ℕ → Words → Words → Type 0
 KeptSlots K w w' =
-    (j : ℕ) → (j < duesAt) ⊎ (opens_at ≤ j) → (j < argumentSlot K 0) ⊎ (argumentSlot K maxParameters ≤ j) → get_or w' j 0 ≡ get_or w j 0
+    (j : ℕ) → (j < dues_at) ⊎ (opens_at ≤ j) → (j < argument_slot K 0) ⊎ (argument_slot K max_parameters ≤ j) → get_or w' j 0 ≡ get_or w j 0
 
 pub record Filling (w₀ w : Words) (h K p to i n set : ℕ) : Type 0 where
   pub end : to ≡ end_at w₀ (suc h)
@@ -117,12 +117,12 @@ filling-start w h K p to e =
             rest = c.call.arguments;
             planned = c.planned;
             each = λ m l. absurd (omega arith);
-            later = λ m l. inSet-none m;
+            later = λ m l. in_set-none m;
           };
     }
 
 module _ {w₀ w : Words} {h K p to i n set : ℕ} (filling : Filling w₀ w h K p to i n set) where
-  low : Upto duesAt w₀ w
+  low : Upto dues_at w₀ w
   low j l = filling.kept j (inl l) (inl (omega arith))
 
   pub filling-end : to ≤ i → Arrived w₀ w h K p set
@@ -150,10 +150,10 @@ module _ {w₀ w : Words} {h K p to i n set : ℕ} (filling : Filling w₀ w h K
       plans : ArgumentPlanned w₀ (number_of E) i (get_or ts n (parameter n)) × ArgumentsPlanned w₀ (number_of E) (end_at w₀ i) (drop (suc n) ts)
       plans = next-planned w₀ (number_of E) ts n n i (end_at w₀ (suc h)) state.rest more state.planned
 
-      token : i < maxTokens
+      token : i < max_tokens
       token = omega (arith, next.ends.after, next.ends.inside)
 
-      few : n < maxParameters
+      few : n < max_parameters
       few = omega (arith, next.inside, c.arguments.few)
 
       -- the frames of E are after that of K
@@ -177,22 +177,22 @@ module _ {w₀ w : Words} {h K p to i n set : ℕ} (filling : Filling w₀ w h K
           }
 
     module _ (a : Arrives w₀ h K p) where
-      pub filling-few : n < maxParameters
+      pub filling-few : n < max_parameters
       filling-few = few a.call a.fresh
 
-      pub filling-token : (i < maxTokens) × (i < end_at w i)
+      pub filling-token : (i < max_tokens) × (i < end_at w i)
       filling-token =
           let there = token a.call a.fresh in
           (there, rw (end-here w₀ w (tokens-low w₀ w low) there) (next a.call a.fresh).ends.after)
 
-      module _ {e slot : ℕ} (end : e ≡ end_at w i) (place : slot ≡ argumentSlot K n) where
+      module _ {e slot : ℕ} (end : e ≡ end_at w i) (place : slot ≡ argument_slot K n) where
         pub filling-argues : Argues w slot i e p
         filling-argues =
             let D = a.declared in
             let E = a.environment in
             let t = get_or a.arguments n (parameter n) in
             record {
-              side = side D a.valuation (fillTerm (termsOf E) t);
+              side = side D a.valuation (fill_term (terms_of E) t);
               gives =
                   record {
                     declared = D;
@@ -208,14 +208,14 @@ module _ {w₀ w : Words} {h K p to i n set : ℕ} (filling : Filling w₀ w h K
         module _ {w' : Words} {b : Bool} {tags : ℕ} (bound : Bound w w' slot b (Gives w i e p)) (is : tags ≡ noted set n b) where
           -- what each of the first n + 1 is
           module _ {D : Declared} {α : Valuation} {E : Environment} {ts : List Term} (c : Call w₀ h K p D α E ts) (fresh : Fresh w₀ D α E) where
-            abbrev sideAt : ℕ → Side
-            sideAt m = side D α (fillTerm (termsOf E) (get_or ts m (parameter m)))
+            abbrev side_at : ℕ → Side
+            side_at m = side D α (fill_term (terms_of E) (get_or ts m (parameter m)))
 
-            here : Tells w' K tags n (sideAt n)
+            here : Tells w' K tags n (side_at n)
             here =
                 tells-here b (rw is (noted_here set n ((state c fresh).later n (omega arith)) b))
                 (rw place at
-                (bound.says (sideAt n)
+                (bound.says (side_at n)
                 (record {
                   declared = D;
                   valuation = α;
@@ -225,13 +225,13 @@ module _ {w₀ w : Words} {h K p to i n set : ℕ} (filling : Filling w₀ w h K
                   is = refl;
                 })))
 
-            each : (m : ℕ) → m < n + 1 → Tells w' K tags m (sideAt m)
+            each : (m : ℕ) → m < n + 1 → Tells w' K tags m (side_at m)
             each =
-                below_more (λ (m : ℕ). Tells w' K tags m (sideAt m)) n
+                below_more (λ (m : ℕ). Tells w' K tags m (side_at m)) n
                 (λ m l.
                 tells-same (rw is (noted_other set n b m (λ y. omega arith)))
-                (bound.kept (argumentSlot K m) (inr (omega arith)) (inl (omega (arith, place))))
-                (bound.kept (argumentSlot K m + 1) (inr (omega arith)) (inl (omega (arith, place)))) ((state c fresh).each m l)) here
+                (bound.kept (argument_slot K m) (inr (omega arith)) (inl (omega (arith, place))))
+                (bound.kept (argument_slot K m + 1) (inr (omega arith)) (inl (omega (arith, place)))) ((state c fresh).each m l)) here
 
           pub filling-next : Filling w₀ w' h K p to e (n + 1) tags
           filling-next =
@@ -249,11 +249,11 @@ module _ {w₀ w : Words} {h K p to i n set : ℕ} (filling : Filling w₀ w h K
                     };
               }
             where
-              apart : (j : ℕ) → (j < argumentSlot K 0) ⊎ (argumentSlot K maxParameters ≤ j) → (j < slot) ⊎ (slot + 2 ≤ j)
+              apart : (j : ℕ) → (j < argument_slot K 0) ⊎ (argument_slot K max_parameters ≤ j) → (j < slot) ⊎ (slot + 2 ≤ j)
               apart j (inl l) = inl (omega (arith, place))
               apart j (inr l) = inr (omega (arith, place, filling-few))
 
-pub arrives-inside : {w : Words} {h K p : ℕ} → Arrives w h K p → (suc h < maxTokens) × (pathAt ≤ length w) × (K < maxProcs)
+pub arrives-inside : {w : Words} {h K p : ℕ} → Arrives w h K p → (suc h < max_tokens) × (path_at ≤ length w) × (K < max_procs)
 arrives-inside a =
     let c = a.call in
     let ends = token-ends c.call.token in

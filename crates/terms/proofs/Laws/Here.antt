@@ -4,8 +4,8 @@ use native.Mathlib.Omega.{arith}
 use mathlib.Core.Path.{◌≡◌, ◌∙◌}
 use mathlib.Core.List.{List, [], ◌∷◌}
 use Rattle.specification.specs.Lines.{Declared}
-use Rattle.specification.specs.Ast.{Term, constant, scalarAt, local_at, parameter, elementAt, apply}
-use Rattle.tables.specs.Layout.{tokenSlot, plan_at, maxTokens}
+use Rattle.specification.specs.Ast.{Term, constant, scalar_at, local_at, parameter, element_at, apply}
+use Rattle.tables.specs.Layout.{token_slot, plan_at, max_tokens}
 use Rattle.tables.specs.Kept.{SameTokens}
 use Rattle.sheet.specs.Tables.{Words}
 use Rattle.sheet.specs.Held.{code_at, operand_at, end_at, TokenAt, TermAt, TermsAt, ArgumentsAt}
@@ -16,52 +16,52 @@ use Rattle.terms.specs.Environment.{Level, Environment, CallAt, Calls}
 -- token i's subtree ends after it, within the table
 pub record Ends (t : Words) (i : ℕ) : Type 0 where
   pub after : i < end_at t i
-  pub inside : end_at t i ≤ maxTokens
+  pub inside : end_at t i ≤ max_tokens
 
 pub token-ends : {t : Words} {i k e : ℕ} → TokenAt t i k e → Ends t i
 token-ends q = record { after = omega (arith, q.end, q.after); inside = omega (arith, q.end, q.inside) }
 
 pub term-ends : (t : Words) (i : ℕ) (x : Term) → TermAt t i x → Ends t i
 term-ends t i (constant z) q = token-ends q.0
-term-ends t i (scalarAt n) q = token-ends q.0
+term-ends t i (scalar_at n) q = token-ends q.0
 term-ends t i (local_at l) q = token-ends q.0
 term-ends t i (parameter n) q = token-ends q.0
-term-ends t i (elementAt a x) q = token-ends q.0
+term-ends t i (element_at a x) q = token-ends q.0
 term-ends t i (apply o x y) q = token-ends q.0
 
 -- ---- the same in other words
 
 module _ (t w : Words) (s : SameTokens t w) where
-  pub code_here : {i : ℕ} → i < maxTokens → code_at w i ≡ code_at t i
-  code_here {i} h = s (tokenSlot i) (omega arith)
+  pub code_here : {i : ℕ} → i < max_tokens → code_at w i ≡ code_at t i
+  code_here {i} h = s (token_slot i) (omega arith)
 
-  pub operand-here : {i : ℕ} → i < maxTokens → operand_at w i ≡ operand_at t i
-  operand-here {i} h = s (tokenSlot i + 1) (omega arith)
+  pub operand-here : {i : ℕ} → i < max_tokens → operand_at w i ≡ operand_at t i
+  operand-here {i} h = s (token_slot i + 1) (omega arith)
 
-  pub end-here : {i : ℕ} → i < maxTokens → end_at w i ≡ end_at t i
-  end-here {i} h = s (tokenSlot i + 2) (omega arith)
+  pub end-here : {i : ℕ} → i < max_tokens → end_at w i ≡ end_at t i
+  end-here {i} h = s (token_slot i + 2) (omega arith)
 
-  pub plan-here : {i : ℕ} → i < maxTokens → plan_at w i ≡ plan_at t i
-  plan-here {i} h = s (tokenSlot i + 3) (omega arith)
+  pub plan-here : {i : ℕ} → i < max_tokens → plan_at w i ≡ plan_at t i
+  plan-here {i} h = s (token_slot i + 3) (omega arith)
 
   pub ended_here : {i : ℕ} → Ends t i → end_at w i ≡ end_at t i
   ended_here q = end-here (omega (arith, q.after, q.inside))
 
   pub token-here : {i k e : ℕ} → TokenAt t i k e → TokenAt w i k e
   token-here {i} {k} {e} q =
-      let h : i < maxTokens = omega (arith, q.after, q.inside) in
+      let h : i < max_tokens = omega (arith, q.after, q.inside) in
       record { code = code_here h ∙ q.code; end = end-here h ∙ q.end; after = q.after; inside = q.inside }
 
   -- a token with its operand
   pub operand-kept : {i k e n : ℕ} → TokenAt t i k e → operand_at t i ≡ n → operand_at w i ≡ n
-  operand-kept {i} q o = let h : i < maxTokens = omega (arith, q.after, q.inside) in operand-here h ∙ o
+  operand-kept {i} q o = let h : i < max_tokens = omega (arith, q.after, q.inside) in operand-here h ∙ o
 
   pub term-here : (x : Term) (i : ℕ) → TermAt t i x → TermAt w i x
   term-here (constant z) i q = (token-here q.0, operand-kept q.0 q.1)
-  term-here (scalarAt n) i q = (token-here q.0, operand-kept q.0 q.1)
+  term-here (scalar_at n) i q = (token-here q.0, operand-kept q.0 q.1)
   term-here (local_at l) i q = (token-here q.0, operand-kept q.0 q.1)
   term-here (parameter n) i q = (token-here q.0, operand-kept q.0 q.1)
-  term-here (elementAt a x) i q =
+  term-here (element_at a x) i q =
       let e = ended_here (term-ends t (suc i) x q.2) in
       (rw e (token-here q.0), operand-kept q.0 q.1, term-here x (suc i) q.2)
   term-here (apply o x y) i q =
@@ -92,7 +92,7 @@ module _ (t w : Words) (s : SameTokens t w) where
   pub calls-here : {D : Declared} {h : ℕ} {L : Level} {E : Environment} → Calls D t h L E → Calls D w h L E
   calls-here {h = h} q =
       let ends = token-ends q.call.token in
-      let inside : suc h < maxTokens = omega (arith, ends.after, ends.inside) in
+      let inside : suc h < max_tokens = omega (arith, ends.after, ends.inside) in
       record {
         earlier = q.earlier;
         call = call-here q.call;

@@ -7,8 +7,8 @@ use mathlib.Core.List.{[], ◌∷◌}
 use lib.ListN.{length, get_or}
 use Rattle.specification.specs.Lines.{Declared}
 use Rattle.specification.specs.Value.{Valuation}
-use Rattle.tables.specs.Layout.{duesAt, opens_at, openSlot, maxProcs}
-use Rattle.tables.specs.Frames.{framesAt, frameSlot, argumentSlot, call_at, tagsAt}
+use Rattle.tables.specs.Layout.{dues_at, opens_at, open_slot, max_procs}
+use Rattle.tables.specs.Frames.{frames_at, frame_slot, argument_slot, call_at, tags_at}
 use Rattle.tables.specs.Kept.{SameTokens}
 use Rattle.sheet.specs.Tables.{Words}
 use Rattle.terms.specs.Environment.{Level, Environment, number_of, LevelAt, EnvAt, Memory}
@@ -20,14 +20,14 @@ use Rattle.terms.proofs.Laws.Environment.{number-low}
 
 -- the frames from procedure K on
 abbrev pub SameFrom : ℕ → Words → Words → Type 0
-SameFrom K w w' = (j : ℕ) → frameSlot K ≤ j → j < frameSlot maxProcs → get_or w' j 0 ≡ get_or w j 0
+SameFrom K w w' = (j : ℕ) → frame_slot K ≤ j → j < frame_slot max_procs → get_or w' j 0 ≡ get_or w j 0
 
 module _ (D : Declared) (w w' : Words) (tokens : SameTokens w w') where
-  level-outer : (L : Level) {E : Environment} → L.number < maxProcs → SameFrom L.number w w' → LevelAt D w L E → LevelAt D w' L E
+  level-outer : (L : Level) {E : Environment} → L.number < max_procs → SameFrom L.number w w' → LevelAt D w L E → LevelAt D w' L E
   level-outer L h frames v =
       let k = L.number in
-      let call : call_at w' L.number ≡ call_at w L.number = frames (frameSlot k + 2) (omega arith) (omega arith) in
-      let tags : tagsAt w' L.number ≡ tagsAt w L.number = frames (frameSlot k + 3) (omega arith) (omega arith) in
+      let call : call_at w' L.number ≡ call_at w L.number = frames (frame_slot k + 2) (omega arith) (omega arith) in
+      let tags : tags_at w' L.number ≡ tags_at w L.number = frames (frame_slot k + 3) (omega arith) (omega arith) in
       let few = v.calls.arguments.few in
       let count = v.calls.count in
       record {
@@ -35,10 +35,10 @@ module _ (D : Declared) (w w' : Words) (tokens : SameTokens w w') where
         place = call ∙ v.place;
         calls = calls-here w w' tokens v.calls;
         results = λ m l.
-            let word : get_or w' (argumentSlot L.number m + 1) 0 ≡ get_or w (argumentSlot L.number m + 1) 0 =
-            frames (argumentSlot k m + 1) (omega arith) (omega arith) in
+            let word : get_or w' (argument_slot L.number m + 1) 0 ≡ get_or w (argument_slot L.number m + 1) 0 =
+            frames (argument_slot k m + 1) (omega arith) (omega arith) in
             rw (tags, word) (v.results m l);
-        flags = λ m l. rw tags (frames (argumentSlot k m) (omega arith) (omega arith) ∙ v.flags m l);
+        flags = λ m l. rw tags (frames (argument_slot k m) (omega arith) (omega arith) ∙ v.flags m l);
       }
 
   pub env-outer : (E : Environment) → SameFrom (number_of E) w w' → EnvAt D w E → EnvAt D w' E
@@ -46,7 +46,7 @@ module _ (D : Declared) (w w' : Words) (tokens : SameTokens w w') where
   env-outer (L ∷ E) frames h =
       (level-outer L (number-low D w L E h) frames h.0, env-outer E (λ j a b. frames j (omega (arith, h.0.calls.earlier)) b) h.1)
 
-pub memory-outer : {w w' : Words} {p : ℕ} {D : Declared} {α : Valuation} {E : Environment} → Upto duesAt w w' → SameFrom (number_of E) w w' →
+pub memory-outer : {w w' : Words} {p : ℕ} {D : Declared} {α : Valuation} {E : Environment} → Upto dues_at w w' → SameFrom (number_of E) w w' →
     length w' ≡ length w → Memory w p D α E → Memory w' p D α E
 memory-outer {w} {w'} {p} {D} {α} {E} low frames z m =
     record {
@@ -63,17 +63,17 @@ memory-outer {w} {w'} {p} {D} {α} {E} low frames z m =
 
 -- and the results of its open parameters
 pub fresh-outer : (w w' : Words) (D : Declared) (α : Valuation) (E : Environment) → EnvAt D w E → SameFrom (number_of E) w w' →
-    ((k : ℕ) → opens_at ≤ k → k < framesAt → get_or w' k 0 ≡ get_or w k 0) → Fresh w D α E → Fresh w' D α E
+    ((k : ℕ) → opens_at ≤ k → k < frames_at → get_or w' k 0 ≡ get_or w k 0) → Fresh w D α E → Fresh w' D α E
 fresh-outer w w' D α [] h frames opens fresh = tt
 fresh-outer w w' D α (L ∷ E) h frames opens fresh =
     let most = number-low D w L E h in
     let few = h.0.calls.arguments.few in
     let count = h.0.calls.count in
     λ m l o z.
-    let flag : get_or w' (argumentSlot L.number m) 0 ≡ get_or w (argumentSlot L.number m) 0 =
-    frames (argumentSlot L.number m) (omega arith) (omega arith) in
-    let word : get_or w' (argumentSlot L.number m + 1) 0 ≡ get_or w (argumentSlot L.number m + 1) 0 =
-    frames (argumentSlot L.number m + 1) (omega arith) (omega arith) in
+    let flag : get_or w' (argument_slot L.number m) 0 ≡ get_or w (argument_slot L.number m) 0 =
+    frames (argument_slot L.number m) (omega arith) (omega arith) in
+    let word : get_or w' (argument_slot L.number m + 1) 0 ≡ get_or w (argument_slot L.number m + 1) 0 =
+    frames (argument_slot L.number m + 1) (omega arith) (omega arith) in
     let entry = fresh m l (sym flag ∙ o) (sym word ∙ z) in
-    let at = openSlot L.number m in
+    let at = open_slot L.number m in
     (opens at (omega arith) (omega arith) ∙ entry.0, opens (at + 1) (omega arith) (omega arith) ∙ entry.1)

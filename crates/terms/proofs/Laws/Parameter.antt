@@ -5,39 +5,39 @@ use mathlib.Core.Path.{◌≡◌, sym, ◌∙◌, ap, ap₂, subst}
 use lib.ListN.{length, get_or}
 use Rattle.specification.specs.Place.{Place, cell, local}
 use Rattle.specification.specs.Value.{side}
-use Rattle.tables.specs.Layout.{pathAt, openSlot}
-use Rattle.tables.specs.Frames.{argumentSlot}
+use Rattle.tables.specs.Layout.{path_at, open_slot}
+use Rattle.tables.specs.Frames.{argument_slot}
 use Rattle.sheet.specs.Tables.{Words}
 use Rattle.sheet.specs.Held.{SlotAt, slot_of}
 use Rattle.terms.specs.declared.Stack.{Stack}
 use Rattle.terms.specs.Environment.{Known}
-use Rattle.terms.specs.Results.{valueTag, stack_of, Looked}
+use Rattle.terms.specs.Results.{value_tag, stack_of, Looked}
 use Rattle.terms.specs.Parts.{Parameter, ParameterIs, ParameterRead, Saved}
 use Rattle.terms.proofs.Laws.Low.{slot_held, holds-low}
 use Rattle.terms.proofs.Laws.Off.{off-low, parameter-kept}
 
-slot-inside : (p : Place) → Known p → slot_of p + 1 < pathAt
+slot-inside : (p : Place) → Known p → slot_of p + 1 < path_at
 slot-inside (cell c) h = omega arith
 slot-inside (local l) h = omega arith
 
 -- the slot at the word k is the parameter's, and x its second word, as the code reads them
-module _ (w : Words) (p n at : ℕ) {k x : ℕ} (slot : k ≡ argumentSlot (p - 1) n) (word : x ≡ get_or w (k + 1) 0) where
-  word-is : x ≡ get_or w (argumentSlot (p - 1) n + 1) 0
+module _ (w : Words) (p n at : ℕ) {k x : ℕ} (slot : k ≡ argument_slot (p - 1) n) (word : x ≡ get_or w (k + 1) 0) where
+  word-is : x ≡ get_or w (argument_slot (p - 1) n + 1) 0
   word-is = word ∙ ap (λ (k : ℕ). get_or w (k + 1) 0) slot
 
-  flag_is : get_or w k 0 ≡ get_or w (argumentSlot (p - 1) n) 0
+  flag_is : get_or w k 0 ≡ get_or w (argument_slot (p - 1) n) 0
   flag_is = ap (λ (k : ℕ). get_or w k 0) slot
 
   module _ (none : get_or w k 0 ≡ 0) where
-    flag-none : get_or w (argumentSlot (p - 1) n) 0 ≡ 0
+    flag-none : get_or w (argument_slot (p - 1) n) 0 ≡ 0
     flag-none = sym flag_is ∙ none
 
     -- where the parameter is a place, its slot is before the path
-    pub place-low : Parameter w p n → ¬ (x ≡ 0) → x + 1 < pathAt
+    pub place-low : Parameter w p n → ¬ (x ≡ 0) → x + 1 < path_at
     place-low a some =
         let q = a.there.place flag-none (λ z. some (word-is ∙ z)) in
         let is : x ≡ slot_of q.place = word-is ∙ q.word in
-        subst (λ (k : ℕ). k + 1 < pathAt) (sym is) (slot-inside q.place q.known)
+        subst (λ (k : ℕ). k + 1 < path_at) (sym is) (slot-inside q.place q.known)
 
     pub result-place : {r : Stack} → ¬ (x ≡ 0) → Looked w x at r → ParameterIs w p n at r
     result-place some looked D α t holds g =
@@ -46,18 +46,18 @@ module _ (w : Words) (p n at : ℕ) {k x : ℕ} (slot : k ≡ argumentSlot (p - 
         let held = subst (λ (k : ℕ). SlotAt w k (α q.place)) (sym is) (slot_held holds q.place q.known) in
         looked q.place (α q.place) (sym is) held ∙ ap (stack_of at) (sym (q.looks α))
 
-    pub result-open : (tag value : ℕ) → x ≡ 0 → tag ≡ get_or w (openSlot (p - 1) n) 0 → value ≡ get_or w (openSlot (p - 1) n + 1) 0 →
+    pub result-open : (tag value : ℕ) → x ≡ 0 → tag ≡ get_or w (open_slot (p - 1) n) 0 → value ≡ get_or w (open_slot (p - 1) n + 1) 0 →
         ParameterIs w p n at (record { at = at; tag = tag; value = value })
     result-open tag value zero t v D α term holds g =
         let entry = g.opened flag-none (sym word-is ∙ zero) in
         ap₂ (λ (t v : ℕ). record { at = at; tag = t; value = v }) (t ∙ entry.0) (v ∙ entry.1)
 
-  pub result_value : ¬ (get_or w k 0 ≡ 0) → ParameterIs w p n at (record { at = at; tag = valueTag; value = x })
+  pub result_value : ¬ (get_or w k 0 ≡ 0) → ParameterIs w p n at (record { at = at; tag = value_tag; value = x })
   unfolding side
   result_value some D α term holds g =
-      let set : get_or w (argumentSlot (p - 1) n) 0 ≡ 1 = omega (arith, g.flag, flag_is, some) in
+      let set : get_or w (argument_slot (p - 1) n) 0 ≡ 1 = omega (arith, g.flag, flag_is, some) in
       let q = g.value set in
-      rw q.term (ap (λ (v : ℕ). record { at = at; tag = valueTag; value = v }) (word-is ∙ q.word))
+      rw q.term (ap (λ (v : ℕ). record { at = at; tag = value_tag; value = v }) (word-is ∙ q.word))
 
 -- ---- after a store on the stack
 

@@ -9,7 +9,7 @@ use lib.IntN.{ℤ}
 use Rattle.specification.specs.Bytes.{pick}
 use Rattle.specification.specs.Lines.{Declared}
 use Rattle.specification.specs.Ast.{Op, add, sub, mul, quo, rem, div, modulo}
-use Rattle.specification.specs.Arithmetic.{value, fault, compute, noValue}
+use Rattle.specification.specs.Arithmetic.{value, fault, compute, no_value}
 use Rattle.specification.specs.Value.{empty, full, Valuation, Side, val, bare, err, pair_of, operate}
 use Rattle.specification.proofs.Laws.Contradiction.{contradiction}
 use Rattle.values.specs.Word.{biased, signed}
@@ -17,18 +17,18 @@ use Rattle.values.specs.Packed.{packed}
 use Rattle.values.specs.declared.Computed.{Computed}
 use Rattle.values.specs.declared.Computed.TheVariants.{Value, Fault}
 use Rattle.values.proofs.Laws.Word.{signed-biased}
-use Rattle.tables.specs.Codes.{div_code, modCode, addCode, subCode, mulCode, quoCode}
+use Rattle.tables.specs.Codes.{div_code, mod_code, add_code, sub_code, mul_code, quo_code}
 use Rattle.sheet.specs.Tables.{Words}
-use Rattle.sheet.specs.Codes.{opCode}
+use Rattle.sheet.specs.Codes.{op_code}
 use Rattle.terms.specs.declared.Stack.{Stack}
-use Rattle.terms.specs.Results.{tag_of, word_of, stack_of, errorOf, Raised, Looked}
+use Rattle.terms.specs.Results.{tag_of, word_of, stack_of, error_of, Raised, Looked}
 use Rattle.terms.specs.Machine.{In32}
 use Rattle.terms.specs.Parts.{Calculated, Packs}
 
 -- ---- errors of operands
 
 module _ (tag value at : ℕ) where
-  pub raise-bare : {r : Stack} → r ≡ errorOf noValue at → tag ≡ 1 → Raised tag value at r
+  pub raise-bare : {r : Stack} → r ≡ error_of no_value at → tag ≡ 1 → Raised tag value at r
   raise-bare q t (val z) e v = absurd (omega arith)
   raise-bare q t (bare p) e v = q
   raise-bare q t (err κ) e v = absurd (omega arith)
@@ -55,14 +55,14 @@ module _ (w : Words) (i at v : ℕ) where
 -- an operation by its code
 op_of : ℕ → Op
 op_of k =
-    pick (eqb k addCode) add
-    (pick (eqb k subCode) sub
-    (pick (eqb k mulCode) mul
-    (pick (eqb k quoCode) quo
+    pick (eqb k add_code) add
+    (pick (eqb k sub_code) sub
+    (pick (eqb k mul_code) mul
+    (pick (eqb k quo_code) quo
     (pick (eqb k div_code) div
-    (pick (eqb k modCode) modulo rem)))))
+    (pick (eqb k mod_code) modulo rem)))))
 
-op-of-code : (o : Op) → op_of (opCode o) ≡ o
+op-of-code : (o : Op) → op_of (op_code o) ≡ o
 unfolding op_of
 op-of-code add = refl
 op-of-code sub = refl
@@ -72,15 +72,15 @@ op-of-code rem = refl
 op-of-code div = refl
 op-of-code modulo = refl
 
-pub op_same : (o p : Op) → opCode o ≡ opCode p → o ≡ p
+pub op_same : (o p : Op) → op_code o ≡ op_code p → o ≡ p
 op_same o p e = sym (op-of-code o) ∙ ap op_of e ∙ op-of-code p
 
 module _ (k x y : ℕ) (r : Computed) where
-  pub calculated-as : (o : Op) → k ≡ opCode o → r ≡ packed (compute o (signed x) (signed y)) → Calculated k x y r
+  pub calculated-as : (o : Op) → k ≡ op_code o → r ≡ packed (compute o (signed x) (signed y)) → Calculated k x y r
   calculated-as o q h p n = h ∙ ap (λ (p : Op). packed (compute p (signed x) (signed y))) (op_same o p (sym q ∙ n))
 
   -- the one that is none of the others
-  pub calculated-last : (k ≡ addCode → ⊥) → (k ≡ subCode → ⊥) → (k ≡ mulCode → ⊥) → (k ≡ quoCode → ⊥) → (k ≡ div_code → ⊥) → (k ≡ modCode → ⊥) →
+  pub calculated-last : (k ≡ add_code → ⊥) → (k ≡ sub_code → ⊥) → (k ≡ mul_code → ⊥) → (k ≡ quo_code → ⊥) → (k ≡ div_code → ⊥) → (k ≡ mod_code → ⊥) →
       r ≡ packed (compute rem (signed x) (signed y)) → Calculated k x y r
   calculated-last a s m q d l h add n = absurd (a n)
   calculated-last a s m q d l h sub n = absurd (s n)
@@ -97,13 +97,13 @@ module _ (c : Computed) (at : ℕ) where
       ap (λ (v : ℕ). record { at = at; tag = 0; value = v }) same
   packs-value v e (fault κ) h = contradiction cc
 
-  pub packs-fault : (k : ℕ) → {r : Stack} → r ≡ errorOf k at → c ≡ Fault k → Packs c at r
+  pub packs-fault : (k : ℕ) → {r : Stack} → r ≡ error_of k at → c ≡ Fault k → Packs c at r
   packs-fault k q e (value z) h = contradiction cc
-  packs-fault k q e (fault κ) h = let same : k ≡ κ = cc in q ∙ ap (λ (k : ℕ). errorOf k at) same
+  packs-fault k q e (fault κ) h = let same : k ≡ κ = cc in q ∙ ap (λ (k : ℕ). error_of k at) same
 
 -- an operation on two results, given by their tags and words
 abbrev pub Operated : ℕ → ℕ → ℕ → ℕ → ℕ → ℕ → Stack → Type 0
-Operated k ltag left rtag right at r = (D : Declared) (α : Valuation) (o : Op) (x y : Side) → k ≡ opCode o →
+Operated k ltag left rtag right at r = (D : Declared) (α : Valuation) (o : Op) (x y : Side) → k ≡ op_code o →
     ltag ≡ tag_of x → left ≡ word_of x → rtag ≡ tag_of y → right ≡ word_of y → In32 x → In32 y → r ≡ stack_of at (operate o (pair_of x y))
 
 module _ (k ltag left rtag right at : ℕ) {r : Stack} where

@@ -13,17 +13,17 @@ use lib.Seq.{get_or-set_same, get_or-set_other}
 use lib.Dec.{eqb}
 use Rattle.specification.specs.Lines.{Declared}
 use Rattle.specification.specs.Ast.{Term, parameter}
-use Rattle.specification.specs.Fill.{fillTerm}
+use Rattle.specification.specs.Fill.{fill_term}
 use Rattle.specification.specs.Value.{Valuation, side}
 use Rattle.specification.proofs.Laws.Contradiction.{contradiction}
-use Rattle.tables.specs.Layout.{Words, tokenWords, duesAt, opens_at, pathAt, openSlot, plan_at, maxProcs, maxParameters, maxTokens}
-use Rattle.tables.specs.Frames.{framesAt, argumentSlot, call_at}
+use Rattle.tables.specs.Layout.{Words, token_words, dues_at, opens_at, path_at, open_slot, plan_at, max_procs, max_parameters, max_tokens}
+use Rattle.tables.specs.Frames.{frames_at, argument_slot, call_at}
 use Rattle.sheet.specs.Held.{end_at, ArgumentsAt}
 use Rattle.terms.specs.declared.Stack.{Stack}
-use Rattle.terms.specs.Environment.{Level, Environment, termsOf, pointerOf, Memory}
+use Rattle.terms.specs.Environment.{Level, Environment, terms_of, pointer_of, Memory}
 use Rattle.terms.specs.Results.{Upto, EntryAt, Kept}
 use Rattle.terms.specs.Machine.{items, Stacked, Program, Passed}
-use Rattle.terms.specs.Calls.{Fresh, Active, number_at, aroundAt, isOpen, Revalues, Revalued, RevaluesOne, RevaluedOne}
+use Rattle.terms.specs.Calls.{Fresh, Active, number_at, around_at, is_open, Revalues, Revalued, RevaluesOne, RevaluedOne}
 use Rattle.terms.proofs.Laws.Stack.{tag_is, value-is}
 use Rattle.terms.proofs.Laws.Low.{tokens-low}
 use Rattle.terms.proofs.Laws.Here.{term-here, end-here}
@@ -36,29 +36,29 @@ use Rattle.terms.proofs.Laws.Chain.{number_is, around-is, active-of}
 -- ---- whether a parameter is open
 
 -- its slot as the code reads it
-module _ (w : Words) (k n : ℕ) {slot x : ℕ} (at : slot ≡ argumentSlot k n) (flag : x ≡ get_or w slot 0) where
-  pub flag-closed : (x ≡ 0 → ⊥) → false ≡ isOpen w k n
+module _ (w : Words) (k n : ℕ) {slot x : ℕ} (at : slot ≡ argument_slot k n) (flag : x ≡ get_or w slot 0) where
+  pub flag-closed : (x ≡ 0 → ⊥) → false ≡ is_open w k n
   flag-closed some =
-      let is : get_or w (argumentSlot k n) 0 ≡ x = sym (flag ∙ ap (λ (i : ℕ). get_or w i 0) at) in
-      rw (ne_eqb (get_or w (argumentSlot k n) 0) 0 (λ z. some (sym is ∙ z))) refl
+      let is : get_or w (argument_slot k n) 0 ≡ x = sym (flag ∙ ap (λ (i : ℕ). get_or w i 0) at) in
+      rw (ne_eqb (get_or w (argument_slot k n) 0) 0 (λ z. some (sym is ∙ z))) refl
 
-  pub flag-open : {y : ℕ} → x ≡ 0 → y ≡ get_or w (slot + 1) 0 → eqb y 0 ≡ isOpen w k n
+  pub flag-open : {y : ℕ} → x ≡ 0 → y ≡ get_or w (slot + 1) 0 → eqb y 0 ≡ is_open w k n
   flag-open {y} none word =
-      let is : get_or w (argumentSlot k n) 0 ≡ 0 = sym (flag ∙ ap (λ (i : ℕ). get_or w i 0) at) ∙ none in
-      rw (eq-eqb (get_or w (argumentSlot k n) 0) 0 is) (ap (λ (y : ℕ). eqb y 0) (word ∙ ap (λ (i : ℕ). get_or w (i + 1) 0) at))
+      let is : get_or w (argument_slot k n) 0 ≡ 0 = sym (flag ∙ ap (λ (i : ℕ). get_or w i 0) at) ∙ none in
+      rw (eq-eqb (get_or w (argument_slot k n) 0) 0 is) (ap (λ (y : ℕ). eqb y 0) (word ∙ ap (λ (i : ℕ). get_or w (i + 1) 0) at))
 
-both-open : (w : Words) (k n : ℕ) → get_or w (argumentSlot k n) 0 ≡ 0 → get_or w (argumentSlot k n + 1) 0 ≡ 0 → isOpen w k n ≡ true
-both-open w k n o z = rw (eq-eqb (get_or w (argumentSlot k n) 0) 0 o, eq-eqb (get_or w (argumentSlot k n + 1) 0) 0 z) refl
+both-open : (w : Words) (k n : ℕ) → get_or w (argument_slot k n) 0 ≡ 0 → get_or w (argument_slot k n + 1) 0 ≡ 0 → is_open w k n ≡ true
+both-open w k n o z = rw (eq-eqb (get_or w (argument_slot k n) 0) 0 o, eq-eqb (get_or w (argument_slot k n + 1) 0) 0 z) refl
 
 -- ---- one parameter
 
-pub one-closed : (w : Words) (from to p k n : ℕ) → isOpen w k n ≡ false → RevaluedOne w w from to p k n
+pub one-closed : (w : Words) (from to p k n : ℕ) → is_open w k n ≡ false → RevaluedOne w w from to p k n
 one-closed w from to p k n e = record { entry = λ o. contradiction cc; kept = λ j a b. refl; size = refl }
 
 pub one-open : {w w₁ w' : Words} {from to p : ℕ} {r : Stack} (k n : ℕ) → RevaluesOne w from to p k n → Passed w w₁ from to p r →
-    w' ≡ set (set w₁ (openSlot k n) r.tag) (openSlot k n + 1) r.value → pathAt ≤ length w → RevaluedOne w w' from to p k n
+    w' ≡ set (set w₁ (open_slot k n) r.tag) (open_slot k n + 1) r.value → path_at ≤ length w → RevaluedOne w w' from to p k n
 one-open {w} {w₁} {w'} {r = r} k n a passed stored size =
-    let at = openSlot k n in
+    let at = open_slot k n in
     let inside : at + 1 < length w₁ = omega (arith, a.procedure, a.number, passed.size) in
     let first = set w₁ at r.tag in
     record {
@@ -71,21 +71,21 @@ one-open {w} {w₁} {w'} {r = r} k n a passed stored size =
       size = rw (stored, length-set, length-set) passed.size;
     }
   where
-    stored-off : (j : ℕ) → (j < openSlot k n) ⊎ (openSlot k n + 1 < j) →
-        get_or (set (set w₁ (openSlot k n) r.tag) (openSlot k n + 1) r.value) j 0 ≡ get_or w₁ j 0
+    stored-off : (j : ℕ) → (j < open_slot k n) ⊎ (open_slot k n + 1 < j) →
+        get_or (set (set w₁ (open_slot k n) r.tag) (open_slot k n + 1) r.value) j 0 ≡ get_or w₁ j 0
     stored-off j (inl l) =
-        get_or-set_other (set w₁ (openSlot k n) r.tag) (openSlot k n + 1) j r.value 0 (λ y. omega arith)
-        ∙ get_or-set_other w₁ (openSlot k n) j r.tag 0 (λ y. omega arith)
+        get_or-set_other (set w₁ (open_slot k n) r.tag) (open_slot k n + 1) j r.value 0 (λ y. omega arith)
+        ∙ get_or-set_other w₁ (open_slot k n) j r.tag 0 (λ y. omega arith)
     stored-off j (inr l) =
-        get_or-set_other (set w₁ (openSlot k n) r.tag) (openSlot k n + 1) j r.value 0 (λ y. omega arith)
-        ∙ get_or-set_other w₁ (openSlot k n) j r.tag 0 (λ y. omega arith)
+        get_or-set_other (set w₁ (open_slot k n) r.tag) (open_slot k n + 1) j r.value 0 (λ y. omega arith)
+        ∙ get_or-set_other w₁ (open_slot k n) j r.tag 0 (λ y. omega arith)
 
 -- ---- each in turn
 
 -- parameter m of the call L, if it is open, has its result in the words w
 abbrev Done : Words → Words → Declared → Valuation → Level → ℕ → Type 0
-Done w₀ w D α L m = m < length L.terms → get_or w₀ (argumentSlot L.number m) 0 ≡ 0 → get_or w₀ (argumentSlot L.number m + 1) 0 ≡ 0 →
-    EntryAt w (openSlot L.number m) (side D α (get_or L.terms m (parameter m)))
+Done w₀ w D α L m = m < length L.terms → get_or w₀ (argument_slot L.number m) 0 ≡ 0 → get_or w₀ (argument_slot L.number m + 1) 0 ≡ 0 →
+    EntryAt w (open_slot L.number m) (side D α (get_or L.terms m (parameter m)))
 
 -- the first n have their results, and the next argument stands at token i
 pub record Rounds (w₀ w : Words) (p i n : ℕ) (D : Declared) (α : Valuation) (L : Level) (E : Environment) : Type 0 where
@@ -112,13 +112,13 @@ round-start w p =
     }
 
 module _ {w₀ w : Words} {p i n : ℕ} (round : Round w₀ w p i n) where
-  low : Upto duesAt w₀ w
+  low : Upto dues_at w₀ w
   low j h = round.kept j (inl h)
 
   -- a parameter's slot is as it was
-  slot_same : (k m : ℕ) → (get_or w (argumentSlot k m) 0 ≡ get_or w₀ (argumentSlot k m) 0)
-      × (get_or w (argumentSlot k m + 1) 0 ≡ get_or w₀ (argumentSlot k m + 1) 0)
-  slot_same k m = (round.kept (argumentSlot k m) (inr (omega arith)), round.kept (argumentSlot k m + 1) (inr (omega arith)))
+  slot_same : (k m : ℕ) → (get_or w (argument_slot k m) 0 ≡ get_or w₀ (argument_slot k m) 0)
+      × (get_or w (argument_slot k m + 1) 0 ≡ get_or w₀ (argument_slot k m + 1) 0)
+  slot_same k m = (round.kept (argument_slot k m) (inr (omega arith)), round.kept (argument_slot k m + 1) (inr (omega arith)))
 
   round-end : end_at w₀ (number_at w₀ p) ≤ i → Revalued w₀ w p
   round-end l =
@@ -142,40 +142,40 @@ module _ {w₀ w : Words} {p i n : ℕ} (round : Round w₀ w p i n) where
       next : Next w₀ i (end_at w₀ (number_at w₀ p)) n L.arguments
       next = next_of w₀ L.arguments n i (end_at w₀ (number_at w₀ p)) state.rest more
 
-      token : i < maxTokens
+      token : i < max_tokens
       token = omega (arith, next.ends.after, next.ends.inside)
 
       -- the argument's own term
       abbrev argument : Term
       argument = get_or L.arguments n (parameter n)
 
-      around : Memory w (pointerOf E) D α E
+      around : Memory w (pointer_of E) D α E
       around = memory_kept round.kept round.size (memory-around m)
 
-      program : Program w i (end_at w i) (pointerOf E) D α (termsOf E) (items argument [])
+      program : Program w i (end_at w i) (pointer_of E) D α (terms_of E) (items argument [])
       program =
           let given = m.environment.0.calls.arguments in
           one around state.around given.scope given.locals i argument
           (term-here w₀ w (tokens-low w₀ w low) argument i next.term) (argument-ok given n next.inside) (argument-low given n next.inside)
 
-      number-low : L.number < maxProcs
+      number-low : L.number < max_procs
       number-low = environment.number-low D w₀ L E m.environment
 
-      few : n < maxParameters
+      few : n < max_parameters
       few = omega (arith, next.inside, m.environment.0.calls.arguments.few)
 
-      pointer_is : aroundAt w₀ p ≡ pointerOf E
+      pointer_is : around_at w₀ p ≡ pointer_of E
       pointer_is = around-is p m.environment.0 m.pointer
 
-    round-few : Revalues w₀ p → n < maxParameters
+    round-few : Revalues w₀ p → n < max_parameters
     round-few a = few a.memory a.fresh
 
-    round-token : Revalues w₀ p → (i < maxTokens) × (i < end_at w i)
+    round-token : Revalues w₀ p → (i < max_tokens) × (i < end_at w i)
     round-token a =
         let there = token a.memory a.fresh in
         (there, rw (end-here w₀ w (tokens-low w₀ w low) there) (next a.memory a.fresh).ends.after)
 
-    round-asks : Revalues w₀ p → RevaluesOne w i (end_at w i) (aroundAt w₀ p) (p - 1) n
+    round-asks : Revalues w₀ p → RevaluesOne w i (end_at w i) (around_at w₀ p) (p - 1) n
     round-asks a =
         let m = a.memory in
         let f = a.fresh in
@@ -184,7 +184,7 @@ module _ {w₀ w : Words} {p i n : ℕ} (round : Round w₀ w p i n) where
               record {
                 declared = a.declared;
                 valuation = a.valuation;
-                terms = termsOf a.environment;
+                terms = terms_of a.environment;
                 items = items (argument m f) [];
                 program = rw (pointer_is m f) (program m f);
               };
@@ -192,7 +192,7 @@ module _ {w₀ w : Words} {p i n : ℕ} (round : Round w₀ w p i n) where
           number = few m f;
         }
 
-    round-next : {w' : Words} → RevaluedOne w w' i (end_at w i) (aroundAt w₀ p) (p - 1) n → Revalues w₀ p → Round w₀ w' p (end_at w i) (n + 1)
+    round-next : {w' : Words} → RevaluedOne w w' i (end_at w i) (around_at w₀ p) (p - 1) n → Revalues w₀ p → Round w₀ w' p (end_at w i) (n + 1)
     round-next {w'} r a =
         record {
           kept = λ j o. r.kept j (off j o) (apart j o) ∙ round.kept j o;
@@ -211,7 +211,7 @@ module _ {w₀ w : Words} {p i n : ℕ} (round : Round w₀ w p i n) where
                     below_more (Done w₀ w' D α L) n
                     (λ j l u o z.
                     let entry = s.done j l u o z in
-                    let at = openSlot L.number j in (
+                    let at = open_slot L.number j in (
                       r.kept at (inr (omega arith)) (inl (omega (arith, is))) ∙ entry.0,
                       r.kept (at + 1) (inr (omega arith)) (inl (omega (arith, is))) ∙ entry.1,
                     ))
@@ -220,19 +220,19 @@ module _ {w₀ w : Words} {p i n : ℕ} (round : Round w₀ w p i n) where
                     let same = slot_same L.number n in
                     let opened = both-open w L.number n (same.0 ∙ o) (same.1 ∙ z) in
                     rw ((level.results n u).opened (sym (level.flags n u) ∙ o) z, sym is)
-                    (r.entry (rw is opened) D α (termsOf E) (items term []) (side D α (fillTerm (termsOf E) term))
-                    (rw (pointer_is m fresh) (program m fresh)) (run-one D α (termsOf E) term)));
+                    (r.entry (rw is opened) D α (terms_of E) (items term []) (side D α (fill_term (terms_of E) term))
+                    (rw (pointer_is m fresh) (program m fresh)) (run-one D α (terms_of E) term)));
               };
         }
       where
-        asks : RevaluesOne w i (end_at w i) (aroundAt w₀ p) (p - 1) n
+        asks : RevaluesOne w i (end_at w i) (around_at w₀ p) (p - 1) n
         asks = round-asks a
 
-        off : (j : ℕ) → (j < duesAt) ⊎ (framesAt ≤ j) → (j < duesAt) ⊎ (opens_at ≤ j)
+        off : (j : ℕ) → (j < dues_at) ⊎ (frames_at ≤ j) → (j < dues_at) ⊎ (opens_at ≤ j)
         off j (inl l) = inl l
         off j (inr l) = inr (omega arith)
 
-        apart : (j : ℕ) → (j < duesAt) ⊎ (framesAt ≤ j) → (j < openSlot (p - 1) n) ⊎ (openSlot (p - 1) n + 1 < j)
+        apart : (j : ℕ) → (j < dues_at) ⊎ (frames_at ≤ j) → (j < open_slot (p - 1) n) ⊎ (open_slot (p - 1) n + 1 < j)
         apart j (inl l) = inl (omega arith)
         apart j (inr l) = inr (omega (arith, asks.procedure, asks.number))
 
@@ -242,7 +242,7 @@ pub record CallRead (w : Words) (p number to env : ℕ) : Type 0 where
   pub asks : Revalues w p
   pub token : number ≡ number_at w p
   pub end : to ≡ end_at w (number_at w p)
-  pub around : env ≡ aroundAt w p
+  pub around : env ≡ around_at w p
 
 pub revalues-active : {w : Words} {p : ℕ} → Revalues w p → Active w p
 revalues-active {w} {p} a =
@@ -250,14 +250,14 @@ revalues-active {w} {p} a =
     active-of a.declared w a.level a.environment p m.environment m.pointer m.size
 
 -- x is the word of the call in the frame
-pub call-read : {w : Words} {p x env to : ℕ} → Revalues w p → x ≡ call_at w (p - 1) → env ≡ plan_at w (x / tokenWords + 1) →
-    to ≡ end_at w (x / tokenWords + 1) → CallRead w p (x / tokenWords + 1) to env
+pub call-read : {w : Words} {p x env to : ℕ} → Revalues w p → x ≡ call_at w (p - 1) → env ≡ plan_at w (x / token_words + 1) →
+    to ≡ end_at w (x / token_words + 1) → CallRead w p (x / token_words + 1) to env
 call-read {w} a call around end =
     record {
       asks = a;
-      token = ap (λ (x : ℕ). x / tokenWords + 1) call;
-      end = end ∙ ap (λ (x : ℕ). end_at w (x / tokenWords + 1)) call;
-      around = around ∙ ap (λ (x : ℕ). plan_at w (x / tokenWords + 1)) call;
+      token = ap (λ (x : ℕ). x / token_words + 1) call;
+      end = end ∙ ap (λ (x : ℕ). end_at w (x / token_words + 1)) call;
+      around = around ∙ ap (λ (x : ℕ). plan_at w (x / token_words + 1)) call;
     }
 
 pub read-start : {w : Words} {p number to env : ℕ} → CallRead w p number to env → Round w w p (number + 1) 0
@@ -271,11 +271,11 @@ module _ {w₀ w : Words} {p number to env i n : ℕ} (c : CallRead w₀ p numbe
     more : i < end_at w₀ (number_at w₀ p)
     more = omega (arith, c.end)
 
-    pub read-few : n < maxParameters
+    pub read-few : n < max_parameters
     read-few = round-few round more c.asks
 
     -- the token is in the table, which is in the words, and its subtree ends after it
-    pub read-token : (i < maxTokens) × (pathAt ≤ length w) × (i < end_at w i)
+    pub read-token : (i < max_tokens) × (path_at ≤ length w) × (i < end_at w i)
     read-token =
         let there = round-token round more c.asks in
         (there.0, omega (arith, round.size, c.asks.memory.size), there.1)

@@ -7,11 +7,11 @@ use lib.ListN.{length, drop}
 use Rattle.specification.specs.Lines.{Declared}
 use Rattle.specification.specs.Value.{Valuation}
 use Rattle.tables.specs.Layout.{Words}
-use Rattle.terms.specs.Environment.{Environment, pointerOf, Memory}
+use Rattle.terms.specs.Environment.{Environment, pointer_of, Memory}
 use Rattle.terms.specs.Results.{Kept}
 use Rattle.terms.specs.Calls.{Fresh, Settles, Settled, Counted, Outward, Reached, Revalues, Revalued}
 use Rattle.terms.proofs.Laws.Environment.{memory_kept}
-use Rattle.terms.proofs.Laws.Chain.{env-drop, none_left, levelAt, split}
+use Rattle.terms.proofs.Laws.Chain.{env-drop, none_left, level_at, split}
 
 -- the open parameters of the call after the first n have their results
 pub record Settling (w₀ w : Words) (p n : ℕ) : Type 0 where
@@ -39,7 +39,7 @@ settling-end {w₀} {w} {p} {n} s l =
     }
 
 -- the memory around the first j calls
-memory-at : {w : Words} {p : ℕ} {D : Declared} {α : Valuation} {E : Environment} (j q : ℕ) → q ≡ pointerOf (drop j E) → Memory w p D α E →
+memory-at : {w : Words} {p : ℕ} {D : Declared} {α : Valuation} {E : Environment} (j q : ℕ) → q ≡ pointer_of (drop j E) → Memory w p D α E →
     Memory w q D α (drop j E)
 memory-at {w} {p} {D} {α} {E} j q e m =
     record {
@@ -70,7 +70,7 @@ module _ {w₀ w : Words} {p j : ℕ} (s : Settling w₀ w p (suc j)) where
       }
 
   module _ {q : ℕ} (here : Reached w p j q) where
-    memory : {D : Declared} {α : Valuation} {E : Environment} → Memory w₀ p D α E → Memory w q D α (levelAt E j ∷ drop (suc j) E)
+    memory : {D : Declared} {α : Valuation} {E : Environment} → Memory w₀ p D α E → Memory w q D α (level_at E j ∷ drop (suc j) E)
     memory {D} {α} {E} m =
         let m' : Memory w p D α E = memory_kept s.kept s.size m in
         let more : j < length E = omega (arith, s.few D α E m) in
@@ -81,7 +81,7 @@ module _ {w₀ w : Words} {p j : ℕ} (s : Settling w₀ w p (suc j)) where
         record {
           declared = a.declared;
           valuation = a.valuation;
-          level = levelAt a.environment j;
+          level = level_at a.environment j;
           environment = drop (suc j) a.environment;
           memory = memory a.memory;
           fresh = s.fresh a.declared a.valuation a.environment a.memory;
@@ -93,7 +93,7 @@ module _ {w₀ w : Words} {p j : ℕ} (s : Settling w₀ w p (suc j)) where
           few = λ D α E m. omega (arith, s.few D α E m);
           fresh = λ D α E m.
               let more : j < length E = omega (arith, s.few D α E m) in
-              rw (split E j more) (r.fresh D α (levelAt E j) (drop (suc j) E) (memory m) (s.fresh D α E m));
+              rw (split E j more) (r.fresh D α (level_at E j) (drop (suc j) E) (memory m) (s.fresh D α E m));
           kept = λ i o. r.kept i o ∙ s.kept i o;
           size = r.size ∙ s.size;
         }

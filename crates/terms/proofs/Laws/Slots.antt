@@ -6,24 +6,24 @@ use mathlib.Core.Path.{◌≡◌, refl, sym, ◌∙◌}
 use mathlib.Core.Bool.{Bool, true, false}
 use mathlib.Core.List.{[], ◌∷◌}
 use mathlib.Core.Logic.{◌⊎◌, inl, inr}
-use lib.ListN.{length, get_or, set as listSet, length-set, get_or-eq_default}
+use lib.ListN.{length, get_or, set as list_set, length-set, get_or-eq_default}
 use lib.Seq.{get_or-set_same, get_or-set_other}
 use Rattle.specification.specs.Bytes.{pick}
 use Rattle.specification.specs.Lines.{Declared, cells}
-use Rattle.specification.specs.Ast.{Term, constant, scalarAt, local_at, parameter, elementAt, apply}
-use Rattle.specification.specs.Fill.{fillTerm}
+use Rattle.specification.specs.Ast.{Term, constant, scalar_at, local_at, parameter, element_at, apply}
+use Rattle.specification.specs.Fill.{fill_term}
 use Rattle.specification.specs.Place.{Place, cell, local}
 use Rattle.specification.specs.Value.{Slot, empty, full, Valuation, Side, val, bare, err, look, side}
 use Rattle.specification.specs.WellFormed.{OkTerm}
-use Rattle.tables.specs.Layout.{pathAt, duesAt, resultsAt, slotWords, plan_at, maxTokens, maxProcs}
+use Rattle.tables.specs.Layout.{path_at, dues_at, results_at, slot_words, plan_at, max_tokens, max_procs}
 use Rattle.tables.specs.Locals.{in_set}
-use Rattle.tables.specs.Frames.{framesAt, argumentSlot, tagsAt}
+use Rattle.tables.specs.Frames.{frames_at, argument_slot, tags_at}
 use Rattle.sheet.specs.Tables.{Words}
 use Rattle.sheet.specs.Held.{end_at, TermAt, SlotAt, slot_of, Holds}
 use Rattle.plan.specs.Planned.{ArgumentPlanned}
-use Rattle.terms.specs.Environment.{Level, Environment, termsOf, number_of, Known, IsValue, IsPlace, LevelAt, EnvAt, Memory}
+use Rattle.terms.specs.Environment.{Level, Environment, terms_of, number_of, Known, IsValue, IsPlace, LevelAt, EnvAt, Memory}
 use Rattle.terms.specs.declared.Stack.{Stack}
-use Rattle.terms.specs.Results.{tag_of, word_of, valueTag, bareTag, stack_of}
+use Rattle.terms.specs.Results.{tag_of, word_of, value_tag, bare_tag, stack_of}
 use Rattle.terms.specs.Machine.{items, OffStack, Program, Passes, Passed}
 use Rattle.terms.specs.Arguments.{Bound, Written, Looks, Stands, Gives, Argues, Binds, Leads}
 use Rattle.terms.proofs.Laws.Low.{slot_held}
@@ -36,20 +36,20 @@ use Rattle.terms.proofs.Laws.Program.{one, passed-one}
 
 module _ (w : Words) (slot x : ℕ) (room : slot + 1 < length w) where
   abbrev stored : ℕ → Words
-  stored flag = listSet (listSet w slot flag) (slot + 1) x
+  stored flag = list_set (list_set w slot flag) (slot + 1) x
 
   stored-flag : (flag : ℕ) → get_or (stored flag) slot 0 ≡ flag
   stored-flag flag =
-      get_or-set_other (listSet w slot flag) (slot + 1) slot x 0 (λ e. omega arith) ∙ get_or-set_same w slot flag 0 (omega arith)
+      get_or-set_other (list_set w slot flag) (slot + 1) slot x 0 (λ e. omega arith) ∙ get_or-set_same w slot flag 0 (omega arith)
 
   stored-word : (flag : ℕ) → get_or (stored flag) (slot + 1) 0 ≡ x
-  stored-word flag = get_or-set_same (listSet w slot flag) (slot + 1) x 0 (rw length-set room)
+  stored-word flag = get_or-set_same (list_set w slot flag) (slot + 1) x 0 (rw length-set room)
 
-  stored_other : (flag j : ℕ) → (j < slot) ⊎ (slot + slotWords ≤ j) → get_or (stored flag) j 0 ≡ get_or w j 0
+  stored_other : (flag j : ℕ) → (j < slot) ⊎ (slot + slot_words ≤ j) → get_or (stored flag) j 0 ≡ get_or w j 0
   stored_other flag j (inl l) =
-      get_or-set_other (listSet w slot flag) (slot + 1) j x 0 (λ e. omega arith) ∙ get_or-set_other w slot j flag 0 (λ e. omega arith)
+      get_or-set_other (list_set w slot flag) (slot + 1) j x 0 (λ e. omega arith) ∙ get_or-set_other w slot j flag 0 (λ e. omega arith)
   stored_other flag j (inr l) =
-      get_or-set_other (listSet w slot flag) (slot + 1) j x 0 (λ e. omega arith) ∙ get_or-set_other w slot j flag 0 (λ e. omega arith)
+      get_or-set_other (list_set w slot flag) (slot + 1) j x 0 (λ e. omega arith) ∙ get_or-set_other w slot j flag 0 (λ e. omega arith)
 
   pub bound-written : {w' : Words} (b : Bool) → w' ≡ stored (pick b 1 0) → Bound w w' slot b (Written b x)
   bound-written b e =
@@ -79,11 +79,11 @@ bound-as f b = bound-after (λ k o. refl) refl f b
 
 -- ---- the slot of a place
 
-place-low : (p : Place) → Known p → slot_of p + 1 < duesAt
+place-low : (p : Place) → Known p → slot_of p + 1 < dues_at
 place-low (cell c) k = omega arith
 place-low (local l) k = omega arith
 
-pub looks-low : {w : Words} {p : ℕ} {x : Side} → Looks w p x → p + 1 < duesAt
+pub looks-low : {w : Words} {p : ℕ} {x : Side} → Looks w p x → p + 1 < dues_at
 looks-low h = omega (arith, h.at, place-low h.place h.known)
 
 module _ {w : Words} {p : ℕ} where
@@ -104,10 +104,10 @@ module _ {w : Words} {p : ℕ} where
 -- ---- the slot of a simple term
 
 pub record SlotSays (w : Words) (s : ℕ) (x : Side) : Type 0 where
-  pub inside : s + 1 < pathAt
+  pub inside : s + 1 < path_at
   pub value : ¬ (get_or w s 0 ≡ 0) → Written true (get_or w (s + 1) 0) x
-  pub low : get_or w s 0 ≡ 0 → s < framesAt → Written false s x
-  pub place : get_or w s 0 ≡ 0 → framesAt ≤ s → ¬ (get_or w (s + 1) 0 ≡ 0) → Looks w (get_or w (s + 1) 0) x
+  pub low : get_or w s 0 ≡ 0 → s < frames_at → Written false s x
+  pub place : get_or w s 0 ≡ 0 → frames_at ≤ s → ¬ (get_or w (s + 1) 0 ≡ 0) → Looks w (get_or w (s + 1) 0) x
 
 place-says : {w : Words} {α : Valuation} → Holds w α → (p : Place) → Known p → SlotSays w (slot_of p) (look (α p) p)
 place-says {w} {α} holds p known =
@@ -126,8 +126,8 @@ flag_one : (b : Bool) (f : ℕ) → f ≡ pick b 0 1 → ¬ (f ≡ 0) → ◌≡
 flag_one true f e d = absurd (d e)
 flag_one false f e d = refl
 
-parameter-says : {w : Words} {D : Declared} {α : Valuation} (L : Level) (E : Environment) (n : ℕ) → Holds w α → L.number < maxProcs →
-    n < length L.terms → LevelAt D w L E → SlotSays w (argumentSlot L.number n) (side D α (get_or L.terms n (parameter n)))
+parameter-says : {w : Words} {D : Declared} {α : Valuation} (L : Level) (E : Environment) (n : ℕ) → Holds w α → L.number < max_procs →
+    n < length L.terms → LevelAt D w L E → SlotSays w (argument_slot L.number n) (side D α (get_or L.terms n (parameter n)))
 unfolding side
 parameter-says {w} {D} {α} L E n holds low l v =
     let t = get_or L.terms n (parameter n) in
@@ -137,7 +137,7 @@ parameter-says {w} {D} {α} L E n holds low l v =
     let count = v.calls.count in
     record {
       inside = omega arith;
-      value = λ d. is-value (r.value (flag_one (in_set (tagsAt w L.number) n) (get_or w (argumentSlot L.number n) 0) flag d));
+      value = λ d. is-value (r.value (flag_one (in_set (tags_at w L.number) n) (get_or w (argument_slot L.number n) 0) flag d));
       low = λ e m. absurd (omega arith);
       place = λ e m d. is-place (r.place (sym flag ∙ e) d);
     }
@@ -158,8 +158,8 @@ parameter-says {w} {D} {α} L E n holds low l v =
 
 -- of the simple term that is an argument of one token, by its planned word
 module _ {w : Words} {from to p : ℕ} {D : Declared} {α : Valuation} {E : Environment} where
-  pub stands-says : {t : Term} → Stands w from to p D α E t → to ≡ from + 1 → SlotSays w (plan_at w from) (side D α (fillTerm (termsOf E) t))
-  unfolding side fillTerm OkTerm cells
+  pub stands-says : {t : Term} → Stands w from to p D α E t → to ≡ from + 1 → SlotSays w (plan_at w from) (side D α (fill_term (terms_of E) t))
+  unfolding side fill_term OkTerm cells
   stands-says {t} g short = go t g.term g.planned g.ok
     where
       m : Memory w p D α E
@@ -168,8 +168,8 @@ module _ {w : Words} {from to p : ℕ} {D : Declared} {α : Valuation} {E : Envi
       ends : end_at w from ≡ suc from
       ends = omega (arith, g.end)
 
-      outer : (E : Environment) (n : ℕ) → EnvAt D w E → OkTerm D g.scope (get_or (termsOf E) n (parameter n)) →
-          SlotSays w (argumentSlot (number_of E) n) (side D α (get_or (termsOf E) n (parameter n)))
+      outer : (E : Environment) (n : ℕ) → EnvAt D w E → OkTerm D g.scope (get_or (terms_of E) n (parameter n)) →
+          SlotSays w (argument_slot (number_of E) n) (side D α (get_or (terms_of E) n (parameter n)))
       outer [] n env ok = absurd (omega (arith, m.filled))
       outer (L ∷ E) n env ok =
           parameter-says L E n m.holds (number-low D w L E env)
@@ -177,8 +177,8 @@ module _ {w : Words} {from to p : ℕ} {D : Declared} {α : Valuation} {E : Envi
           (λ l. let left : n < D.parameters = rw (get_or-eq_default L.terms (parameter n) l) at ok in omega (arith, m.filled)))
           env.0
 
-      go : (t : Term) → TermAt w from t → ArgumentPlanned w (number_of E) from t → OkTerm D g.scope (fillTerm (termsOf E) t) →
-          SlotSays w (plan_at w from) (side D α (fillTerm (termsOf E) t))
+      go : (t : Term) → TermAt w from t → ArgumentPlanned w (number_of E) from t → OkTerm D g.scope (fill_term (terms_of E) t) →
+          SlotSays w (plan_at w from) (side D α (fill_term (terms_of E) t))
       go (constant z) at planned ok =
           rw planned
           (record {
@@ -187,17 +187,17 @@ module _ {w : Words} {from to p : ℕ} {D : Declared} {α : Valuation} {E : Envi
             low = λ e l. absurd (omega (arith, at.0.code));
             place = λ e l. absurd (omega (arith, at.0.after, at.0.inside));
           })
-      go (scalarAt c) at planned ok = rw planned (place-says m.holds (cell c) (omega (arith, m.cells)))
+      go (scalar_at c) at planned ok = rw planned (place-says m.holds (cell c) (omega (arith, m.cells)))
       go (local_at l) at planned ok = rw planned (place-says m.holds (local l) (g.locals l ok))
       go (parameter n) at planned ok = rw planned (outer E n m.environment ok)
-      go (elementAt a t) at planned ok = absurd (omega (arith, at.0.end, ends, (term-ends w (suc from) t at.2).after))
+      go (element_at a t) at planned ok = absurd (omega (arith, at.0.end, ends, (term-ends w (suc from) t at.2).after))
       go (apply o s t) at planned ok =
           absurd (omega (arith, at.0.end, ends, (term-ends w (suc from) s at.1).after, (term-ends w (end_at w (suc from)) t at.2).after))
 
 -- ---- a result
 
 module _ {tag v : ℕ} (x : Side) (t : tag ≡ tag_of x) (e : v ≡ word_of x) where
-  pub tag-value : tag ≡ valueTag → Written true v x
+  pub tag-value : tag ≡ value_tag → Written true v x
   tag-value d = go x t e
     where
       go : (x : Side) → tag ≡ tag_of x → v ≡ word_of x → Written true v x
@@ -205,7 +205,7 @@ module _ {tag v : ℕ} (x : Side) (t : tag ≡ tag_of x) (e : v ≡ word_of x) w
       go (bare p) t e = absurd (omega arith)
       go (err κ) t e = absurd (omega arith)
 
-  pub tag-bare : tag ≡ bareTag → Written false v x
+  pub tag-bare : tag ≡ bare_tag → Written false v x
   tag-bare d = go x t e
     where
       go : (x : Side) → tag ≡ tag_of x → v ≡ word_of x → Written false v x
@@ -213,7 +213,7 @@ module _ {tag v : ℕ} (x : Side) (t : tag ≡ tag_of x) (e : v ≡ word_of x) w
       go (bare p) t e = record { value = refl; word = sym e }
       go (err κ) t e = absurd (omega arith)
 
-  pub tag_open : ¬ (tag ≡ valueTag) → ¬ (tag ≡ bareTag) → Written false 0 x
+  pub tag_open : ¬ (tag ≡ value_tag) → ¬ (tag ≡ bare_tag) → Written false 0 x
   tag_open a b = go x t
     where
       go : (x : Side) → tag ≡ tag_of x → Written false 0 x
@@ -236,21 +236,21 @@ module _ {w : Words} {slot s from to p : ℕ} (g : Binds w slot s from to p) whe
   says : (x : Side) → Gives w from to p x → SlotSays w s x
   says x v = rw (g.planned, v.is) (stands-says v.stands g.short)
 
-  pub binds-inside : (s + 1 < pathAt) × (pathAt ≤ length w)
+  pub binds-inside : (s + 1 < path_at) × (path_at ≤ length w)
   binds-inside = let v = g.argues.gives in ((says g.argues.side v).inside, v.stands.memory.size)
 
   module _ {w' : Words} {r : Bool} {f : ℕ} (flag : f ≡ get_or w s 0) where
     pub bind-value : {x : ℕ} → ¬ (f ≡ 0) → x ≡ get_or w (s + 1) 0 → Bound w w' slot r (Written true x) → Bound w w' slot r (Gives w from to p)
     bind-value d e b = bound-as (λ x v. rw e ((says x v).value (λ z. d (flag ∙ z)))) b
 
-    pub bind-low : f ≡ 0 → s < framesAt → Bound w w' slot r (Written false s) → Bound w w' slot r (Gives w from to p)
+    pub bind-low : f ≡ 0 → s < frames_at → Bound w w' slot r (Written false s) → Bound w w' slot r (Gives w from to p)
     bind-low d l b = bound-as (λ x v. (says x v).low (sym flag ∙ d) l) b
 
 module _ {w : Words} {slot s from to p : ℕ} (g : Leads w slot s from to p) {q : ℕ} (word : q ≡ get_or w (s + 1) 0) (some : ¬ (q ≡ 0)) where
   leads : (x : Side) → Gives w from to p x → Looks w q x
   leads x v = rw word ((says g.binds x v).place g.empty g.later (λ z. some (word ∙ z)))
 
-  pub leads-low : q + 1 < pathAt
+  pub leads-low : q + 1 < path_at
   leads-low = omega (arith, looks-low (leads g.binds.argues.side g.binds.argues.gives))
 
   pub leads-place : {w' : Words} {r : Bool} → Bound w w' slot r (Looks w q) → Bound w w' slot r (Gives w from to p)
@@ -259,7 +259,7 @@ module _ {w : Words} {slot s from to p : ℕ} (g : Leads w slot s from to p) {q 
 -- any term
 module _ {w : Words} {from to p : ℕ} where
   program : {D : Declared} {α : Valuation} {E : Environment} {t : Term} → Stands w from to p D α E t →
-      Program w from to p D α (termsOf E) (items t [])
+      Program w from to p D α (terms_of E) (items t [])
   program {t = t} g = rw g.end (one g.memory g.fresh g.scope g.locals from t g.term g.ok g.low)
 
   pub argues-passes : {slot : ℕ} → Argues w slot from to p → Passes w from to p
@@ -268,32 +268,32 @@ module _ {w : Words} {from to p : ℕ} where
       record {
         declared = v.declared;
         valuation = v.valuation;
-        terms = termsOf v.environment;
+        terms = terms_of v.environment;
         items = items v.term [];
         program = program v.stands;
       }
 
-  pub argues-inside : {slot : ℕ} → Argues w slot from to p → (from < maxTokens) × (pathAt ≤ length w)
+  pub argues-inside : {slot : ℕ} → Argues w slot from to p → (from < max_tokens) × (path_at ≤ length w)
   argues-inside a =
       let v = a.gives in
       let ends = term-ends w from v.term v.stands.term in
       (omega (arith, ends.after, ends.inside), v.stands.memory.size)
 
   module _ {w₁ : Words} {s : Stack} (passed : Passed w w₁ from to p s) where
-    held : (x : Side) → Gives w from to p x → s ≡ stack_of resultsAt x
-    held x v = rw v.is (passed-one passed v.declared v.valuation (termsOf v.environment) v.term (program v.stands))
+    held : (x : Side) → Gives w from to p x → s ≡ stack_of results_at x
+    held x v = rw v.is (passed-one passed v.declared v.valuation (terms_of v.environment) v.term (program v.stands))
 
-    pub work-value : {w' : Words} {slot : ℕ} {r : Bool} → s.tag ≡ valueTag →
+    pub work-value : {w' : Words} {slot : ℕ} {r : Bool} → s.tag ≡ value_tag →
         Bound w₁ w' slot r (Written true s.value) → Bound w w' slot r (Gives w from to p)
     work-value d b =
         bound-after passed.kept passed.size (λ x v. tag-value x (tag_is (held x v)) (value-is (held x v)) d) b
 
-    pub work-bare : {w' : Words} {slot : ℕ} {r : Bool} → s.tag ≡ bareTag →
+    pub work-bare : {w' : Words} {slot : ℕ} {r : Bool} → s.tag ≡ bare_tag →
         Bound w₁ w' slot r (Written false s.value) → Bound w w' slot r (Gives w from to p)
     work-bare d b =
         bound-after passed.kept passed.size (λ x v. tag-bare x (tag_is (held x v)) (value-is (held x v)) d) b
 
-    pub work-open : {w' : Words} {slot : ℕ} {r : Bool} → ¬ (s.tag ≡ valueTag) → ¬ (s.tag ≡ bareTag) →
+    pub work-open : {w' : Words} {slot : ℕ} {r : Bool} → ¬ (s.tag ≡ value_tag) → ¬ (s.tag ≡ bare_tag) →
         Bound w₁ w' slot r (Written false 0) → Bound w w' slot r (Gives w from to p)
     work-open a c b =
         bound-after passed.kept passed.size (λ x v. tag_open x (tag_is (held x v)) (value-is (held x v)) a c) b

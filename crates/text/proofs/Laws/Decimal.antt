@@ -12,14 +12,14 @@ use lib.IntN.{pos, negsuc}
 use lib.ListN.{length, get_or, take, drop, drop_of_length-le, length-drop}
 use lib.Seq.{drop-cons, take_all}
 use borrow.Author.Tests.{leb-true, leb-false, le-leb, lt-leb, ne_eqb}
-use Rattle.specification.specs.Bytes.{Bytes, pick, digit, minus, classNumber, isIn}
+use Rattle.specification.specs.Bytes.{Bytes, pick, digit, minus, class_number, is_in}
 use Rattle.specification.specs.Parser.{next}
-use Rattle.specification.specs.Number.{allDigits, decimal, wellFormed, natural, negated, unsigned, integer}
+use Rattle.specification.specs.Number.{all_digits, decimal, well_formed, natural, negated, unsigned, integer}
 use Rattle.specification.proofs.Laws.Contradiction.{contradiction}
 use Rattle.text.specs.declared.Decimal.TheVariants.{Is}
 use Rattle.text.specs.Class.{class_at}
 use Rattle.text.proofs.Laws.Class.{class-next, class-not-next}
-use Rattle.text.specs.Decimal.{held, capped, worded, read_on, headed, plainWord, minusWord}
+use Rattle.text.specs.Decimal.{held, capped, worded, read_on, headed, plain_word, minus_word}
 
 -- ---- digit by digit
 
@@ -32,30 +32,30 @@ decimal-held (b ∷ bs) n =
     sym (decimal-held bs (held n * 10 + (b - 48))) ∙ ap (λ (k : ℕ). held (decimal k bs)) e ∙ decimal-held bs (n * 10 + (b - 48))
 
 module _ (s : Bytes) (i n : ℕ) where
-  pub digit-more : i < length s → isIn digit (get_or s i 0) ≡ true
+  pub digit-more : i < length s → is_in digit (get_or s i 0) ≡ true
       → capped (read_on n (drop i s)) ≡ capped (read_on (held (n * 10 + (get_or s i 0 - 48))) (drop (i + 1) s))
-  unfolding allDigits decimal
-  digit-more h e = rw (drop-cons s i 0 h, e, add-one) (go (allDigits (drop (suc i) s)))
+  unfolding all_digits decimal
+  digit-more h e = rw (drop-cons s i 0 h, e, add-one) (go (all_digits (drop (suc i) s)))
     where
       go : (t : Bool) → capped (pick t (some (decimal (n * 10 + (get_or s i 0 - 48)) (drop (suc i) s))) none)
           ≡ capped (pick t (some (decimal (held (n * 10 + (get_or s i 0 - 48))) (drop (suc i) s))) none)
       go true = rw decimal-held
       go false = refl
 
-  pub digit-none : i < length s → isIn digit (get_or s i 0) ≡ false → capped (read_on n (drop i s)) ≡ capped none
-  unfolding allDigits
+  pub digit-none : i < length s → is_in digit (get_or s i 0) ≡ false → capped (read_on n (drop i s)) ≡ capped none
+  unfolding all_digits
   digit-none h e = rw (drop-cons s i 0 h, e)
 
   pub digit-out : length s ≤ i → n ≤ 4294967296 → capped (read_on n (drop i s)) ≡ Is n
-  unfolding allDigits decimal
+  unfolding all_digits decimal
   digit-out h l =
       let m : held n ≡ n = omega arith in
       rw (drop_of_length-le s h, m)
 
 -- ---- the form
 
-formed : (bs : Bytes) → wellFormed bs ≡ (headed bs && allDigits bs)
-unfolding wellFormed headed
+formed : (bs : Bytes) → well_formed bs ≡ (headed bs && all_digits bs)
+unfolding well_formed headed
 formed [] = refl
 formed (b ∷ []) = refl
 formed (b ∷ c ∷ bs) = refl
@@ -104,28 +104,28 @@ head-minus [] e = contradiction cc
 head-minus (b ∷ bs) e = rw e
 
 head_plain : (s : Bytes) → next minus s ≡ false → integer s ≡ unsigned (natural s)
-unfolding integer natural wellFormed
+unfolding integer natural well_formed
 head_plain [] e = refl
 head_plain (b ∷ bs) e = rw e
 
 module _ (s : Bytes) where
-  pub integer-minus : class_at s 0 ≡ classNumber minus → integer s ≡ negated (natural (take (length s - 1) (drop 1 s)))
+  pub integer-minus : class_at s 0 ≡ class_number minus → integer s ≡ negated (natural (take (length s - 1) (drop 1 s)))
   integer-minus e =
       let whole : take (length s - 1) (drop 1 s) ≡ drop 1 s = take_all (length s - 1) (drop 1 s) (omega (arith, length-drop 1 s)) in
       head-minus s (class-next s 0 minus e) ∙ ap (λ (l : Bytes). negated (natural l)) (sym whole)
 
-  pub integer-plain : (class_at s 0 ≡ classNumber minus → ⊥) → integer s ≡ unsigned (natural s)
+  pub integer-plain : (class_at s 0 ≡ class_number minus → ⊥) → integer s ≡ unsigned (natural s)
   integer-plain h = head_plain s (class-not-next s 0 minus h)
 
 -- ---- words
 
 -- the held value decides the word, since what is held is out of range
-pub worded-plain : (o : Option ℕ) → worded (unsigned o) ≡ plainWord (capped o)
-unfolding plainWord
+pub worded-plain : (o : Option ℕ) → worded (unsigned o) ≡ plain_word (capped o)
+unfolding plain_word
 worded-plain none = refl
 worded-plain (some n) = go (leb n 2147483647) refl
   where
-    go : (t : Bool) → leb n 2147483647 ≡ t → worded (some (pos n)) ≡ plainWord (capped (some n))
+    go : (t : Bool) → leb n 2147483647 ≡ t → worded (some (pos n)) ≡ plain_word (capped (some n))
     go true e =
         let l : n ≤ 2147483647 = leb-true n 2147483647 e in
         let m : held n ≡ n = omega arith in
@@ -135,13 +135,13 @@ worded-plain (some n) = go (leb n 2147483647) refl
         let m : 2147483647 < held n = omega arith in
         rw (e, lt-leb (held n) 2147483647 m)
 
-pub worded-minus : (o : Option ℕ) → worded (negated o) ≡ minusWord (capped o)
-unfolding minusWord
+pub worded-minus : (o : Option ℕ) → worded (negated o) ≡ minus_word (capped o)
+unfolding minus_word
 worded-minus none = refl
 worded-minus (some zero) = refl
 worded-minus (some (suc n)) = go (leb n 2147483647) refl
   where
-    go : (t : Bool) → leb n 2147483647 ≡ t → worded (some (negsuc n)) ≡ minusWord (capped (some (suc n)))
+    go : (t : Bool) → leb n 2147483647 ≡ t → worded (some (negsuc n)) ≡ minus_word (capped (some (suc n)))
     go true e =
         let l : n ≤ 2147483647 = leb-true n 2147483647 e in
         let m : held (suc n) ≡ suc n = omega arith in

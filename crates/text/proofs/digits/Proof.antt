@@ -4,7 +4,7 @@ use mathlib.Core.Path.{◌≡◌, ◌∙◌, sym, ap}
 use mathlib.Core.Bool.{true}
 use native.Mathlib.Omega.{arith}
 use lib.ListN.{length, get_or, drop}
-use Rattle.specification.specs.Bytes.{digit, isIn, classNumber}
+use Rattle.specification.specs.Bytes.{digit, is_in, class_number}
 use Rattle.specification.proofs.Laws.Canonical.{digit-byte}
 use Rattle.text.specs.Decimal.{capped, read_on}
 use Rattle.text.proofs.Laws.Class.{in-yes, in-no}
@@ -29,7 +29,7 @@ class-requires : tie.Need-class-requires invariant-loop decreases-loop
 class-requires c κs = search rules
 
 returns : tie.Need-returns invariant-loop decreases-loop
-unfolding classNumber
+unfolding class_number
 returns c =
     let turn = c.before.before.before in
     sym (turn.before.loop.invariant.1 ∙ digit-none _ _ _ turn.loop-test.true (in-no digit _ _ c.before.class.ensures c.if1.true))
@@ -37,8 +37,8 @@ returns c =
 -- what `class` said of the byte
 is_digit :
     (c : tie.Else1 invariant-loop decreases-loop) → let l = c.before.before.before.before in
-    isIn digit (get_or l.before.before.args.s.now l.loop.i 0) ≡ true
-unfolding classNumber
+    is_in digit (get_or l.before.before.args.s.now l.loop.i 0) ≡ true
+unfolding class_number
 is_digit c = in-yes digit _ _ c.before.class.ensures c.if1.false
 
 sub-grown : tie.Need-overflow-sub-grown invariant-loop decreases-loop

@@ -75,7 +75,7 @@ machine-nonzero (negsuc b) t n = omega arith
 -- two words, and their values as the machine has them
 pub record Operands (x y : ℕ) (a b : ℤ) : Type 0 where
   pub left_word : x < 4294967296
-  pub right-word : y < 4294967296
+  pub right_word : y < 4294967296
   pub left : a ≡ signed x
   pub right : b ≡ signed y
 
@@ -84,7 +84,7 @@ module _ {x y : ℕ} {a b : ℤ} (o : Operands x y a b) where
   left-narrow = narrow_signed x o.left_word
 
   pub right-narrow : Narrow (signed y)
-  right-narrow = narrow_signed y o.right-word
+  right-narrow = narrow_signed y o.right_word
 
   module _ (f : ℤ → ℤ → ℤ) (exact : Exact f) where
     pub result_fits : SFits w64 (f (machine a) (machine b))

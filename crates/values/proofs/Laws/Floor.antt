@@ -10,13 +10,13 @@ use borrow.Author.Tests.{ltb-true, ltb-false}
 use mir.Val.{SFits}
 use mir.ValLaws.{to_z-of_z}
 use mir.Syntax.{w64}
-use Rattle.specification.specs.Arithmetic.{floorZ, remains}
+use Rattle.specification.specs.Arithmetic.{floor_z, remains}
 use Rattle.specification.proofs.Laws.Contradiction.{contradiction}
 use Rattle.specification.proofs.Laws.Difference.{abs-sum, abs-quotient, abs-remainder}
 use Rattle.specification.proofs.Laws.Rounding.{more, more-neg, makes-up, remains-is, remainder_is, remainder-less, Within, within-above, within-below, within-less, within-zero, floor-within, floor-only, abs-floor}
 use Rattle.values.specs.declared.Divided.{Divided}
 use Rattle.values.specs.Word.{signed, Narrow}
-use Rattle.values.specs.Rounded.{opposite, roundedDown}
+use Rattle.values.specs.Rounded.{opposite, rounded_down}
 use Rattle.values.proofs.Laws.Word.{signed-nonzero}
 use Rattle.values.proofs.Laws.Exact.{wide, machine, narrow-read, operation-read, exact-quotient, exact-remainder, Operands, left-narrow, right-narrow}
 
@@ -69,17 +69,17 @@ module _ (x y : ℤ) (n : y ≡ pos zero → ⊥) where
     up : x ≡ y *ℤ (quot_z x y -ℤ pos 1) +ℤ (rem_z x y +ℤ y)
     up = toward_zero ∙ sym (one_less y (quot_z x y) (rem_z x y))
 
-    floor-opposite : floorZ x y ≡ quot_z x y -ℤ pos 1
+    floor-opposite : floor_z x y ≡ quot_z x y -ℤ pos 1
     floor-opposite = floor-only x y (quot_z x y -ℤ pos 1) (rem_z x y +ℤ y) up (within-opposite (rem_z x y) y (remainder-less x y n) e)
 
-    left-opposite : remains x y (floorZ x y) ≡ rem_z x y +ℤ y
+    left-opposite : remains x y (floor_z x y) ≡ rem_z x y +ℤ y
     left-opposite = ap (remains x y) floor-opposite ∙ remains-is x y (quot_z x y -ℤ pos 1) (rem_z x y +ℤ y) up
 
   module _ (e : opposite (rem_z x y) y ≡ false) where
-    floor-same : floorZ x y ≡ quot_z x y
+    floor-same : floor_z x y ≡ quot_z x y
     floor-same = floor-only x y (quot_z x y) (rem_z x y) toward_zero (within_same (rem_z x y) y n (remainder-less x y n) e)
 
-    left-same : remains x y (floorZ x y) ≡ rem_z x y
+    left-same : remains x y (floor_z x y) ≡ rem_z x y
     left-same = ap (remains x y) floor-same ∙ remainder_is x y
 
 -- ---- on 64 bits
@@ -118,13 +118,13 @@ module _ (x y : ℤ) (s : Narrow x) (t : Narrow y) where
 
     pub opposite-rounded : test ≡ true →
         record { quotient = machine (machine (quot_z (machine x) (machine y)) -ℤ pos 1); rest = machine (machine (rem_z (machine x) (machine y)) +ℤ machine y) } ≡
-        roundedDown x y
+        rounded_down x y
     opposite-rounded e =
         let o = sides ∙ e in
         ap₂ (λ q r. record { quotient = q; rest = r }) (less-read ∙ sym (floor-opposite x y n o)) (more-read ∙ sym (left-opposite x y n o))
 
     pub same-rounded : test ≡ false →
-        record { quotient = machine (quot_z (machine x) (machine y)); rest = machine (rem_z (machine x) (machine y)) } ≡ roundedDown x y
+        record { quotient = machine (quot_z (machine x) (machine y)); rest = machine (rem_z (machine x) (machine y)) } ≡ rounded_down x y
     same-rounded e =
         let o = sides ∙ e in
         ap₂ (λ q r. record { quotient = q; rest = r }) (quotient-read ∙ sym (floor-same x y n o)) (rest_read ∙ sym (left-same x y n o))
@@ -137,18 +137,18 @@ module _ {x y : ℕ} {a b : ℤ} (o : Operands x y a b) (n : y ≡ 2147483648 �
       rw (o.left, o.right, narrow-read (signed x) (left-narrow o), narrow-read (signed y) (right-narrow o))
       (left-narrow o, right-narrow o, signed-nonzero y n)
 
-  module _ (d : Divided) (e : d ≡ roundedDown (machine a) (machine b)) where
-    rounded-read : d ≡ roundedDown (signed x) (signed y)
+  module _ (d : Divided) (e : d ≡ rounded_down (machine a) (machine b)) where
+    rounded-read : d ≡ rounded_down (signed x) (signed y)
     rounded-read =
         rw (o.left, o.right, narrow-read (signed x) (left-narrow o), narrow-read (signed y) (right-narrow o)) at e
 
-    pub floor-read : machine d.quotient ≡ floorZ (signed x) (signed y)
+    pub floor-read : machine d.quotient ≡ floor_z (signed x) (signed y)
     floor-read =
-        let q = floorZ (signed x) (signed y) in
+        let q = floor_z (signed x) (signed y) in
         ap (λ (c : Divided). machine c.quotient) rounded-read ∙ narrow-read q (omega (arith, abs-floor (signed x) (signed y), left-narrow o))
 
-    pub modulus-read : machine d.rest ≡ remains (signed x) (signed y) (floorZ (signed x) (signed y))
+    pub modulus-read : machine d.rest ≡ remains (signed x) (signed y) (floor_z (signed x) (signed y))
     modulus-read =
-        let r = remains (signed x) (signed y) (floorZ (signed x) (signed y)) in
+        let r = remains (signed x) (signed y) (floor_z (signed x) (signed y)) in
         ap (λ (c : Divided). machine c.rest) rounded-read ∙
         narrow-read r (omega (arith, within-less (signed y) r (floor-within (signed x) (signed y) (signed-nonzero y n)), right-narrow o))

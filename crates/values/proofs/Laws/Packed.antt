@@ -6,7 +6,7 @@ use lib.Dec.{T}
 use lib.IntN.{ℤ}
 use Rattle.specification.specs.Bytes.{pick}
 use Rattle.specification.specs.Number.{in32}
-use Rattle.specification.specs.Arithmetic.{Computed, value, fault, fit, divided, outside32, zeroDivisor}
+use Rattle.specification.specs.Arithmetic.{Computed, value, fault, fit, divided, outside32, zero_divisor}
 use Rattle.specification.proofs.Laws.Division.{divided-nonzero}
 use Rattle.values.specs.Word.{signed}
 use Rattle.values.proofs.Laws.Word.{signed-nonzero}
@@ -24,7 +24,7 @@ fit-out z f = go (in32 z) f
 -- ---- division
 
 -- the word of 0 is 2147483648
-pub divided-zero : (y : ℕ) (c : Computed) → y ≡ 2147483648 → divided (signed y) c ≡ fault zeroDivisor
+pub divided-zero : (y : ℕ) (c : Computed) → y ≡ 2147483648 → divided (signed y) c ≡ fault zero_divisor
 divided-zero y c e = ap (λ (w : ℕ). divided (signed w) c) e
 
 pub divided-other : (y : ℕ) (c : Computed) → (y ≡ 2147483648 → ⊥) → divided (signed y) c ≡ c

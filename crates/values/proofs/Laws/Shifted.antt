@@ -13,7 +13,7 @@ use mir.ValLaws.{to_z-of_z}
 use mir.Syntax.{w64}
 use Rattle.specification.specs.Bytes.{pick}
 use Rattle.specification.specs.Number.{in32}
-use Rattle.specification.specs.Arithmetic.{Computed, value, fault, fit, divided, outside32, zeroDivisor, floorZ, remains}
+use Rattle.specification.specs.Arithmetic.{Computed, value, fault, fit, divided, outside32, zero_divisor, floor_z, remains}
 use Rattle.specification.proofs.Laws.Contradiction.{contradiction}
 use Rattle.specification.proofs.Laws.Difference.{abs_neg, abs-sum, abs-product, abs-quotient, abs-remainder}
 use Rattle.specification.proofs.Laws.Division.{fit-in}
@@ -64,7 +64,7 @@ module _ (b : ℤ) (w : IsWord b) where
   bits = ap (λ (z : ℤ). of_z w64 z) w.number
 
   pub shifted-zero : (c : Computed) → of_z w64 b ≡ 2147483648 → Shifted (divided (value_of b) c) (negsuc 0)
-  shifted-zero c e = rw (divided-zero (nat_abs b) c (sym bits ∙ e)) (shifted-fault zeroDivisor)
+  shifted-zero c e = rw (divided-zero (nat_abs b) c (sym bits ∙ e)) (shifted-fault zero_divisor)
 
   pub bits-other : (of_z w64 b ≡ 2147483648 → ⊥) → nat_abs b ≡ 2147483648 → ⊥
   bits-other n e = n (bits ∙ e)
@@ -139,7 +139,7 @@ remainder-bounded x y p q = omega (arith, abs-remainder x y)
 -- two words
 module _ (a b : ℤ) (v : IsWord a) (w : IsWord b) where
   pub lowered-operands : Operands (nat_abs a) (nat_abs b) (machine a -ℤ pos 2147483648) (machine b -ℤ pos 2147483648)
-  lowered-operands = record { left_word = v.small; right-word = w.small; left = value-is a v; right = value-is b w }
+  lowered-operands = record { left_word = v.small; right_word = w.small; left = value-is a v; right = value-is b w }
 
   pub bounded-values : (f : ℤ → ℤ → ℤ) → Bounded f → nat_abs (f (value_of a) (value_of b)) ≤ 4611686018427387904
   bounded-values f bound = bound (value_of a) (value_of b) (value-narrow a v) (value-narrow b w)
@@ -174,10 +174,10 @@ module _ (a b : ℤ) (v : IsWord a) (w : IsWord b) where
 
   -- rounding down
   module _ (n : nat_abs b ≡ 2147483648 → ⊥) where
-    pub floor-bounded : nat_abs (floorZ (value_of a) (value_of b)) ≤ 4611686018427387904
+    pub floor-bounded : nat_abs (floor_z (value_of a) (value_of b)) ≤ 4611686018427387904
     floor-bounded = omega (arith, abs-floor (value_of a) (value_of b), value-narrow a v)
 
-    pub modulus-bounded : nat_abs (remains (value_of a) (value_of b) (floorZ (value_of a) (value_of b))) ≤ 4611686018427387904
+    pub modulus-bounded : nat_abs (remains (value_of a) (value_of b) (floor_z (value_of a) (value_of b))) ≤ 4611686018427387904
     modulus-bounded =
-        let r = remains (value_of a) (value_of b) (floorZ (value_of a) (value_of b)) in
+        let r = remains (value_of a) (value_of b) (floor_z (value_of a) (value_of b)) in
         omega (arith, within-less (value_of b) r (floor-within (value_of a) (value_of b) (signed-nonzero (nat_abs b) n)), value-narrow b w)

@@ -8,7 +8,7 @@ use lib.Dec.{T, leb, ltb, eqb, leb→le, le→leb}
 use lib.IntN.{ℤ, pos, negsuc, ◌+ℤ◌}
 use lib.Signed.{lt_z, le_z}
 use Rattle.specification.specs.Number.{in32}
-use Rattle.specification.specs.Arithmetic.{eqZ, count}
+use Rattle.specification.specs.Arithmetic.{eq_z, count}
 use Rattle.values.specs.Word.{signed, biased, Narrow}
 use Rattle.values.proofs.Laws.Test.{and_left, and_both, same-leb, true-leb, false-leb, same-eqb, false-eqb}
 use Rattle.specification.proofs.Laws.Contradiction.{contradiction}
@@ -85,9 +85,9 @@ signed_le a b =
     (λ l r. false-leb a b (omega arith))
     (λ l r. same-leb (a - 2147483648) (b - 2147483648) a b (λ h. omega arith) (λ h. omega arith))
 
-pub signed-eq : (a b : ℕ) → eqZ (signed a) (signed b) ≡ eqb a b
+pub signed-eq : (a b : ℕ) → eq_z (signed a) (signed b) ≡ eqb a b
 signed-eq a b =
-    by-signs (λ x y. eqZ x y ≡ eqb a b) a b
+    by-signs (λ x y. eq_z x y ≡ eqb a b) a b
     (λ l r. same-eqb (2147483648 - suc a) (2147483648 - suc b) a b (λ h. omega arith) (λ h. omega arith))
     (λ l r. false-eqb a b (λ e. omega arith))
     (λ l r. false-eqb a b (λ e. omega arith))

@@ -12,7 +12,7 @@ use Rattle.values.proofs.quotient.Tie as tie
 operands : (c : tie.After-widen2) → Operands c.before.before.before.args.x c.before.before.before.args.y c.before.widen.result c.widen2.result
 operands c =
     let s = c.before.before.before in
-    record { left_word = s.ranges.x.fits; right-word = s.ranges.y.fits; left = c.before.widen.ensures; right = c.widen2.ensures }
+    record { left_word = s.ranges.x.fits; right_word = s.ranges.y.fits; left = c.before.widen.ensures; right = c.widen2.ensures }
 
 returns : tie.Need-returns
 returns c = ap packed (sym (divided-zero c.before.args.y _ c.if1.true))

@@ -11,7 +11,7 @@ use Rattle.values.proofs.sub.Tie as tie
 operands : (c : tie.After-widen2) → Operands c.before.before.args.x c.before.before.args.y c.before.widen.result c.widen2.result
 operands c =
     let s = c.before.before in
-    record { left_word = s.ranges.x.fits; right-word = s.ranges.y.fits; left = c.before.widen.ensures; right = c.widen2.ensures }
+    record { left_word = s.ranges.x.fits; right_word = s.ranges.y.fits; left = c.before.widen.ensures; right = c.widen2.ensures }
 
 widen-requires : tie.Need-widen-requires
 widen-requires c κs = search rules

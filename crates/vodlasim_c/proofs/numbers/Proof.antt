@@ -1,7 +1,7 @@
--- `vodlasim_c::numbers` meets its contract: each arm makes the list that `reportOf` gives for its case.
+-- `vodlasim_c::numbers` meets its contract: each arm makes the list that `report_of` gives for its case.
 use mathlib.Core.Path.{ap, sym}
 use borrow.Author.Rules.{rules}
-use Rattle.specification.specs.Report.{reportOf}
+use Rattle.specification.specs.Report.{report_of}
 use Rattle.vodlasim_c.proofs.numbers.Statement.{statement}
 use Rattle.vodlasim_c.proofs.numbers.Tie as tie
 
@@ -30,12 +30,12 @@ cast-t14 : tie.Need-overflow-cast-t14
 cast-t14 c = search rules
 
 returns : tie.Need-returns
-returns c = sym (ap reportOf c.before.outcome.given.1)
+returns c = sym (ap report_of c.before.outcome.given.1)
 
 returns-2 : tie.Need-returns-2
 returns-2 c =
     let at-end = c.before.before.before.before in
-    rw at-end.end-number.ensures (sym (ap reportOf at-end.before.before.outcome2.given.1))
+    rw at-end.end-number.ensures (sym (ap report_of at-end.before.before.outcome2.given.1))
 
 pub numbers-spec : {M : Type 1} → statement M
 numbers-spec =

@@ -2,7 +2,7 @@
 -- returns.
 use mathlib.Core.Path.{ap, ◌∙◌}
 use borrow.Author.Rules.{rules}
-use Rattle.specification.specs.Report.{moveReport}
+use Rattle.specification.specs.Report.{move_report}
 use Rattle.vodlasim_c.proofs.vodlasim_tidy.Statement.{statement}
 use Rattle.vodlasim_c.proofs.vodlasim_tidy.Tie as tie
 
@@ -21,7 +21,7 @@ same-length-2 c = search rules
 returns : tie.Need-returns
 returns c =
     let answered = c.before.before.before.before.before.tidy.ensures in
-    record { report = c.move-numbers.ensures ∙ ap moveReport answered.result; output = answered.output; work = answered.work }
+    record { report = c.move-numbers.ensures ∙ ap move_report answered.result; output = answered.output; work = answered.work }
 
 pub vodlasim-tidy-spec : {M : Type 1} → statement M
 vodlasim-tidy-spec = tie.close (tie.spec tidy-requires move-numbers-requires same_length same-length-2 returns)

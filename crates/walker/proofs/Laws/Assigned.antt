@@ -15,8 +15,8 @@ use Rattle.specification.specs.Value.{empty, full, Valuation, allowed}
 use Rattle.specification.proofs.Laws.Parser.{T_true}
 use Rattle.values.specs.Word.{signed}
 use Rattle.values.proofs.Laws.Word.{biased-signed, signed-in32}
-use Rattle.tables.specs.Layout.{pathAt}
-use Rattle.tables.specs.Leaves.{failurePlace}
+use Rattle.tables.specs.Layout.{path_at}
+use Rattle.tables.specs.Leaves.{failure_place}
 use Rattle.tables.specs.Ranges.{allows}
 use Rattle.tables.proofs.Laws.Ranges.{allows-every, allows-local}
 use Rattle.sheet.specs.Tables.{Words}
@@ -24,12 +24,12 @@ use Rattle.sheet.specs.Held.{slot_of}
 use Rattle.search.specs.declared.Go.{Go}
 use Rattle.search.specs.Marks.{InTable, Known}
 use Rattle.search.specs.Kept.{Pushes}
-use Rattle.search.specs.Site.{afterGiven}
-use Rattle.search.specs.Frame.{Frame, the, failure, siteIn, storeIn}
+use Rattle.search.specs.Site.{after_given}
+use Rattle.search.specs.Frame.{Frame, the, failure, site_in, store_in}
 use Rattle.search.specs.Records.{at, Saved, SlotRecord}
 use Rattle.search.specs.Path.{World, Path}
 use Rattle.search.specs.Sim.{In}
-use Rattle.search.specs.Registers.{downGo}
+use Rattle.search.specs.Registers.{down_go}
 use Rattle.search.specs.Steps.{Stepped, OneLeaf}
 use Rattle.search.proofs.Sites.{site-local, after-marked}
 use Rattle.search.proofs.Pending.{pend-given}
@@ -48,7 +48,7 @@ mark-allows {w = w} P (cell x) v k none h =
     P.tables.ranges.allowed x k.0 (signed v) (signed-in32 v h)
 mark-allows {w = w} {fr = fr} P (local l) v k none h =
     ap (λ (m : ℕ). allows w m v) (P.marks (local l) k none) ∙
-    ⊎_elim (λ e. ap (λ (m : ℕ). allows w m v) e ∙ allows-every w v) (λ z. allows-local w v ((siteIn fr).marks (local l)) z) (site-local fr l) ∙
+    ⊎_elim (λ e. ap (λ (m : ℕ). allows w m v) e ∙ allows-every w v) (λ z. allows-local w v ((site_in fr).marks (local l)) z) (site-local fr l) ∙
     sym (T_true (in32 (signed v)) (signed-in32 v h))
 
 known_in : (D : Declared) (p : Place) → Known D p → InTable p
@@ -60,19 +60,19 @@ module _ {w : Words} {g : Go} {slot value : ℕ} (x : Assigning w g slot value) 
   allowed-is {c} {b} i = let a = x.assigns c b i in rw a.slot_is (mark-allows i.path a.place value a.known a.bare x.fits)
 
   -- the slot lies in the tables, and the words are there
-  pub slot-near : (slot + 1 < pathAt) × (pathAt ≤ length w)
+  pub slot-near : (slot + 1 < path_at) × (path_at ≤ length w)
   slot-near =
       let i = x.at.ins in
       let a = x.assigns x.at.c x.at.b i in
       let z = in_table a.place (known_in x.at.c.declared a.place a.known) in
       (omega (arith, a.slot_is, z.high), omega (arith, top-low i, top-room i))
 
-  pub assign-fails : allows w (get_or w (slot + 1) 0) value ≡ false → OneLeaf w g failurePlace
+  pub assign-fails : allows w (get_or w (slot + 1) 0) value ≡ false → OneLeaf w g failure_place
   assign-fails e = record { at = x.at; son = λ c b i. (failure, (x.assigns c b i).tree_is ∙ rw (sym (allowed-is i) ∙ e), refl) }
 
   pub assign-down : allows w (get_or w (slot + 1) 0) value ≡ true → {mid w' : Words} → Pushes w mid g.top (get_or w (slot + 1) 0 ∷ g.inner ∷ slot ∷ []) →
-      w' ≡ set (set mid slot 1) (slot + 1) value → {inner : ℕ} → inner ≡ afterGiven (get_or w (slot + 1) 0) g.inner → {q : Go} →
-      q ≡ downGo g (get_or w (g.due + 3) 0) (g.top + 3) inner g.bad → Stepped w w' g q
+      w' ≡ set (set mid slot 1) (slot + 1) value → {inner : ℕ} → inner ≡ after_given (get_or w (slot + 1) 0) g.inner → {q : Go} →
+      q ≡ down_go g (get_or w (g.due + 3) 0) (g.top + 3) inner g.bad → Stepped w w' g q
   assign-down may {mid} {w'} p words n e = stepped x.at e (λ c b i.
       let a = x.assigns c b i in
       let D = c.declared in
@@ -87,7 +87,7 @@ module _ {w : Words} {g : Go} {slot value : ℕ} (x : Assigning w g slot value) 
       let ok : allowed D pl (signed value) ≡ true = sym (allowed-is i) ∙ may in
       let none : at w (slot_of pl) ≡ 0 = subst (λ s. Saved (at w (slot_of pl)) (at w (slot_of pl + 1)) s) a.bare (saved-here w i.α P.holds pl h) in
       let z0 : g.top + 0 ≡ g.top = omega arith in
-      let rec : SlotRecord D mid g.top pl (siteIn i.fr) i.α = record {
+      let rec : SlotRecord D mid g.top pl (site_in i.fr) i.α = record {
         had = at w (slot_of pl);
         kept = rw (rw z0 at (p.words 0 (omega arith)) ∙ ap (λ s. at w (s + 1)) slot_is) (slot_kept i pl h);
         inner = p.words 1 (omega arith) ∙ i.inner;
@@ -100,6 +100,6 @@ module _ {w : Words} {g : Go} {slot value : ℕ} (x : Assigning w g slot value) 
         m = a.next.m;
         next = a.next.next;
         place = a.next.place;
-        rest = pend-given D c.tables (storeIn i.fr) i.α pl (signed value) a.bare a.next.m a.next.next a.is a.next.rest;
+        rest = pend-given D c.tables (store_in i.fr) i.α pl (signed value) a.bare a.next.m a.next.next a.is a.next.rest;
       })
       (n ∙ rw (slot_is, P.marks pl h a.bare, i.inner) (after-marked D P.tables.ranges.low i.fr pl)))

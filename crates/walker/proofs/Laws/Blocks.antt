@@ -14,9 +14,9 @@ use Rattle.specification.specs.declared.Tallies.{Tallies}
 use Rattle.specification.specs.Bytes.{Bytes, pick}
 use Rattle.specification.specs.Value.{Valuation}
 use Rattle.specification.specs.Leaves.{answer, error}
-use Rattle.specification.specs.Listing.{block_of, blockText}
-use Rattle.specification.specs.Run.{tallies, addNode, addAnswer, addError, arrive, block, output, stopped}
-use Rattle.tables.specs.Leaves.{successPlace, errorPlace, risePlace}
+use Rattle.specification.specs.Listing.{block_of, block_text}
+use Rattle.specification.specs.Run.{tallies, add_node, add_answer, add_error, arrive, block, output, stopped}
+use Rattle.tables.specs.Leaves.{success_place, error_place, rise_place}
 use Rattle.sheet.specs.Tables.{Words}
 use Rattle.listing.specs.declared.Head.{Head}
 use Rattle.listing.specs.declared.Written.{Written}
@@ -25,18 +25,18 @@ use Rattle.listing.specs.Model.{head_of}
 use Rattle.listing.specs.Block as blocks
 use Rattle.search.specs.declared.Go.{Go}
 use Rattle.search.specs.Walk as walks
-use Rattle.search.specs.Frame.{What, the, success, failure, error as errorWhat, innerIn, storeIn}
-use Rattle.search.specs.Path.{World, conditionsOf, Job}
+use Rattle.search.specs.Frame.{What, the, success, failure, error as error_what, inner_in, store_in}
+use Rattle.search.specs.Path.{World, conditions_of, Job}
 use Rattle.search.specs.Sim.{yes, no, tree, Up, IsLeaf, Leaf}
-use Rattle.search.specs.Registers.{tallied, Tallied, leafGo, riseGo, counted, nodeTally, answerTally, errorTally, maxWord}
-use Rattle.search.specs.States.{downMode, fullMode}
+use Rattle.search.specs.Registers.{tallied, Tallied, leaf_go, rise_go, counted, node_tally, answer_tally, error_tally, max_word}
+use Rattle.search.specs.States.{down_mode, full_mode}
 use Rattle.search.proofs.Gauges.{room-budget}
 use Rattle.walker.specs.declared.State.{State}
 use Rattle.walker.specs.declared.Task.{Task}
 use Rattle.walker.specs.Steps.{Visits}
 use Rattle.walker.specs.Loop.{rising, Going, goes}
 use Rattle.walker.specs.Walks.{Goes, starts, overflows}
-use Rattle.walker.specs.Blocks.{LeafDue, HeadDue, headDue, visitedLeaf, passedTallies, passedGo, fullGo, Output, Fixed, BlockDue, Wrote, Blocked}
+use Rattle.walker.specs.Blocks.{LeafDue, HeadDue, head_due, visited_leaf, passed_tallies, passed_go, full_go, Output, Fixed, BlockDue, Wrote, Blocked}
 use Rattle.walker.proofs.Laws.Leaves.{visit-fits}
 
 -- ---- the rest of the output
@@ -78,18 +78,18 @@ module _ {h o : Bytes} {n : ℕ} {b : Bytes} (p : Output h o n b) where
 
 -- ---- tallies
 
-passed-cases : (Q : Tallies → Type 0) (g : Go) → Q (addAnswer (visitedLeaf g)) → Q (addError (visitedLeaf g)) → Q (passedTallies g)
-unfolding passedTallies
-passed-cases Q g a b = go (eqb g.due successPlace)
+passed-cases : (Q : Tallies → Type 0) (g : Go) → Q (add_answer (visited_leaf g)) → Q (add_error (visited_leaf g)) → Q (passed_tallies g)
+unfolding passed_tallies
+passed-cases Q g a b = go (eqb g.due success_place)
   where
-    go : (t : Bool) → Q (pick t (addAnswer (visitedLeaf g)) (addError (visitedLeaf g)))
+    go : (t : Bool) → Q (pick t (add_answer (visited_leaf g)) (add_error (visited_leaf g)))
     go true = a
     go false = b
 
-pub passed-nodes : (g : Go) → (tallied (passedGo g)).nodes ≡ suc (tallied g).nodes
-passed-nodes g = let z : (passedTallies g).nodes ≡ suc (tallied g).nodes = passed-cases (λ t. t.nodes ≡ suc (tallied g).nodes) g refl refl in omega (arith, z)
+pub passed-nodes : (g : Go) → (tallied (passed_go g)).nodes ≡ suc (tallied g).nodes
+passed-nodes g = let z : (passed_tallies g).nodes ≡ suc (tallied g).nodes = passed-cases (λ t. t.nodes ≡ suc (tallied g).nodes) g refl refl in omega (arith, z)
 
-full-tallied : (g : Go) → tallied (fullGo g) ≡ visitedLeaf g
+full-tallied : (g : Go) → tallied (full_go g) ≡ visited_leaf g
 full-tallied g = ap (λ n. tallies n g.tallies.answers g.tallies.errors g.tallies.fails) (omega arith)
 
 -- ---- the event is the block of its head
@@ -99,23 +99,23 @@ module _ {c : World} {b : Bytes} {w : Words} {g : Go} (l : Leaf c b w g) where
   α = l.ins.α
 
   abbrev text : Bytes
-  text = blockText (block_of c.declared (head_of (headDue w g)) α)
+  text = block_text (block_of c.declared (head_of (head_due w g)) α)
 
-  block-result : walks.onto (no c l.ins.fr l.ins.e) (block (conditionsOf c) (visitedLeaf g) (passedTallies g) b text) ≡ c.result
-  unfolding headDue passedTallies arrive walks.leaf walks.within
+  block-result : walks.onto (no c l.ins.fr l.ins.e) (block (conditions_of c) (visited_leaf g) (passed_tallies g) b text) ≡ c.result
+  unfolding head_due passed_tallies arrive walks.leaf walks.within
   block-result = go l.ins.x l.leaf l.ins.job (rw l.main at l.ins.result)
     where
-      go : (x : What) → IsLeaf x → Job c w (storeIn l.ins.fr) α g.due x →
-          walks.within (conditionsOf c) false (suc g.depth) (tree c l.ins.fr x α) (yes c l.ins.fr) (no c l.ins.fr) l.ins.e (visitedLeaf g) b ≡ c.result →
-          walks.onto (no c l.ins.fr l.ins.e) (block (conditionsOf c) (visitedLeaf g) (passedTallies g) b text) ≡ c.result
+      go : (x : What) → IsLeaf x → Job c w (store_in l.ins.fr) α g.due x →
+          walks.within (conditions_of c) false (suc g.depth) (tree c l.ins.fr x α) (yes c l.ins.fr) (no c l.ins.fr) l.ins.e (visited_leaf g) b ≡ c.result →
+          walks.onto (no c l.ins.fr l.ins.e) (block (conditions_of c) (visited_leaf g) (passed_tallies g) b text) ≡ c.result
       go (the is) f j r = absurd f
-      go success f j r = rw (eq-eqb g.due successPlace j) r
+      go success f j r = rw (eq-eqb g.due success_place j) r
       go failure f j r = absurd f
-      go (errorWhat κ tok) f j r = rw (ne_eqb g.due successPlace (λ z. omega (arith, j.0)), j.1, j.2) r
+      go (error_what κ tok) f j r = rw (ne_eqb g.due success_place (λ z. omega (arith, j.0)), j.1, j.2) r
 
   -- ---- what it leads to
 
-  passed-tallied : Tallied c (passedGo g)
+  passed-tallied : Tallied c (passed_go g)
   passed-tallied =
       let q = l.ins.gauge.tallies in
       let room = room-budget l.ins.gauge l.ins.room in
@@ -126,7 +126,7 @@ module _ {c : World} {b : Bytes} {w : Words} {g : Go} (l : Leaf c b w g) where
       }
 
   -- it is passed, with the bytes d written
-  passing : {d : Bytes} (s : State) → s.go ≡ passedGo g → no c l.ins.fr l.ins.e (passedTallies g) d ≡ c.result → Goes c d w s
+  passing : {d : Bytes} (s : State) → s.go ≡ passed_go g → no c l.ins.fr l.ins.e (passed_tallies g) d ≡ c.result → Goes c d w s
   passing {d} s e r = starts (λ z. omega (arith, ap (λ q. q.mode) e, z)) (subst (λ q. Going c d w q) (sym e) (goes refl (rising refl (record {
     fr = l.ins.fr;
     α = α;
@@ -139,7 +139,7 @@ module _ {c : World} {b : Bytes} {w : Words} {g : Go} (l : Leaf c b w g) where
     result = r;
   }))))
 
-  skips : {h o : Bytes} (s q : State) → s.go ≡ g → Output h o s.written b → q.go ≡ passedGo g → q.written ≡ s.written →
+  skips : {h o : Bytes} (s q : State) → s.go ≡ g → Output h o s.written b → q.go ≡ passed_go g → q.written ≡ s.written →
       g.tallies.answers + g.tallies.errors < c.setting.skip → Wrote c w h o q
   unfolding block
   skips s q eg out e n k = record {
@@ -152,7 +152,7 @@ module _ {c : World} {b : Bytes} {w : Words} {g : Go} (l : Leaf c b w g) where
   shows : {t : Task} {h : Bytes} → Fixed c t h → blocks.Shows w t.scalars t.arrays c.declared α
   shows f = let P = l.ins.path.tables in record {
     size = omega (arith, P.size);
-    scalar-count = f.scalar-count;
+    scalar_count = f.scalar_count;
     array_count = f.array_count;
     few = omega (arith, f.array_count, P.few);
     limit = P.cells;
@@ -162,7 +162,7 @@ module _ {c : World} {b : Bytes} {w : Words} {g : Go} (l : Leaf c b w g) where
   }
 
   module _ {h o : Bytes} {n : ℕ} (out : Output h o n b) (size : c.size ≡ length h) (s : c.setting.skip ≤ g.tallies.answers + g.tallies.errors) where
-    fills : {ys : Bytes} (m : ℕ) (q : State) → q.go ≡ passedGo g → q.written ≡ n + m →
+    fills : {ys : Bytes} (m : ℕ) (q : State) → q.go ≡ passed_go g → q.written ≡ n + m →
         blocks.Wrote text (mid_of n (length o - n) o) ys (Count m) → Wrote c w h (put_mid n (length o - n) o ys) q
     unfolding block
     fills m q e k z = record {
@@ -175,7 +175,7 @@ module _ {c : World} {b : Bytes} {w : Words} {g : Go} (l : Leaf c b w g) where
           at block-result);
     }
 
-    lacks : {ys : Bytes} (q : State) → q.go ≡ fullGo g → q.written ≡ n →
+    lacks : {ys : Bytes} (q : State) → q.go ≡ full_go g → q.written ≡ n →
         blocks.Wrote text (mid_of n (length o - n) o) ys Full → Wrote c w h (put_mid n (length o - n) o ys) q
     unfolding block
     lacks q e k z = record {
@@ -218,7 +218,7 @@ module _ {w : Words} {o : Bytes} {s : State} {t : Task} (a : BlockDue w o s t) w
   pub start-inside : s.written ≤ length o
   start-inside = omega (arith, a.out.inside, out-size a.out)
 
-  pub blocked-skipped : {q : State} {x : Go} → x ≡ passedGo s.go → q.go ≡ x → q.written ≡ s.written →
+  pub blocked-skipped : {q : State} {x : Go} → x ≡ passed_go s.go → q.go ≡ x → q.written ≡ s.written →
       s.go.tallies.answers + s.go.tallies.errors < t.setting.skip → Blocked w o o s q t
   blocked-skipped {q} ex eq n h =
       let e = eq ∙ ex in
@@ -229,8 +229,8 @@ module _ {w : Words} {o : Bytes} {s : State} {t : Task} (a : BlockDue w o s t) w
       }
 
   module _ {ys : Bytes} (h : t.setting.skip ≤ s.go.tallies.answers + s.go.tallies.errors) where
-    pub blocked-written : {q : State} {x : Go} (n : ℕ) → x ≡ passedGo s.go → q.go ≡ x → q.written ≡ s.written + n →
-        blocks.Listed w t.scalars t.arrays (headDue w s.go) (mid_of s.written (length o - s.written) o) ys (Count n) →
+    pub blocked-written : {q : State} {x : Go} (n : ℕ) → x ≡ passed_go s.go → q.go ≡ x → q.written ≡ s.written + n →
+        blocks.Listed w t.scalars t.arrays (head_due w s.go) (mid_of s.written (length o - s.written) o) ys (Count n) →
         Blocked w o (put_mid s.written (length o - s.written) o ys) s q t
     blocked-written {q} n ex eq k p =
         let e = eq ∙ ex in
@@ -243,8 +243,8 @@ module _ {w : Words} {o : Bytes} {s : State} {t : Task} (a : BlockDue w o s t) w
               out-size (filled a.out (text l) n z.0 z.1 z.2) ∙ sym (out-size a.out);
         }
 
-    pub blocked-full : {q : State} {x : Go} → x ≡ fullGo s.go → q.go ≡ x → q.written ≡ s.written →
-        blocks.Listed w t.scalars t.arrays (headDue w s.go) (mid_of s.written (length o - s.written) o) ys Full →
+    pub blocked-full : {q : State} {x : Go} → x ≡ full_go s.go → q.go ≡ x → q.written ≡ s.written →
+        blocks.Listed w t.scalars t.arrays (head_due w s.go) (mid_of s.written (length o - s.written) o) ys Full →
         Blocked w o (put_mid s.written (length o - s.written) o ys) s q t
     blocked-full {q} ex eq k p =
         let e = eq ∙ ex in
@@ -256,7 +256,7 @@ module _ {w : Words} {o : Bytes} {s : State} {t : Task} (a : BlockDue w o s t) w
 
 -- where a block is written, its end is within the output
 pub written-inside : {w : Words} {o ys : Bytes} {s : State} {t : Task} (a : BlockDue w o s t) (n : ℕ) →
-    blocks.Listed w t.scalars t.arrays (headDue w s.go) (mid_of s.written (length o - s.written) o) ys (Count n) → s.written + n ≤ length o
+    blocks.Listed w t.scalars t.arrays (head_due w s.go) (mid_of s.written (length o - s.written) o) ys (Count n) → s.written + n ≤ length o
 written-inside a n p =
     let z = p a.c.declared a.leaf.ins.α (shows a.leaf a.fixed) in
     omega (arith, z.1, mid-size a.out, a.out.inside, out-size a.out)
@@ -264,15 +264,15 @@ written-inside a n p =
 -- ---- the registers once it is passed
 
 -- the leaf can be counted
-pub tally-fits : (k : ℕ) → ¬ (k ≡ nodeTally) → {g : Go} {t : Tallies} → LeafDue g → t ≡ visitedLeaf g →
-    (k ≡ nodeTally → t.nodes < maxWord) × (t.answers < maxWord) × (t.errors < maxWord) × (t.fails < maxWord)
+pub tally-fits : (k : ℕ) → ¬ (k ≡ node_tally) → {g : Go} {t : Tallies} → LeafDue g → t ≡ visited_leaf g →
+    (k ≡ node_tally → t.nodes < max_word) × (t.answers < max_word) × (t.errors < max_word) × (t.fails < max_word)
 tally-fits k n p e = rw e ((λ z. absurd (n z)), omega (arith, p.leaves), omega (arith, p.leaves), omega (arith, p.leaves))
 
-module _ (g : Go) {q : Go} {t u : Tallies} (e : t ≡ visitedLeaf g) where
-  pub passed-answer : u ≡ counted t answerTally → q ≡ riseGo (leafGo g downMode g.bad u) → g.due ≡ successPlace → q ≡ passedGo g
-  unfolding counted passedTallies
-  passed-answer v f j = f ∙ rw (v, e, eq-eqb g.due successPlace j) refl
+module _ (g : Go) {q : Go} {t u : Tallies} (e : t ≡ visited_leaf g) where
+  pub passed-answer : u ≡ counted t answer_tally → q ≡ rise_go (leaf_go g down_mode g.bad u) → g.due ≡ success_place → q ≡ passed_go g
+  unfolding counted passed_tallies
+  passed-answer v f j = f ∙ rw (v, e, eq-eqb g.due success_place j) refl
 
-  pub passed-error : u ≡ counted t errorTally → q ≡ riseGo (leafGo g downMode g.bad u) → ¬ (g.due ≡ successPlace) → q ≡ passedGo g
-  unfolding counted passedTallies
-  passed-error v f j = f ∙ rw (v, e, ne_eqb g.due successPlace j) refl
+  pub passed-error : u ≡ counted t error_tally → q ≡ rise_go (leaf_go g down_mode g.bad u) → ¬ (g.due ≡ success_place) → q ≡ passed_go g
+  unfolding counted passed_tallies
+  passed-error v f j = f ∙ rw (v, e, ne_eqb g.due success_place j) refl

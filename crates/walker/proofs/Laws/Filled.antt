@@ -7,10 +7,10 @@ use lib.ListN.{length, get_or, set, length-set}
 use lib.Seq.{get_or-set_same, get_or-set_other}
 use lib.Dec.{eqb}
 use borrow.Author.Tests.{eqb-true, eqb-false}
-use Rattle.tables.specs.Layout.{pathAt, maxProcs, maxParameters}
-use Rattle.tables.specs.Frames.{argumentSlot}
+use Rattle.tables.specs.Layout.{path_at, max_procs, max_parameters}
+use Rattle.tables.specs.Frames.{argument_slot}
 use Rattle.sheet.specs.Tables.{Words}
-use Rattle.terms.specs.Environment.{flagOf}
+use Rattle.terms.specs.Environment.{flag_of}
 use Rattle.walker.specs.Frames.{Filled, Copied, Flagged, Refilled, Slots, Refills, Saves}
 
 pub fill_none : (w : Words) (place x : ℕ → ℕ) → Filled w w place x 0
@@ -34,20 +34,20 @@ fill_more {w} {w'} {place} {x} {n} f apart inside = record {
 -- ---- of a call
 
 -- one word more of the record
-pub copy_step : {w w' w'' : Words} {top k n i a x : ℕ} → Saves w top k n → Copied w w' top k i → i < n → a ≡ argumentSlot k i → x ≡ get_or w' (a + 1) 0 →
+pub copy_step : {w w' w'' : Words} {top k n i a x : ℕ} → Saves w top k n → Copied w w' top k i → i < n → a ≡ argument_slot k i → x ≡ get_or w' (a + 1) 0 →
     w'' ≡ set w' (top + i) x → Copied w w'' top k (i + 1)
 copy_step {w} {w'} {w''} {top} {k} {n} {i} {a} {x} s f h ea ex e =
-    let from : x ≡ get_or w (argumentSlot k i + 1) 0 =
-    ex ∙ ap (λ z. get_or w' (z + 1) 0) ea ∙ f.others (argumentSlot k i + 1) (λ j l z. omega (arith, s.procedure, s.few, s.low)) in
+    let from : x ≡ get_or w (argument_slot k i + 1) 0 =
+    ex ∙ ap (λ z. get_or w' (z + 1) 0) ea ∙ f.others (argument_slot k i + 1) (λ j l z. omega (arith, s.procedure, s.few, s.low)) in
     rw (e, from) (fill_more f (λ j l z. omega arith) (omega (arith, s.room, s.few)))
 
 -- one argument more
-pub flag-step : {w w' w'' : Words} {k n i a x : ℕ} (set₀ : ℕ) → Slots w k n → Flagged w w' k set₀ i → i < n → a ≡ argumentSlot k i → x ≡ flagOf set₀ i →
+pub flag-step : {w w' w'' : Words} {k n i a x : ℕ} (set₀ : ℕ) → Slots w k n → Flagged w w' k set₀ i → i < n → a ≡ argument_slot k i → x ≡ flag_of set₀ i →
     w'' ≡ set w' a x → Flagged w w'' k set₀ (i + 1)
 flag-step set₀ s f h ea ex e = rw (e, ea, ex) (fill_more f (λ j l z. omega arith) (omega (arith, s.procedure, s.few, s.size)))
 
 pub refill-step : {w w' w'' : Words} {k n from i a x : ℕ} → Refills w k n from → Refilled w w' k from i → i < n → x ≡ get_or w' (from + i) 0 →
-    a ≡ argumentSlot k i → w'' ≡ set w' (a + 1) x → Refilled w w'' k from (i + 1)
+    a ≡ argument_slot k i → w'' ≡ set w' (a + 1) x → Refilled w w'' k from (i + 1)
 refill-step {w} {w'} {w''} {k} {n} {from} {i} {a} {x} s f h ex ea e =
     let kept : x ≡ get_or w (from + i) 0 = ex ∙ f.others (from + i) (λ j l z. omega (arith, s.slots.procedure, s.slots.few, s.low)) in
     rw (e, ea, kept) (fill_more f (λ j l z. omega arith) (omega (arith, s.slots.procedure, s.slots.few, s.slots.size)))

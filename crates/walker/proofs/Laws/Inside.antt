@@ -10,20 +10,20 @@ use borrow.Author.Tests.{eq-eqb}
 use Rattle.specification.specs.declared.Tallies.{Tallies}
 use Rattle.specification.specs.Bytes.{Bytes}
 use Rattle.specification.specs.Value.{Valuation}
-use Rattle.specification.specs.Run.{Conditions, setting, addNode, spent, Run, going, stopped}
+use Rattle.specification.specs.Run.{Conditions, setting, add_node, spent, Run, going, stopped}
 use Rattle.specification.proofs.Laws.Contradiction.{contradiction}
-use Rattle.tables.specs.Layout.{pathAt}
-use Rattle.tables.specs.Leaves.{successCode}
+use Rattle.tables.specs.Layout.{path_at}
+use Rattle.tables.specs.Leaves.{success_code}
 use Rattle.sheet.specs.Tables.{Words}
 use Rattle.search.specs.declared.Go.{Go}
 use Rattle.search.specs.Walk.{Next, gated, within}
-use Rattle.search.specs.Frame.{Frame, pass, other, bound, began, given, range, asks, called, len, top_of, innerIn, siteIn}
-use Rattle.search.specs.Path.{World, conditionsOf, Path}
-use Rattle.search.specs.Registers.{tallied, Tallied, leafGo}
+use Rattle.search.specs.Frame.{Frame, pass, other, bound, began, given, range, asks, called, len, top_of, inner_in, site_in}
+use Rattle.search.specs.Path.{World, conditions_of, Path}
+use Rattle.search.specs.Registers.{tallied, Tallied, leaf_go}
 use Rattle.search.specs.Sim.{yes, In, Yes}
 use Rattle.search.specs.Steps.{Entered}
 use Rattle.search.specs.Climb.{strip, Wins, Fell}
-use Rattle.search.specs.States.{mainTree}
+use Rattle.search.specs.States.{main_tree}
 use Rattle.search.proofs.RecordsKept.{top-low}
 use Rattle.search.proofs.Sites.{inner-inside}
 use Rattle.search.proofs.Stripped.{yes-strip}
@@ -36,7 +36,7 @@ module _ {w : Words} {g : Go} (u : WinsInside w g) where
   pub wins : Wins w g
   wins = record { c = u.c; b = u.b; yes = u.yes }
 
-  wins-some : ¬ (g.top ≡ pathAt)
+  wins-some : ¬ (g.top ≡ path_at)
   wins-some e = let s = yes-strip u.c u.yes in go s.fr s.bare s.path.ends s.said
     where
       go : (fr : List Frame) → strip fr ≡ fr → g.top ≡ top_of fr → yes u.c fr g.tallies u.b ≡ u.c.result → ⊥
@@ -60,8 +60,8 @@ module _ {w : Words} {g : Go} (u : WinsInside w g) where
 -- ---- a world whose budget is spent
 
 module _ (c : World) (n : ℕ) (r : Run) where
-  abbrev spentWorld : World
-  spentWorld = record {
+  abbrev spent_world : World
+  spent_world = record {
     tables = c.tables;
     declared = c.declared;
     setting = setting c.setting.path n c.setting.skip;
@@ -69,7 +69,7 @@ module _ (c : World) (n : ℕ) (r : Run) where
     result = r;
   }
 
-  spent-path : {w : Words} {top : ℕ} {α : Valuation} {fr : List Frame} → Path c w top α fr → Path spentWorld w top α fr
+  spent-path : {w : Words} {top : ℕ} {α : Valuation} {fr : List Frame} → Path c w top α fr → Path spent_world w top α fr
   spent-path P =
       let t = P.tables in
       let s = P.stored in
@@ -115,7 +115,7 @@ going-apart : (t : Tallies) (b : Bytes) → going t b ≡ stopped spent t b → 
 going-apart t b e = contradiction cc
 
 -- the son of the node that asks stops the run
-asks-stop : (c : World) (fr : List Frame) → innerIn fr ≡ true → (t : Tallies) (b : Bytes) → t.nodes ≡ c.setting.budget → yes c fr t b ≡ stopped spent t b
+asks-stop : (c : World) (fr : List Frame) → inner_in fr ≡ true → (t : Tallies) (b : Bytes) → t.nodes ≡ c.setting.budget → yes c fr t b ≡ stopped spent t b
 asks-stop c [] e t b h = contradiction cc
 asks-stop c (pass β ∷ fr) e t b h = asks-stop c fr e t b h
 asks-stop c (other E G is β ∷ fr) e t b h = asks-stop c fr e t b h
@@ -123,16 +123,16 @@ asks-stop c (bound l s β ∷ fr) e t b h = asks-stop c fr e t b h
 asks-stop c (began l v m β ∷ fr) e t b h = asks-stop c fr e t b h
 asks-stop c (given p v β ∷ fr) e t b h = asks-stop c fr e t b h
 asks-stop c (range l x i n E F is β ∷ fr) e t b h = asks-stop c fr e t b h
-asks-stop c (asks tok q is β f ∷ fr) e t b h = gate-spent (conditionsOf c) _ _ t b h
+asks-stop c (asks tok q is β f ∷ fr) e t b h = gate-spent (conditions_of c) _ _ t b h
 asks-stop c (called C β ∷ fr) e t b h = asks-stop c fr e t b h
 
 -- ---- a success leaf of an inner tree is visited
 
-pub won-inside : {w : Words} {g : Go} {mode : ℕ} (c : World) (b : Bytes) → In c b w g → ¬ (g.inner ≡ mainTree) → Yes c b w (leafGo g mode g.bad (addNode (tallied g))) →
-    WinsInside w (leafGo g mode g.bad (addNode (tallied g)))
+pub won-inside : {w : Words} {g : Go} {mode : ℕ} (c : World) (b : Bytes) → In c b w g → ¬ (g.inner ≡ main_tree) → Yes c b w (leaf_go g mode g.bad (add_node (tallied g))) →
+    WinsInside w (leaf_go g mode g.bad (add_node (tallied g)))
 won-inside {w} {g} {mode} c b i n y =
-    let t = addNode (tallied g) in
-    let d = spentWorld c t.nodes (stopped spent t b) in
+    let t = add_node (tallied g) in
+    let d = spent_world c t.nodes (stopped spent t b) in
     let inside = inner-inside i.fr (λ e. n (i.inner ∙ e)) in
     record {
       c = d;

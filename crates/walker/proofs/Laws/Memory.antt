@@ -7,13 +7,13 @@ use mathlib.Core.Option.{some as just}
 use lib.ListN.{get_or}
 use Rattle.specification.specs.Lines.{Declared}
 use Rattle.specification.specs.Value.{Valuation}
-use Rattle.tables.specs.Layout.{tokenSlot, plan_at, maxTokens}
+use Rattle.tables.specs.Layout.{token_slot, plan_at, max_tokens}
 use Rattle.tables.specs.Kept.{SameTokens}
 use Rattle.sheet.specs.Tables.{Words}
-use Rattle.terms.specs.Environment.{Level, Environment, pointerOf, Calls, LevelAt, EnvAt, Memory}
+use Rattle.terms.specs.Environment.{Level, Environment, pointer_of, Calls, LevelAt, EnvAt, Memory}
 use Rattle.terms.proofs.Laws.Here.{calls-here}
 use Rattle.search.specs.Store.{Call, Store, Active, EnvIn}
-use Rattle.search.specs.Frame.{Frame, storeIn}
+use Rattle.search.specs.Frame.{Frame, store_in}
 use Rattle.search.specs.Path.{World, Framed, Stored, Path}
 
 -- the frame of a call is that of its level
@@ -33,8 +33,8 @@ env-stored {c} {w} s st (L ∷ E) e =
     let f = (st.calls L.number a.call a.there).2 in
     (rw (a.level, a.around) at (framed-level s a.call f), env-stored s st E e.1)
 
-pub memory-in : {c : World} {w : Words} {top : ℕ} {α : Valuation} {fr : List Frame} → Path c w top α fr → (E : Environment) → EnvIn (storeIn fr) E →
-    Memory w (pointerOf E) c.declared α E
+pub memory-in : {c : World} {w : Words} {top : ℕ} {α : Valuation} {fr : List Frame} → Path c w top α fr → (E : Environment) → EnvIn (store_in fr) E →
+    Memory w (pointer_of E) c.declared α E
 memory-in P E e =
     let t = P.tables in
     record {

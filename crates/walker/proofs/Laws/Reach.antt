@@ -8,14 +8,14 @@ use mathlib.Core.Logic.{◌⊎◌, inl, inr}
 use lib.ListN.{length, get_or}
 use Rattle.specification.specs.Place.{Place, local}
 use Rattle.specification.specs.Value.{Valuation}
-use Rattle.tables.specs.Layout.{cellsAt, tokenSlot, pathAt, maxLocals, maxTokens}
-use Rattle.tables.specs.Codes.{orCode, impCode, notCode, someCode, allCode}
+use Rattle.tables.specs.Layout.{cells_at, token_slot, path_at, max_locals, max_tokens}
+use Rattle.tables.specs.Codes.{or_code, imp_code, not_code, some_code, all_code}
 use Rattle.sheet.specs.Tables.{Words}
 use Rattle.sheet.specs.Held.{slot_of}
 use Rattle.terms.proofs.Laws.Here.{operand-here}
 use Rattle.search.specs.declared.Go.{Go}
-use Rattle.search.specs.Frame.{Frame, len, size_of, top_of, siteIn}
-use Rattle.search.specs.Records.{at, hadUnit, SlotRecord}
+use Rattle.search.specs.Frame.{Frame, len, size_of, top_of, site_in}
+use Rattle.search.specs.Records.{at, had_unit, SlotRecord}
 use Rattle.search.specs.Path.{World, Path}
 use Rattle.search.specs.Climb.{strip, Set, Rises}
 use Rattle.search.proofs.RecordsKept.{top-low}
@@ -31,11 +31,11 @@ use Rattle.walker.specs.Climbing.{Topped, KeepsSlot, OfCode, OfAsking, RisesFrom
 -- ---- a record of n words
 
 pub record Reach (w : Words) (top n : ℕ) : Type 0 where
-  pub low : pathAt + n ≤ top
+  pub low : path_at + n ≤ top
   pub high : top ≤ length w
 
 module _ {c : World} {w : Words} {top : ℕ} {α : Valuation} where
-  pub path-high : {fr : List Frame} → Path c w top α fr → (pathAt ≤ top) × (top ≤ length w)
+  pub path-high : {fr : List Frame} → Path c w top α fr → (path_at ≤ top) × (top ≤ length w)
   path-high {fr} P = (
     omega (arith, P.ends, top-low fr),
     omega (arith, P.ends, P.inside, P.tables.size, top-few c.declared c.tables w fr P.stack),
@@ -56,13 +56,13 @@ top-reach t = let z = path-high t.path in record { low = omega (arith, z.0, t.so
 
 pub record SlotLies (w : Words) (top : ℕ) : Type 0 where
   pub reach : Reach w top 3
-  pub slot : at w (top - 1) % hadUnit + 1 < pathAt
+  pub slot : at w (top - 1) % had_unit + 1 < path_at
 
-slot-part : (x s had : ℕ) → x ≡ s + hadUnit * had → s + 1 < pathAt → x % hadUnit + 1 < pathAt
+slot-part : (x s had : ℕ) → x ≡ s + had_unit * had → s + 1 < path_at → x % had_unit + 1 < path_at
 slot-part x s had e h = omega arith
 
 module _ {c : World} {w : Words} {top : ℕ} {α : Valuation} {f : Frame} {fr : List Frame} (P : Path c w top α (f ∷ fr)) (p : Place) (three : size_of f ≡ 3)
-    {β : Valuation} (q : SlotRecord c.declared w (top_of fr) p (siteIn fr) β) where
+    {β : Valuation} (q : SlotRecord c.declared w (top_of fr) p (site_in fr) β) where
   slot-record : SlotLies w top
   slot-record =
       let z : top - 1 ≡ top_of fr + 2 = omega (arith, P.ends) in
@@ -85,18 +85,18 @@ slot-lies {w} {g} k =
 -- a record of n words, whose token's words and the m after them are there
 pub record TokenLies (w : Words) (top n m : ℕ) : Type 0 where
   pub reach : Reach w top n
-  pub token : at w (top - 1) + m < pathAt
+  pub token : at w (top - 1) + m < path_at
 
 -- the local of its quantifier
 abbrev LocalLies : Words → ℕ → Type 0
-LocalLies w top = at w (at w (top - 1) + 5) < maxLocals
+LocalLies w top = at w (at w (top - 1) + 5) < max_locals
 
 -- the depth of its sons
 abbrev DepthLies : World → Words → ℕ → Type 0
 DepthLies c w top = at w (top - 2) ≤ c.setting.path
 
-module _ {c : World} {w : Words} {top : ℕ} {α : Valuation} {fr : List Frame} (P : Path c w top α fr) (some : ¬ (top ≡ pathAt)) (low : at w (top - 1) < cellsAt) where
-  pub or-path : at w (at w (top - 1)) ≡ orCode → TokenLies w top 2 3 × DepthLies c w top
+module _ {c : World} {w : Words} {top : ℕ} {α : Valuation} {fr : List Frame} (P : Path c w top α fr) (some : ¬ (top ≡ path_at)) (low : at w (top - 1) < cells_at) where
+  pub or-path : at w (at w (top - 1)) ≡ or_code → TokenLies w top 2 3 × DepthLies c w top
   or-path h =
       let s = bare P in
       top-other (λ fr. TokenLies w top 2 3 × DepthLies c w top) some low h
@@ -106,7 +106,7 @@ module _ {c : World} {w : Words} {top : ℕ} {α : Valuation} {fr : List Frame} 
       (record { reach = path-reach P; token = omega arith }, omega (arith, ap (at w) z ∙ r.depth ∙ ap suc (site-depth fr), P.inside)))
       s.fr s.bare s.path
 
-  pub some-path : at w (at w (top - 1)) ≡ someCode → TokenLies w top 5 7 × LocalLies w top × DepthLies c w top
+  pub some-path : at w (at w (top - 1)) ≡ some_code → TokenLies w top 5 7 × LocalLies w top × DepthLies c w top
   some-path h =
       let s = bare P in
       top-some (λ fr. TokenLies w top 5 7 × LocalLies w top × DepthLies c w top) some low h
@@ -115,20 +115,20 @@ module _ {c : World} {w : Words} {top : ℕ} {α : Valuation} {fr : List Frame} 
       (record { reach = path-reach P; token = omega arith }, rw (some-local P) q.binds.small, omega (arith, some-depth P, P.inside)))
       s.fr s.bare s.path
 
-  pub all-path : at w (at w (top - 1)) ≡ allCode → TokenLies w top 4 7 × LocalLies w top
+  pub all-path : at w (at w (top - 1)) ≡ all_code → TokenLies w top 4 7 × LocalLies w top
   all-path h =
       let s = bare P in
       top-all (λ fr. TokenLies w top 4 7 × LocalLies w top) some low h
       (λ l v m β fr P.
       let q = P.stack.0 in
       let z : top - 1 ≡ top_of fr + 3 = omega (arith, P.ends) in
-      let t : at w (top - 1) ≡ tokenSlot q.h = ap (at w) z ∙ q.token in
-      let e : at w (top - 1) + 5 ≡ tokenSlot (suc q.h) + 1 = omega arith in
+      let t : at w (top - 1) ≡ token_slot q.h = ap (at w) z ∙ q.token in
+      let e : at w (top - 1) + 5 ≡ token_slot (suc q.h) + 1 = omega arith in
       let own : at w (at w (top - 1) + 5) ≡ l = ap (at w) e ∙ operand-here c.tables w P.tables.tokens q.small ∙ q.bound in
       (record { reach = path-reach P; token = omega arith }, rw own q.kept.inside))
       s.fr s.bare s.path
 
-  pub asks-path : (at w (at w (top - 1)) ≡ notCode) ⊎ (at w (at w (top - 1)) ≡ impCode) → TokenLies w top 4 3 × DepthLies c w top
+  pub asks-path : (at w (at w (top - 1)) ≡ not_code) ⊎ (at w (at w (top - 1)) ≡ imp_code) → TokenLies w top 4 3 × DepthLies c w top
   asks-path h =
       let s = bare P in
       top-asks (λ fr. TokenLies w top 4 3 × DepthLies c w top) some low h
@@ -140,10 +140,10 @@ module _ {c : World} {w : Words} {top : ℕ} {α : Valuation} {fr : List Frame} 
 
 -- ---- by the contracts
 
-pub some-lies : {w : Words} {g : Go} → OfCode w g someCode → TokenLies w g.top 5 7 × LocalLies w g.top
+pub some-lies : {w : Words} {g : Go} → OfCode w g some_code → TokenLies w g.top 5 7 × LocalLies w g.top
 some-lies o = let r = some-path o.top.path o.top.some o.low o.code in (r.0, r.1)
 
-pub all-lies : {w : Words} {g : Go} → OfCode w g allCode → TokenLies w g.top 4 7 × LocalLies w g.top
+pub all-lies : {w : Words} {g : Go} → OfCode w g all_code → TokenLies w g.top 4 7 × LocalLies w g.top
 all-lies o = all-path o.top.path o.top.some o.low o.code
 
 pub asks-lies : {w : Words} {g : Go} → OfAsking w g → TokenLies w g.top 4 3
@@ -152,14 +152,14 @@ asks-lies (inr o) = (asks-path o.top.path o.top.some o.low (inr o.code)).0
 
 -- the local, as read by the token
 module _ {w : Words} {g : Go} where
-  pub some-small : OfCode w g someCode → {t l : ℕ} → t ≡ at w (g.top - 1) → l ≡ at w (t + 5) → l < maxLocals
+  pub some-small : OfCode w g some_code → {t l : ℕ} → t ≡ at w (g.top - 1) → l ≡ at w (t + 5) → l < max_locals
   some-small o et el = rw (el, et) (some-lies o).1
 
-  pub all_small : OfCode w g allCode → {t l : ℕ} → t ≡ at w (g.top - 1) → l ≡ at w (t + 5) → l < maxLocals
+  pub all_small : OfCode w g all_code → {t l : ℕ} → t ≡ at w (g.top - 1) → l ≡ at w (t + 5) → l < max_locals
   all_small o et el = rw (el, et) (all-lies o).1
 
 -- a path with a record, on which a son is finished
-pub rises-top : {w : Words} {g : Go} {path budget : ℕ} → Rises w g path budget → ¬ (g.top ≡ pathAt) → Topped w g
+pub rises-top : {w : Words} {g : Go} {path budget : ℕ} → Rises w g path budget → ¬ (g.top ≡ path_at) → Topped w g
 rises-top r n = record { c = r.c; α = r.up.α; fr = r.up.fr; path = r.up.path; some = n }
 
 module _ {w : Words} {g : Go} {n t path budget : ℕ} (r : RisesTo w g n t path budget) where
@@ -167,16 +167,16 @@ module _ {w : Words} {g : Go} {n t path budget : ℕ} (r : RisesTo w g n t path 
   rises-code = record { top = rises-top r.from.rises r.from.some; low = r.from.low; code = r.code }
 
 pub rises-visits : {w : Words} {g : Go} {path budget : ℕ} → Rises w g path budget → g.tallies.nodes ≤ budget
-rises-visits r = omega (arith, r.up.tallies.budget, r.set.budget-is)
+rises-visits r = omega (arith, r.up.tallies.budget, r.set.budget_is)
 
-pub or-depth : {w : Words} {g : Go} {t path budget : ℕ} → RisesTo w g orCode t path budget → TokenLies w g.top 2 3 × (at w (g.top - 2) ≤ path)
+pub or-depth : {w : Words} {g : Go} {t path budget : ℕ} → RisesTo w g or_code t path budget → TokenLies w g.top 2 3 × (at w (g.top - 2) ≤ path)
 or-depth r =
     let u = r.from.rises in
     let z = or-path u.up.path r.from.some r.from.low r.code in
-    (z.0, omega (arith, z.1, u.set.path-is))
+    (z.0, omega (arith, z.1, u.set.path_is))
 
-pub some-depth-is : {w : Words} {g : Go} {t path budget : ℕ} → RisesTo w g someCode t path budget → at w (g.top - 2) ≤ path
+pub some-depth-is : {w : Words} {g : Go} {t path budget : ℕ} → RisesTo w g some_code t path budget → at w (g.top - 2) ≤ path
 some-depth-is r =
     let u = r.from.rises in
     let z = some-path u.up.path r.from.some r.from.low r.code in
-    omega (arith, z.2, u.set.path-is)
+    omega (arith, z.2, u.set.path_is)

@@ -6,13 +6,13 @@ use mathlib.Core.Bool.{Bool, true, false}
 use mathlib.Core.Logic.{◌⊎◌, inl, inr}
 use lib.ListN.{length}
 use Rattle.specification.specs.Bytes.{Bytes}
-use Rattle.tables.specs.Layout.{cellsAt, pathAt}
-use Rattle.tables.specs.Codes.{orCode, someCode, allCode, callCode}
+use Rattle.tables.specs.Layout.{cells_at, path_at}
+use Rattle.tables.specs.Codes.{or_code, some_code, all_code, call_code}
 use Rattle.sheet.specs.Tables.{Words}
 use Rattle.search.specs.declared.Go.{Go}
 use Rattle.search.specs.Records.{at}
 use Rattle.search.specs.Path.{World}
-use Rattle.search.specs.Registers.{dropGo}
+use Rattle.search.specs.Registers.{drop_go}
 use Rattle.search.specs.Sim.{Yes}
 use Rattle.search.specs.Climb.{Fell}
 use Rattle.search.proofs.Restored.{fell-undone}
@@ -31,7 +31,7 @@ module _ {w : Words} {g : Go} {t : ℕ} (f : WinsFrom w g t) where
   abbrev r : Releases w g t
   r = f.releases
 
-  token-low : at w (g.top - 1) < cellsAt
+  token-low : at w (g.top - 1) < cells_at
   token-low = rw r.word at f.low
 
   code_by : {n x : ℕ} → x ≡ at w t → x ≡ n → at w (at w (g.top - 1)) ≡ n
@@ -40,22 +40,22 @@ module _ {w : Words} {g : Go} {t : ℕ} (f : WinsFrom w g t) where
   pub wins-of : {n x : ℕ} → x ≡ at w t → x ≡ n → OfCode w g n
   wins-of ex e = record { top = wins-top r.wins; low = token-low; code = code_by ex e }
 
-  pub other-fell : {q : Go} {x : ℕ} → x ≡ at w t → x ≡ orCode → q ≡ dropGo g (g.top - 2) g.inner → Fell w w g q
+  pub other-fell : {q : Go} {x : ℕ} → x ≡ at w t → x ≡ or_code → q ≡ drop_go g (g.top - 2) g.inner → Fell w w g q
   other-fell ex e rs = fell-other (wins-top r.wins).some token-low (code_by ex e) (wins r.wins) rs
 
   module _ {w' : Words} {q : Go} {x : ℕ} (ex : x ≡ at w t) where
-    pub closed-fell : x ≡ someCode → Closed w w' g q → Fell w w' g q
+    pub closed-fell : x ≡ some_code → Closed w w' g q → Fell w w' g q
     closed-fell e k = fell-closed (wins-top r.wins).some token-low (code_by ex e) refl k.words (wins r.wins) k.regs
 
-    pub ended-fell : x ≡ allCode → Ended w w' g q → Fell w w' g q
+    pub ended-fell : x ≡ all_code → Ended w w' g q → Fell w w' g q
     ended-fell e k =
         fell-ended (wins-top r.wins).some token-low (code_by ex e) refl refl (lasts-set w _ _ (last-there (wins-of ex e))) k.words (wins r.wins) k.regs
 
-    pub left-fell : x ≡ callCode → Left w w' g q → Fell w w' g q
+    pub left-fell : x ≡ call_code → Left w w' g q → Fell w w' g q
     left-fell e k = fell-left (wins-top r.wins).some token-low (code_by ex e) refl refl refl k.back (wins r.wins) k.regs
 
   -- what is neither of the others nor asks is a call
-  pub wins-call : {x : ℕ} → x ≡ at w t → ¬ (x ≡ orCode) → ¬ (x ≡ someCode) → ¬ (x ≡ allCode) → x ≡ callCode
+  pub wins-call : {x : ℕ} → x ≡ at w t → ¬ (x ≡ or_code) → ¬ (x ≡ some_code) → ¬ (x ≡ all_code) → x ≡ call_code
   wins-call ex a b c =
       let same = ex ∙ ap (at w) r.word in
       let off = asking-no w t r.other f.low in
@@ -64,13 +64,13 @@ module _ {w : Words} {g : Go} {t : ℕ} (f : WinsFrom w g t) where
       (λ e. off.0 (sym ex ∙ same ∙ e)) (λ e. off.1 (sym ex ∙ same ∙ e))
 
 module _ {w : Words} {g : Go} {x : ℕ} (r : Releases w g x) where
-  pub releases-slot : cellsAt ≤ x → KeepsSlot w g
+  pub releases-slot : cells_at ≤ x → KeepsSlot w g
   releases-slot h = record { top = wins-top r.wins; slot = rw r.word at h }
 
   pub undone-fell : {w' : Words} {q : Go} → KeepsSlot w g → Undone w w' g q → Fell w w' g q
   undone-fell k u = fell-undone k.top.some k.slot u.words (wins r.wins) u.regs
 
-  pub releases-from : x < cellsAt → WinsFrom w g x
+  pub releases-from : x < cells_at → WinsFrom w g x
   releases-from h = record { releases = r; low = h }
 
 -- ---- up to the node that asked

@@ -9,23 +9,23 @@ use borrow.Author.Tests.{ne_eqb, lt-ltb, le-ltb}
 use Rattle.specification.specs.Bytes.{Bytes, pick}
 use Rattle.specification.specs.Lines.{Declared}
 use Rattle.specification.specs.Value.{Valuation}
-use Rattle.tables.specs.Layout.{tokenSlot, lastsAt, maxTokens, maxProcs}
-use Rattle.tables.specs.Frames.{framesAt, frameSlot}
-use Rattle.tables.specs.Leaves.{endPlace, risePlace, returnCode, riseCode}
+use Rattle.tables.specs.Layout.{token_slot, lasts_at, max_tokens, max_procs}
+use Rattle.tables.specs.Frames.{frames_at, frame_slot}
+use Rattle.tables.specs.Leaves.{end_place, rise_place, return_code, rise_code}
 use Rattle.sheet.specs.Tables.{Words}
 use Rattle.plan.specs.Next.{Next, end, token, back, place_of, From, Plain}
 use Rattle.search.specs.declared.Go.{Go}
-use Rattle.search.specs.Frame.{Item, form, again, What, the, siteIn, storeIn}
+use Rattle.search.specs.Frame.{Item, form, again, What, the, site_in, store_in}
 use Rattle.search.specs.Store.{Store, resolve}
 use Rattle.search.specs.Pend.{Pend}
 use Rattle.search.specs.Path.{World, Job}
 use Rattle.search.specs.Sim.{Down, In, Sim, down}
-use Rattle.search.specs.Registers.{tallied, Gauge, toGo}
-use Rattle.search.specs.States.{downMode, upMode}
+use Rattle.search.specs.Registers.{tallied, Gauge, to_go}
+use Rattle.search.specs.States.{down_mode, up_mode}
 use Rattle.search.proofs.Heads.{Return, at_return}
 use Rattle.search.proofs.Called.{pend-plain, frame_back}
 use Rattle.search.proofs.Visits.{in-at}
-use Rattle.walker.specs.Loop.{Due, Dues, pendingAt, pending, measure, Came}
+use Rattle.walker.specs.Loop.{Due, Dues, pending_at, pending, measure, Came}
 use Rattle.walker.proofs.Laws.Due.{due_in, down-pending}
 
 -- ---- what a procedure's end leads to stands for the same items
@@ -61,61 +61,61 @@ module _ (D : Declared) (t : Words) (σ : Store) (α : Valuation) where
   }
 
   -- a token or the end of a list
-  pending-none : (due : ℕ) → ¬ (due ≡ risePlace) → (due < framesAt) → pendingAt due ≡ 0
-  pending-none due n h = rw (ne_eqb due risePlace n, lt-ltb due framesAt h) refl
+  pending-none : (due : ℕ) → ¬ (due ≡ rise_place) → (due < frames_at) → pending_at due ≡ 0
+  pending-none due n h = rw (ne_eqb due rise_place n, lt-ltb due frames_at h) refl
 
-  pend-pending : (m : ℕ) (x : Next) (is : List Item) → Pend D t σ α m x is → pendingAt (place_of (resolve σ x)) ≡ 0
+  pend-pending : (m : ℕ) (x : Next) (is : List Item) → Pend D t σ α m x is → pending_at (place_of (resolve σ x)) ≡ 0
   pend-pending m x [] q = rw q.0 refl
-  pend-pending m x (form E F ∷ is) q = let h = q.inside in rw q.leads (pending-none (tokenSlot q.i) (λ e. omega arith) (omega arith))
+  pend-pending m x (form E F ∷ is) q = let h = q.inside in rw q.leads (pending-none (token_slot q.i) (λ e. omega arith) (omega arith))
   pend-pending m x (again E l F k v ∷ is) q =
-      let h = q.binds.near in rw q.leads (pending-none (tokenSlot (suc q.h)) (λ e. omega arith) (omega arith))
+      let h = q.binds.near in rw q.leads (pending-none (token_slot (suc q.h)) (λ e. omega arith) (omega arith))
 
 -- ---- the turn
 
-module _ {c : World} {b : Bytes} {w : Words} {g : Go} (i : In c b w g) (code : get_or w g.due 0 ≡ returnCode) where
-  abbrev end-here : Return c (storeIn i.fr) i.α g.due w i.x
+module _ {c : World} {b : Bytes} {w : Words} {g : Go} (i : In c b w g) (code : get_or w g.due 0 ≡ return_code) where
+  abbrev end-here : Return c (store_in i.fr) i.α g.due w i.x
   end-here = at_return i code
 
   abbrev leads-to : Next
-  leads-to = resolve (storeIn i.fr) (back end-here.K)
+  leads-to = resolve (store_in i.fr) (back end-here.K)
 
   leads-place : get_or w (g.due + 1) 0 ≡ place_of leads-to
   leads-place =
       let r = end-here in
-      let σ = storeIn i.fr in
+      let σ = store_in i.fr in
       ap (λ j. get_or w (j + 1) 0) r.place
       ∙ frame_back i r.K r.small (σ.calls r.K) refl (pend-plain c.declared c.tables σ i.α r.m (back r.K) r.is r.rest)
 
-  pub returned : Down c b w (toGo g (get_or w (g.due + 1) 0))
+  pub returned : Down c b w (to_go g (get_or w (g.due + 1) 0))
   returned =
       let r = end-here in
-      in-at i (get_or w (g.due + 1) 0) (subst (Job c w (storeIn i.fr) i.α (get_or w (g.due + 1) 0)) (sym r.the-is) (record {
+      in-at i (get_or w (g.due + 1) 0) (subst (Job c w (store_in i.fr) i.α (get_or w (g.due + 1) 0)) (sym r.the-is) (record {
         m = r.m;
         next = leads-to;
         place = leads-place;
-        rest = pend-resolved c.declared c.tables (storeIn i.fr) i.α r.m (back r.K) r.is r.rest;
+        rest = pend-resolved c.declared c.tables (store_in i.fr) i.α r.m (back r.K) r.is r.rest;
       }))
 
-  pub return-pending : pendingAt (get_or w (g.due + 1) 0) ≡ 0
+  pub return-pending : pending_at (get_or w (g.due + 1) 0) ≡ 0
   return-pending =
       let r = end-here in
-      ap pendingAt leads-place ∙ pend-pending c.declared c.tables (storeIn i.fr) i.α r.m (back r.K) r.is r.rest
+      ap pending_at leads-place ∙ pend-pending c.declared c.tables (store_in i.fr) i.α r.m (back r.K) r.is r.rest
 
-  pub end-pending : pendingAt g.due ≡ 1
+  pub end-pending : pending_at g.due ≡ 1
   end-pending =
       let r = end-here in
       let h = r.small in
-      rw (r.place, ne_eqb (frameSlot r.K) risePlace (λ e. omega arith), le-ltb (frameSlot r.K) framesAt (omega arith), lt-ltb (frameSlot r.K) lastsAt (omega arith)) refl
+      rw (r.place, ne_eqb (frame_slot r.K) rise_place (λ e. omega arith), le-ltb (frame_slot r.K) frames_at (omega arith), lt-ltb (frame_slot r.K) lasts_at (omega arith)) refl
 
-pub returned-came : {w : Words} {g q : Go} {path budget place : ℕ} → Dues w g path budget → get_or w g.due 0 ≡ returnCode → place ≡ get_or w (g.due + 1) 0 →
-    q ≡ toGo g place → Came w w g q path budget
+pub returned-came : {w : Words} {g q : Go} {path budget place : ℕ} → Dues w g path budget → get_or w g.due 0 ≡ return_code → place ≡ get_or w (g.due + 1) 0 →
+    q ≡ to_go g place → Came w w g q path budget
 returned-came {w} {g} d code at e =
-    let n : ¬ (get_or w g.due 0 ≡ riseCode) = λ z. omega arith in
+    let n : ¬ (get_or w g.due 0 ≡ rise_code) = λ z. omega arith in
     let i = due_in d.due n in
     let t = get_or w (g.due + 1) 0 in
     let before = down-pending g d.mode ∙ end-pending i code in
-    let after = down-pending (toGo g t) d.mode ∙ return-pending i code in
-    rw (e ∙ ap (toGo g) at) (record {
+    let after = down-pending (to_go g t) d.mode ∙ return-pending i code in
+    rw (e ∙ ap (to_go g) at) (record {
       sim = λ c b s u. down d.mode (returned (due_in u n) code);
       falls = λ m. omega (arith, before, after);
       least = omega arith;

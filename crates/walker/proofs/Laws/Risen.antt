@@ -10,21 +10,21 @@ use lib.Dec.{eqb}
 use borrow.Author.Tests.{eq-eqb, eqb-true}
 use lib.Seq.{get_or-set_same, get_or-set_other}
 use Rattle.specification.specs.Bytes.{Bytes}
-use Rattle.specification.specs.Arithmetic.{undecidedInside}
+use Rattle.specification.specs.Arithmetic.{undecided_inside}
 use Rattle.specification.specs.Value.{Valuation}
-use Rattle.tables.specs.Layout.{cellsAt, localSlot, lastSlot, pathAt, maxLocals}
-use Rattle.tables.specs.Codes.{orCode, impCode, notCode, someCode, allCode, callCode}
-use Rattle.tables.specs.Leaves.{failurePlace, errorPlace}
+use Rattle.tables.specs.Layout.{cells_at, local_slot, last_slot, path_at, max_locals}
+use Rattle.tables.specs.Codes.{or_code, imp_code, not_code, some_code, all_code, call_code}
+use Rattle.tables.specs.Leaves.{failure_place, error_place}
 use Rattle.sheet.specs.Tables.{Words}
 use Rattle.search.specs.declared.Go.{Go}
 use Rattle.search.specs.Frame.{Frame, pass, other, bound, began, given, range, asks, called}
 use Rattle.search.specs.Kept.{Lasts}
 use Rattle.search.specs.Records.{at}
 use Rattle.search.specs.Path.{World, Path}
-use Rattle.search.specs.Registers.{Tallied, outGo, dropGo, resumeGo}
+use Rattle.search.specs.Registers.{Tallied, out_go, drop_go, resume_go}
 use Rattle.search.specs.Sim.{Up, Yes, Sim, down, up, block, done, stopped}
-use Rattle.search.specs.Climb.{aroundGo, strip, Set, Rises, Rose, Granted}
-use Rattle.search.specs.States.{upMode, doneMode}
+use Rattle.search.specs.Climb.{around_go, strip, Set, Rises, Rose, Granted}
+use Rattle.search.specs.States.{up_mode, done_mode}
 use Rattle.search.proofs.Tops.{last-kind}
 use Rattle.search.proofs.Restored.{rose-undone}
 use Rattle.search.proofs.Resumed.{rose-other, rose-over}
@@ -39,9 +39,9 @@ use Rattle.walker.proofs.Laws.Reach.{bare, asks-path, asks-lies, all-lies, rises
 -- ---- the code of a topmost record's token
 
 abbrev OneOf : ℕ → Type 0
-OneOf x = (x ≡ orCode) ⊎ ((x ≡ someCode) ⊎ ((x ≡ allCode) ⊎ ((x ≡ callCode) ⊎ ((x ≡ notCode) ⊎ (x ≡ impCode)))))
+OneOf x = (x ≡ or_code) ⊎ ((x ≡ some_code) ⊎ ((x ≡ all_code) ⊎ ((x ≡ call_code) ⊎ ((x ≡ not_code) ⊎ (x ≡ imp_code)))))
 
-module _ {c : World} {w : Words} {top : ℕ} {α : Valuation} (some : ¬ (top ≡ pathAt)) (low : at w (top - 1) < cellsAt) where
+module _ {c : World} {w : Words} {top : ℕ} {α : Valuation} (some : ¬ (top ≡ path_at)) (low : at w (top - 1) < cells_at) where
   codes-of : (fr : List Frame) → strip fr ≡ fr → Path c w top α fr → OneOf (at w (at w (top - 1)))
   codes-of [] b P = absurd (some P.ends)
   codes-of (pass β ∷ fr) b P = absurd (last-kind (pass β) fr b P)
@@ -53,10 +53,10 @@ module _ {c : World} {w : Words} {top : ℕ} {α : Valuation} (some : ¬ (top �
   codes-of (asks tok q is β e ∷ fr) b P = inr (inr (inr (inr (last-kind (asks tok q is β e) fr b P).1)))
   codes-of (called C β ∷ fr) b P = inr (inr (inr (inl (last-kind (called C β) fr b P).1)))
 
-pub top-codes : {w : Words} {g : Go} → Topped w g → at w (g.top - 1) < cellsAt → OneOf (at w (at w (g.top - 1)))
+pub top-codes : {w : Words} {g : Go} → Topped w g → at w (g.top - 1) < cells_at → OneOf (at w (at w (g.top - 1)))
 top-codes t low = let s = bare t.path in codes-of t.some low s.fr s.bare s.path
 
-pub only-call : {x : ℕ} → OneOf x → ¬ (x ≡ orCode) → ¬ (x ≡ someCode) → ¬ (x ≡ allCode) → ¬ (x ≡ notCode) → ¬ (x ≡ impCode) → x ≡ callCode
+pub only-call : {x : ℕ} → OneOf x → ¬ (x ≡ or_code) → ¬ (x ≡ some_code) → ¬ (x ≡ all_code) → ¬ (x ≡ not_code) → ¬ (x ≡ imp_code) → x ≡ call_code
 only-call (inl e) a b c d f = absurd (a e)
 only-call (inr (inl e)) a b c d f = absurd (b e)
 only-call (inr (inr (inl e))) a b c d f = absurd (c e)
@@ -64,7 +64,7 @@ only-call (inr (inr (inr (inl e)))) a b c d f = e
 only-call (inr (inr (inr (inr (inl e))))) a b c d f = absurd (d e)
 only-call (inr (inr (inr (inr (inr e))))) a b c d f = absurd (f e)
 
-only-asks : {x : ℕ} → OneOf x → ¬ (x ≡ orCode) → ¬ (x ≡ someCode) → ¬ (x ≡ allCode) → ¬ (x ≡ callCode) → (x ≡ notCode) ⊎ (x ≡ impCode)
+only-asks : {x : ℕ} → OneOf x → ¬ (x ≡ or_code) → ¬ (x ≡ some_code) → ¬ (x ≡ all_code) → ¬ (x ≡ call_code) → (x ≡ not_code) ⊎ (x ≡ imp_code)
 only-asks (inl e) a b c d = absurd (a e)
 only-asks (inr (inl e)) a b c d = absurd (b e)
 only-asks (inr (inr (inl e))) a b c d = absurd (c e)
@@ -73,14 +73,14 @@ only-asks (inr (inr (inr (inr e)))) a b c d = e
 
 -- ---- inner trees
 
-pub asking-of : {w : Words} {g : Go} → Topped w g → at w (g.top - 1) < cellsAt → (at w (at w (g.top - 1)) ≡ notCode) ⊎ (at w (at w (g.top - 1)) ≡ impCode) → OfAsking w g
+pub asking-of : {w : Words} {g : Go} → Topped w g → at w (g.top - 1) < cells_at → (at w (at w (g.top - 1)) ≡ not_code) ⊎ (at w (at w (g.top - 1)) ≡ imp_code) → OfAsking w g
 asking-of t low (inl e) = inl (record { top = t; low = low; code = e })
 asking-of t low (inr e) = inr (record { top = t; low = low; code = e })
 
 record Asked (w : Words) (g : Go) : Type 0 where
-  pub some : ¬ (g.top ≡ pathAt)
-  pub low : at w (g.top - 1) < cellsAt
-  pub code : (at w (at w (g.top - 1)) ≡ notCode) ⊎ (at w (at w (g.top - 1)) ≡ impCode)
+  pub some : ¬ (g.top ≡ path_at)
+  pub low : at w (g.top - 1) < cells_at
+  pub code : (at w (at w (g.top - 1)) ≡ not_code) ⊎ (at w (at w (g.top - 1)) ≡ imp_code)
 
 asked : {w : Words} {g : Go} → OfAsking w g → Asked w g
 asked (inl o) = record { some = o.top.some; low = o.low; code = inl o.code }
@@ -94,40 +94,40 @@ arounds P st t o =
     record {
       asks = o;
       high = r.0.reach.low;
-      depth = omega (arith, r.1, st.path-is);
-      visits = omega (arith, t.budget, st.budget-is);
+      depth = omega (arith, r.1, st.path_is);
+      visits = omega (arith, t.budget, st.budget_is);
     }
 
 module _ {w : Words} {g : Go} {t path budget : ℕ} (j : Judges w g t path budget) where
   pub judges-arounds : Arounds w g path budget
   judges-arounds = arounds j.rises.up.path j.rises.set j.rises.up.tallies j.asks
 
-  pub judged-undecided : {w' : Words} {q : Go} → w' ≡ set (set w (errorPlace + 1) undecidedInside) (errorPlace + 2) (t / 4) → g.bad ≡ 1 →
-      q ≡ aroundGo w g errorPlace path budget → Rose w w' g q path budget
+  pub judged-undecided : {w' : Words} {q : Go} → w' ≡ set (set w (error_place + 1) undecided_inside) (error_place + 2) (t / 4) → g.bad ≡ 1 →
+      q ≡ around_go w g error_place path budget → Rose w w' g q path budget
   judged-undecided ws one rs =
       let a = asked j.asks in
-      rose-undecided a.some a.low a.code (ws ∙ ap (λ k. set (set w (errorPlace + 1) undecidedInside) (errorPlace + 2) (k / 4)) j.token) one rs
+      rose-undecided a.some a.low a.code (ws ∙ ap (λ k. set (set w (error_place + 1) undecided_inside) (error_place + 2) (k / 4)) j.token) one rs
 
-  pub judged-failed : {q : Go} {n : ℕ} → n ≡ at w (t + 3) → ¬ (g.bad ≡ 1) → q ≡ aroundGo w g n path budget → Rose w w g q path budget
+  pub judged-failed : {q : Go} {n : ℕ} → n ≡ at w (t + 3) → ¬ (g.bad ≡ 1) → q ≡ around_go w g n path budget → Rose w w g q path budget
   judged-failed en none rs =
       let a = asked j.asks in
-      rose-failed a.some a.low a.code none (rs ∙ ap (λ k. aroundGo w g k path budget) (en ∙ ap (λ k. at w (k + 3)) j.token))
+      rose-failed a.some a.low a.code none (rs ∙ ap (λ k. around_go w g k path budget) (en ∙ ap (λ k. at w (k + 3)) j.token))
 
 module _ {w : Words} {g : Go} {path budget : ℕ} (r : Grants w g path budget) where
   pub grants-arounds : Arounds w g path budget
   grants-arounds = arounds r.yes.path r.set r.yes.tallies r.asks
 
-  pub grants-second : {q : Go} {t x n : ℕ} → t ≡ at w (g.top - 1) → x ≡ at w t → x ≡ impCode → n ≡ at w (t + 1) → q ≡ aroundGo w g n path budget → Granted w g q path budget
+  pub grants-second : {q : Go} {t x n : ℕ} → t ≡ at w (g.top - 1) → x ≡ at w t → x ≡ imp_code → n ≡ at w (t + 1) → q ≡ around_go w g n path budget → Granted w g q path budget
   grants-second et ex imp en rs =
       let a = asked r.asks in
-      granted-second a.some a.low (ap (at w) (sym et) ∙ sym ex ∙ imp) (rs ∙ ap (λ k. aroundGo w g k path budget) (en ∙ ap (λ k. at w (k + 1)) et))
+      granted-second a.some a.low (ap (at w) (sym et) ∙ sym ex ∙ imp) (rs ∙ ap (λ k. around_go w g k path budget) (en ∙ ap (λ k. at w (k + 1)) et))
 
-  pub grants-failure : {q : Go} {t x : ℕ} → t ≡ at w (g.top - 1) → x ≡ at w t → ¬ (x ≡ impCode) → q ≡ aroundGo w g failurePlace path budget → Granted w g q path budget
+  pub grants-failure : {q : Go} {t x : ℕ} → t ≡ at w (g.top - 1) → x ≡ at w t → ¬ (x ≡ imp_code) → q ≡ around_go w g failure_place path budget → Granted w g q path budget
   grants-failure et ex off rs =
       let a = asked r.asks in
       granted-failure a.some a.low (denies a.code) rs
     where
-      denies : (at w (at w (g.top - 1)) ≡ notCode) ⊎ (at w (at w (g.top - 1)) ≡ impCode) → at w (at w (g.top - 1)) ≡ notCode
+      denies : (at w (at w (g.top - 1)) ≡ not_code) ⊎ (at w (at w (g.top - 1)) ≡ imp_code) → at w (at w (g.top - 1)) ≡ not_code
       denies (inl e) = e
       denies (inr e) = absurd (off (ex ∙ ap (at w) et ∙ e))
 
@@ -137,25 +137,25 @@ module _ {w : Words} {g : Go} {n t path budget : ℕ} (r : RisesTo w g n t path 
   abbrev f : RisesFrom w g t path budget
   f = r.from
 
-  pub other-rose : n ≡ orCode → {q : Go} {m depth : ℕ} → m ≡ at w (t + 1) → depth ≡ at w (g.top - 2) →
-      q ≡ resumeGo g m depth (g.top - 2) g.inner g.bad path budget → Rose w w g q path budget
+  pub other-rose : n ≡ or_code → {q : Go} {m depth : ℕ} → m ≡ at w (t + 1) → depth ≡ at w (g.top - 2) →
+      q ≡ resume_go g m depth (g.top - 2) g.inner g.bad path budget → Rose w w g q path budget
   other-rose is {depth = depth} em ed rs =
       rose-other f.some f.low (r.code ∙ is)
-      (rs ∙ ap (λ k. resumeGo g k depth (g.top - 2) g.inner g.bad path budget) (em ∙ ap (λ k. at w (k + 1)) f.token)
-      ∙ ap (λ k. resumeGo g (at w (at w (g.top - 1) + 1)) k (g.top - 2) g.inner g.bad path budget) ed)
+      (rs ∙ ap (λ k. resume_go g k depth (g.top - 2) g.inner g.bad path budget) (em ∙ ap (λ k. at w (k + 1)) f.token)
+      ∙ ap (λ k. resume_go g (at w (at w (g.top - 1) + 1)) k (g.top - 2) g.inner g.bad path budget) ed)
 
-  slot-by : {l slot : ℕ} → l ≡ at w (t + 5) → slot ≡ localSlot l → slot ≡ localSlot (at w (at w (g.top - 1) + 5))
-  slot-by el es = es ∙ ap localSlot (el ∙ ap (λ k. at w (k + 5)) f.token)
+  slot-by : {l slot : ℕ} → l ≡ at w (t + 5) → slot ≡ local_slot l → slot ≡ local_slot (at w (at w (g.top - 1) + 5))
+  slot-by el es = es ∙ ap local_slot (el ∙ ap (λ k. at w (k + 5)) f.token)
 
-  pub value-rose : n ≡ someCode → {w' : Words} {q : Go} {l slot current last m depth : ℕ} → l ≡ at w (t + 5) → slot ≡ localSlot l → current ≡ at w (slot + 1) →
+  pub value-rose : n ≡ some_code → {w' : Words} {q : Go} {l slot current last m depth : ℕ} → l ≡ at w (t + 5) → slot ≡ local_slot l → current ≡ at w (slot + 1) →
       last ≡ at w (g.top - 3) → current < last → m ≡ at w (t + 7) → depth ≡ at w (g.top - 2) → w' ≡ set w (slot + 1) (current + 1) →
-      q ≡ resumeGo g m depth g.top g.inner g.bad path budget → Rose w w' g q path budget
+      q ≡ resume_go g m depth g.top g.inner g.bad path budget → Rose w w' g q path budget
   value-rose is {slot = slot} {depth = depth} el es ec ea more em ed ws rs =
       rose-next f.some f.low (r.code ∙ is) (slot-by el es) (rw (ec, ea) at more) (ws ∙ ap (λ k. set w (slot + 1) (k + 1)) ec)
-      (rs ∙ ap (λ k. resumeGo g k depth g.top g.inner g.bad path budget) (em ∙ ap (λ k. at w (k + 7)) f.token)
-      ∙ ap (λ k. resumeGo g (at w (at w (g.top - 1) + 7)) k g.top g.inner g.bad path budget) ed)
+      (rs ∙ ap (λ k. resume_go g k depth g.top g.inner g.bad path budget) (em ∙ ap (λ k. at w (k + 7)) f.token)
+      ∙ ap (λ k. resume_go g (at w (at w (g.top - 1) + 7)) k g.top g.inner g.bad path budget) ed)
 
-  pub closed-rose : n ≡ someCode → {w' : Words} {q : Go} {l slot current last : ℕ} → l ≡ at w (t + 5) → slot ≡ localSlot l → current ≡ at w (slot + 1) →
+  pub closed-rose : n ≡ some_code → {w' : Words} {q : Go} {l slot current last : ℕ} → l ≡ at w (t + 5) → slot ≡ local_slot l → current ≡ at w (slot + 1) →
       last ≡ at w (g.top - 3) → last ≤ current → Closed w w' g q → Rose w w' g q path budget
   closed-rose is el es ec ea over k =
       let e = slot-by el es in
@@ -169,10 +169,10 @@ module _ {w : Words} {g : Go} {t path budget : ℕ} (f : RisesFrom w g t path bu
   pub rises-of : {n x : ℕ} → x ≡ at w t → x ≡ n → OfCode w g n
   rises-of ex e = rises-code (rises-to ex e)
 
-  pub left-rose : {x : ℕ} {w' : Words} {q : Go} → x ≡ at w t → x ≡ callCode → Left w w' g q → Rose w w' g q path budget
+  pub left-rose : {x : ℕ} {w' : Words} {q : Go} → x ≡ at w t → x ≡ call_code → Left w w' g q → Rose w w' g q path budget
   left-rose ex e k = rose-left f.some f.low (rises-to ex e).code refl refl refl k.back f.rises k.regs
 
-  pub rises-judges : {x : ℕ} → x ≡ at w t → ¬ (x ≡ orCode) → ¬ (x ≡ someCode) → ¬ (x ≡ allCode) → ¬ (x ≡ callCode) → Judges w g t path budget
+  pub rises-judges : {x : ℕ} → x ≡ at w t → ¬ (x ≡ or_code) → ¬ (x ≡ some_code) → ¬ (x ≡ all_code) → ¬ (x ≡ call_code) → Judges w g t path budget
   rises-judges ex a b c d =
       let top = rises-top f.rises f.some in
       let same = ex ∙ ap (at w) f.token in
@@ -184,39 +184,39 @@ module _ {w : Words} {g : Go} {t path budget : ℕ} (f : RisesFrom w g t path bu
 
 -- ---- the last value of an `all`
 
-pub lasts-set : (w : Words) (l h : ℕ) → lastSlot l < length w → Lasts w (set w (lastSlot l) h) l h
+pub lasts-set : (w : Words) (l h : ℕ) → last_slot l < length w → Lasts w (set w (last_slot l) h) l h
 lasts-set w l h s = record {
-  others = λ j n. get_or-set_other w (lastSlot l) j h 0 (λ e. n (omega arith));
-  now = get_or-set_same w (lastSlot l) h 0 s;
-  size = length-set w (lastSlot l) h;
+  others = λ j n. get_or-set_other w (last_slot l) j h 0 (λ e. n (omega arith));
+  now = get_or-set_same w (last_slot l) h 0 s;
+  size = length-set w (last_slot l) h;
 }
 
-pub last-there : {w : Words} {g : Go} → OfCode w g allCode → lastSlot (at w (at w (g.top - 1) + 5)) < length w
+pub last-there : {w : Words} {g : Go} → OfCode w g all_code → last_slot (at w (at w (g.top - 1) + 5)) < length w
 last-there o = let z = all-lies o in omega (arith, z.1, z.0.reach.low, z.0.reach.high)
 
-pub ended-rose : {w w' : Words} {g q : Go} {t x path budget : ℕ} → RisesFrom w g t path budget → x ≡ at w t → x ≡ allCode → Ended w w' g q → Rose w w' g q path budget
+pub ended-rose : {w w' : Words} {g q : Go} {t x path budget : ℕ} → RisesFrom w g t path budget → x ≡ at w t → x ≡ all_code → Ended w w' g q → Rose w w' g q path budget
 ended-rose {w} {g = g} f ex e k =
     rose-ended f.some f.low (rises-to f ex e).code refl refl (lasts-set w _ _ (last-there (rises-of f ex e))) k.words f.rises k.regs
 
 -- ---- by the last word
 
 module _ {w : Words} {g : Go} {path budget : ℕ} (r : Rises w g path budget) where
-  pub over-rose : g.top ≡ pathAt → {q : Go} → q ≡ outGo g doneMode → Rose w w g q path budget
+  pub over-rose : g.top ≡ path_at → {q : Go} → q ≡ out_go g done_mode → Rose w w g q path budget
   over-rose e rs = rose-over e r rs
 
-  pub rises-slot : ¬ (g.top ≡ pathAt) → {x : ℕ} → x ≡ at w (g.top - 1) → cellsAt ≤ x → KeepsSlot w g
+  pub rises-slot : ¬ (g.top ≡ path_at) → {x : ℕ} → x ≡ at w (g.top - 1) → cells_at ≤ x → KeepsSlot w g
   rises-slot n ex h = record { top = rises-top r n; slot = rw ex at h }
 
   pub undone-rose : {w' : Words} {q : Go} → KeepsSlot w g → Undone w w' g q → Rose w w' g q path budget
   undone-rose k u = rose-undone k.top.some k.slot u.words r u.regs
 
-  pub rises-from : ¬ (g.top ≡ pathAt) → {x : ℕ} → x ≡ at w (g.top - 1) → x < cellsAt → RisesFrom w g x path budget
+  pub rises-from : ¬ (g.top ≡ path_at) → {x : ℕ} → x ≡ at w (g.top - 1) → x < cells_at → RisesFrom w g x path budget
   rises-from n ex h = record { rises = r; some = n; low = rw ex at h; token = ex }
 
 -- ---- until something is due
 
 -- a son is still due, in the mode of going up
-sim-up : {c : World} {b : Bytes} {w : Words} {q : Go} → q.mode ≡ upMode → Sim c b w q → Up c b w q
+sim-up : {c : World} {b : Bytes} {w : Words} {q : Go} → q.mode ≡ up_mode → Sim c b w q → Up c b w q
 sim-up m (down e d) = absurd (omega (arith, sym e ∙ m))
 sim-up m (up e u) = u
 sim-up m (block e d) = absurd (omega (arith, sym e ∙ m))
@@ -245,10 +245,10 @@ climbs-first r = record {
 }
 
 module _ {w₀ w : Words} {g q : Go} {path budget : ℕ} (k : Climbs w₀ w g q path budget) where
-  pub climbs-rises : q.mode ≡ upMode → Rises w q path budget
+  pub climbs-rises : q.mode ≡ up_mode → Rises w q path budget
   climbs-rises m = record { c = k.c; b = k.b; set = k.set; mode = m; up = sim-up m k.here }
 
-  pub climbs-more : {w' : Words} {q' : Go} → q.mode ≡ upMode → Rose w w' q q' path budget → Climbs w₀ w' g q' path budget
+  pub climbs-more : {w' : Words} {q' : Go} → q.mode ≡ up_mode → Rose w w' q q' path budget → Climbs w₀ w' g q' path budget
   climbs-more m s = record {
     c = k.c;
     b = k.b;
@@ -259,7 +259,7 @@ module _ {w₀ w : Words} {g q : Go} {path budget : ℕ} (k : Climbs w₀ w g q 
     counted = s.counted;
   }
 
-  pub climbs-end : g.mode ≡ upMode → ¬ (q.mode ≡ upMode) → Climbed w₀ w g q path budget
+  pub climbs-end : g.mode ≡ up_mode → ¬ (q.mode ≡ up_mode) → Climbed w₀ w g q path budget
   climbs-end m n = record { sim = λ c b st u. k.sim c b st (up m u); nodes = k.nodes; counted = k.counted; stops = n }
 
 -- what falls: one more than where the records end, while going up
@@ -268,12 +268,12 @@ rung true n = suc n
 rung false n = 0
 
 unfoldable pub level : Go → ℕ
-level q = rung (eqb q.mode upMode) q.top
+level q = rung (eqb q.mode up_mode) q.top
 
-pub climbs-less : {w w' : Words} {q q' : Go} {path budget : ℕ} → q.mode ≡ upMode → Rose w w' q q' path budget → level q' < level q
+pub climbs-less : {w w' : Words} {q q' : Go} {path budget : ℕ} → q.mode ≡ up_mode → Rose w w' q q' path budget → level q' < level q
 unfolding level
-climbs-less {q = q} {q' = q'} m s = rw (eq-eqb q.mode upMode m) (go (eqb q'.mode upMode) refl)
+climbs-less {q = q} {q' = q'} m s = rw (eq-eqb q.mode up_mode m) (go (eqb q'.mode up_mode) refl)
   where
-    go : (t : Bool) → eqb q'.mode upMode ≡ t → rung t q'.top < rung true q.top
-    go true e = omega (arith, s.falls (eqb-true q'.mode upMode e))
+    go : (t : Bool) → eqb q'.mode up_mode ≡ t → rung t q'.top < rung true q.top
+    go true e = omega (arith, s.falls (eqb-true q'.mode up_mode e))
     go false e = omega arith

@@ -5,22 +5,22 @@ use mathlib.Core.Path.{◌≡◌, refl, sym, ◌∙◌, ap}
 use mathlib.Core.List.{[], ◌∷◌}
 use lib.ListN.{length, get_or}
 use borrow.Author.Tests.{eq-eqb, ne_eqb}
-use Rattle.tables.specs.Layout.{pathAt}
-use Rattle.tables.specs.Frames.{frameSlot, argumentSlot, call_at, backAt, tagsAt}
-use Rattle.tables.specs.Leaves.{returnCode}
+use Rattle.tables.specs.Layout.{path_at}
+use Rattle.tables.specs.Frames.{frame_slot, argument_slot, call_at, back_at, tags_at}
+use Rattle.tables.specs.Leaves.{return_code}
 use Rattle.sheet.specs.Tables.{Words}
 use Rattle.search.specs.Kept.{Pushes}
-use Rattle.search.specs.Steps.{backWord}
+use Rattle.search.specs.Steps.{back_word}
 use Rattle.walker.specs.Frames.{Copied, Saves, Saved}
 
 module _ {w w' w'' : Words} {top k n t tags back call : ℕ} (s : Saves w top k n) (f : Copied w w' top k n) (p : Pushes w' w'' (top + n) (tags ∷ back ∷ call ∷ t ∷ [])) where
   below : (j : ℕ) → j < top → get_or w' j 0 ≡ get_or w j 0
   below j h = f.others j (λ i l z. omega arith)
 
-  head-kept : (j : ℕ) → j < 4 → get_or w' (frameSlot k + j) 0 ≡ get_or w (frameSlot k + j) 0
-  head-kept j h = below (frameSlot k + j) (omega (arith, s.procedure, s.low))
+  head-kept : (j : ℕ) → j < 4 → get_or w' (frame_slot k + j) 0 ≡ get_or w (frame_slot k + j) 0
+  head-kept j h = below (frame_slot k + j) (omega (arith, s.procedure, s.low))
 
-  pub saved : tags ≡ tagsAt w' k → back ≡ backAt w' k → call ≡ call_at w' k → Saved w w'' top k n t (top + n + 4)
+  pub saved : tags ≡ tags_at w' k → back ≡ back_at w' k → call ≡ call_at w' k → Saved w w'' top k n t (top + n + 4)
   saved et eb ec = record {
     saved = record {
       words = λ j h. p.low (top + j) (omega arith) ∙ f.words j h;
@@ -38,8 +38,8 @@ module _ {w w' w'' : Words} {top k n t tags back call : ℕ} (s : Saves w top k 
       head j h e = ap (λ i. get_or w'' i 0) e ∙ p.words j h
 
 module _ (w : Words) (t : ℕ) {n : ℕ} (en : n ≡ get_or w (t + 3) 0) where
-  pub back-returned : {x r : ℕ} → x ≡ get_or w n 0 → x ≡ returnCode → r ≡ get_or w (n + 1) 0 → r ≡ backWord w t
-  back-returned {x} {r} ex e er = rw (← en, eq-eqb (get_or w n 0) returnCode (sym ex ∙ e)) er
+  pub back-returned : {x r : ℕ} → x ≡ get_or w n 0 → x ≡ return_code → r ≡ get_or w (n + 1) 0 → r ≡ back_word w t
+  back-returned {x} {r} ex e er = rw (← en, eq-eqb (get_or w n 0) return_code (sym ex ∙ e)) er
 
-  pub back-straight : {x : ℕ} → x ≡ get_or w n 0 → ¬ (x ≡ returnCode) → n ≡ backWord w t
-  back-straight {x} ex e = rw (← en, ne_eqb (get_or w n 0) returnCode (λ z. e (ex ∙ z))) refl
+  pub back-straight : {x : ℕ} → x ≡ get_or w n 0 → ¬ (x ≡ return_code) → n ≡ back_word w t
+  back-straight {x} ex e = rw (← en, ne_eqb (get_or w n 0) return_code (λ z. e (ex ∙ z))) refl

@@ -14,7 +14,7 @@ use Rattle.search.specs.declared.Go.{Go}
 use Rattle.search.specs.Kept as steps
 use Rattle.search.specs.Kept.{SameStore}
 use Rattle.search.specs.Store.{Store}
-use Rattle.search.specs.Frame.{What, the, success, failure, error, storeIn}
+use Rattle.search.specs.Frame.{What, the, success, failure, error, store_in}
 use Rattle.search.specs.Path.{World, Job}
 use Rattle.search.specs.Sim.{In}
 use Rattle.search.specs.Steps.{Visited, Entered, Stepped, HasTerms}
@@ -64,7 +64,7 @@ module _ (w w' : Words) (k : Kept w w') (size : length w' ≡ length w) where
     deep = i.deep;
     inner = i.inner;
     bad = i.bad;
-    job = job-spare c (storeIn i.fr) i.α g.due i.x i.job;
+    job = job-spare c (store_in i.fr) i.α g.due i.x i.job;
     gauge = i.gauge;
     room = i.room;
     result = i.result;

@@ -10,9 +10,9 @@ use Rattle.sheet.specs.Tables.{Words}
 use Rattle.plan.proofs.Laws.Carried.{terms-planned-here}
 use Rattle.terms.specs.declared.Sides.{Sides}
 use Rattle.terms.specs.Environment.{number_of}
-use Rattle.terms.specs.Results.{sidesOf}
+use Rattle.terms.specs.Results.{sides_of}
 use Rattle.terms.proofs.Laws.Here as kept
-use Rattle.quick.specs.Told.{unknownTag, side_in}
+use Rattle.quick.specs.Told.{unknown_tag, side_in}
 use Rattle.quick.specs.Quick.{Answers, Both, Plans, Quick}
 use Rattle.search.specs.declared.Go.{Go}
 use Rattle.search.specs.Path.{World}
@@ -40,13 +40,13 @@ module _ {c : World} {b : Bytes} {w : Words} {g : Go} (i : In c b w g) {n : ℕ}
         memory = memory-in i.path a.E a.form.env;
         scope = q.scope;
         locals = q.locals;
-        left-ok = q.left;
-        right-ok = q.right;
+        left_ok = q.left;
+        right_ok = q.right;
         before = after;
         left = here.0;
         right = here.1;
-        left-low = q.left-low;
-        right-low = q.right-low;
+        left_low = q.left_low;
+        right_low = q.right_low;
         planned = terms-planned-here c.tables w s (number_of a.E) a.form.h a.first a.end a.left a.right q.terms after q.planned;
       }
 
@@ -84,12 +84,12 @@ module _ {w : Words} {g : Go} {n : ℕ} (x : Entered w g n) (h : HasTerms n) whe
             c b (in-spare w' w back z i) E F is e s t p;
       }
 
-answered : (r : Sides) (x y : Side) → Answers r x y → ¬ (r.ltag ≡ unknownTag) → r ≡ sidesOf x y
+answered : (r : Sides) (x y : Side) → Answers r x y → ¬ (r.ltag ≡ unknown_tag) → r ≡ sides_of x y
 answered r x y (inl e) m = absurd (m e)
 answered r x y (inr q) m = q.sides
 
 module _ {w : Words} {g : Go} {n : ℕ} {r : Sides} (d : Tells w g n r) where
-  told-decides : ¬ (r.ltag ≡ unknownTag) → Decides w g n r
+  told-decides : ¬ (r.ltag ≡ unknown_tag) → Decides w g n r
   told-decides m = record {
     at = d.at;
     terms = d.terms;
@@ -100,7 +100,7 @@ module _ {w : Words} {g : Go} {n : ℕ} {r : Sides} (d : Tells w g n r) where
 
 module _ {w w' : Words} {g : Go} {n : ℕ} {r : Sides} (x : Entered w g n) (h : HasTerms n) (q : Quick w w' g.due r) where
   -- by the plan
-  pub told-knows : ¬ (r.ltag ≡ unknownTag) → Knows w w' g n r
+  pub told-knows : ¬ (r.ltag ≡ unknown_tag) → Knows w w' g n r
   told-knows m = record { decides = told-decides (tells x h q) m; kept = off-kept w w' q.kept; size = q.size }
 
   -- by the full evaluation after it

@@ -10,29 +10,29 @@ use lib.ListN.{length, get_or}
 use lib.Dec.{ltb}
 use borrow.Author.Tests.{ltb-true, ltb-false, lt-ltb, le-ltb}
 use Rattle.specification.specs.Bytes.{Bytes}
-use Rattle.specification.specs.Fill.{fillTerm}
+use Rattle.specification.specs.Fill.{fill_term}
 use Rattle.specification.specs.WellFormed.{OkTerm}
-use Rattle.tables.specs.Layout.{tokenSlot, plan_at, maxTokens, pathAt}
-use Rattle.tables.specs.Codes.{exCode, parameterCode}
+use Rattle.tables.specs.Layout.{token_slot, plan_at, max_tokens, path_at}
+use Rattle.tables.specs.Codes.{ex_code, parameter_code}
 use Rattle.sheet.specs.Tables.{Words}
 use Rattle.sheet.specs.Held.{code_at, end_at, TermsAt}
 use Rattle.terms.specs.declared.Sides.{Sides}
-use Rattle.terms.specs.Environment.{Environment, termsOf, number_of, pointerOf}
+use Rattle.terms.specs.Environment.{Environment, terms_of, number_of, pointer_of}
 use Rattle.terms.specs.Results as results
-use Rattle.terms.specs.Results.{sidesOf, span, Stand, Asked}
+use Rattle.terms.specs.Results.{sides_of, span, Stand, Asked}
 use Rattle.terms.proofs.Laws.Here as kept
 use Rattle.search.specs.declared.Go.{Go}
 use Rattle.search.specs.Path.{World}
 use Rattle.search.specs.Sim.{In}
 use Rattle.search.specs.Steps.{Entered, Stepped, HasTerms}
-use Rattle.walker.specs.Terms.{Knows, Decides, firstTerm, endOfTerms, Searches, NoneIn, Found}
+use Rattle.walker.specs.Terms.{Knows, Decides, first_term, end_of_terms, Searches, NoneIn, Found}
 use Rattle.walker.proofs.Laws.Terms.{Spans, TermsHere, terms-here, each}
 use Rattle.walker.proofs.Laws.Told.{both-here, spans-after}
 use Rattle.walker.proofs.Laws.Spare.{kept_back, in-spare, entered-spare, stepped-spare}
 use Rattle.walker.proofs.Laws.Parameters.{no-parameter, ParameterAt, either, parameter-at, one-procedure}
 
 -- one token more without a parameter
-pub none_more : (w : Words) (from i : ℕ) → NoneIn w from i → (code_at w i ≡ parameterCode → ⊥) → NoneIn w from (i + 1)
+pub none_more : (w : Words) (from i : ℕ) → NoneIn w from i → (code_at w i ≡ parameter_code → ⊥) → NoneIn w from (i + 1)
 none_more w from i h m j low high e = go (ltb j i) refl
   where
     go : (b : Bool) → ltb j i ≡ b → ⊥
@@ -51,44 +51,44 @@ module _ {c : World} {b : Bytes} {w : Words} {g : Go} (i : In c b w g) {n : ℕ}
   right-ends : kept.Ends w (end_at w a.first)
   right-ends = kept.term-ends w (end_at w a.first) a.right terms-stand.1
 
-  end-near : a.end ≤ maxTokens
+  end-near : a.end ≤ max_tokens
   end-near = omega (arith, terms-stand.2, right-ends.inside)
 
-  head_near : a.form.h + 1 < maxTokens
+  head_near : a.form.h + 1 < max_tokens
   head_near = omega (arith, spans-after c.tables n a.form.h a.first a.end a.spans, left-ends.after, left-ends.inside)
 
   head-is : g.due / 4 ≡ a.form.h
   head-is = let p = a.form.place in omega arith
 
-  first-is : firstTerm (g.due / 4) n ≡ a.first
+  first-is : first_term (g.due / 4) n ≡ a.first
   first-is = rw head-is (go a.spans)
     where
-      go : Spans c.tables n a.form.h a.first a.end → firstTerm a.form.h n ≡ a.first
-      go (inl q) = rw (lt-ltb n exCode q.0) (omega (arith, q.1))
-      go (inr q) = rw (le-ltb n exCode q.0) (omega (arith, q.1))
+      go : Spans c.tables n a.form.h a.first a.end → first_term a.form.h n ≡ a.first
+      go (inl q) = rw (lt-ltb n ex_code q.0) (omega (arith, q.1))
+      go (inr q) = rw (le-ltb n ex_code q.0) (omega (arith, q.1))
 
-  end_is : endOfTerms w (g.due / 4) n ≡ a.end
+  end_is : end_of_terms w (g.due / 4) n ≡ a.end
   end_is = rw head-is (go a.spans)
     where
-      go : Spans c.tables n a.form.h a.first a.end → endOfTerms w a.form.h n ≡ a.end
-      go (inl q) = rw (lt-ltb n exCode q.0) (kept.end-here c.tables w i.path.tables.tokens (omega (arith, head_near)) ∙ sym q.2)
+      go : Spans c.tables n a.form.h a.first a.end → end_of_terms w a.form.h n ≡ a.end
+      go (inl q) = rw (lt-ltb n ex_code q.0) (kept.end-here c.tables w i.path.tables.tokens (omega (arith, head_near)) ∙ sym q.2)
       go (inr q) =
-          let same : plan_at w (a.form.h + 1) ≡ tokenSlot a.end =
-          rw (add-one a.form.h) (i.path.tables.tokens (tokenSlot (suc a.form.h) + 3) (omega (arith, head_near)) ∙ q.2) in
-          rw (le-ltb n exCode q.0) (omega arith)
+          let same : plan_at w (a.form.h + 1) ≡ token_slot a.end =
+          rw (add-one a.form.h) (i.path.tables.tokens (token_slot (suc a.form.h) + 3) (omega (arith, head_near)) ∙ q.2) in
+          rw (le-ltb n ex_code q.0) (omega arith)
 
   -- ---- parameters there
 
-  parameter-in : (j : ℕ) → a.first ≤ j → j < a.end → code_at w j ≡ parameterCode → ParameterAt w (termsOf a.E) (number_of a.E) j
+  parameter-in : (j : ℕ) → a.first ≤ j → j < a.end → code_at w j ≡ parameter_code → ParameterAt w (terms_of a.E) (number_of a.E) j
   parameter-in j low high code =
       let q = both-here i a in
       let D = c.declared in
-      let ts = termsOf a.E in
+      let ts = terms_of a.E in
       let K = number_of a.E in
       let none = q.memory.filled in
       either w D q.scope ts K j none code (end_at w a.first)
-      (λ z. parameter-at w D q.scope ts K j none code a.left a.first (tokenSlot a.form.h) q.left q.planned.left q.left-ok low z)
-      (λ z. parameter-at w D q.scope ts K j none code a.right (end_at w a.first) _ q.right q.planned.right q.right-ok z
+      (λ z. parameter-at w D q.scope ts K j none code a.left a.first (token_slot a.form.h) q.left q.planned.left q.left_ok low z)
+      (λ z. parameter-at w D q.scope ts K j none code a.right (end_at w a.first) _ q.right q.planned.right q.right_ok z
       (omega (arith, terms-stand.2)))
 
   searches-here : Searches w a.first a.end
@@ -104,13 +104,13 @@ module _ {c : World} {b : Bytes} {w : Words} {g : Go} (i : In c b w g) {n : ℕ}
   pub record Standing (p : ℕ) : Type 0 where
     pub env : Environment
     pub stand : Stand w (span a.first a.end) p c.declared i.α env a.left a.right
-    pub left-same : fillTerm (termsOf env) a.left ≡ fillTerm (termsOf a.E) a.left
-    pub right-same : fillTerm (termsOf env) a.right ≡ fillTerm (termsOf a.E) a.right
+    pub left-same : fill_term (terms_of env) a.left ≡ fill_term (terms_of a.E) a.left
+    pub right-same : fill_term (terms_of env) a.right ≡ fill_term (terms_of a.E) a.right
 
   standing : {p : ℕ} → Found w a.first a.end p → Standing p
   standing {p} (inr o) =
       let q = both-here i a in
-      let e : p ≡ pointerOf a.E =
+      let e : p ≡ pointer_of a.E =
       o.number ∙ one-procedure c.declared w o.token a.E q.memory.environment
       (parameter-in o.token o.after o.before o.code) in
       record {
@@ -120,10 +120,10 @@ module _ {c : World} {b : Bytes} {w : Words} {g : Go} (i : In c b w g) {n : ℕ}
           terms = terms-stand;
           scope = q.scope;
           locals = q.locals;
-          left = q.left-ok;
-          right = q.right-ok;
-          left-low = q.left-low;
-          right-low = q.right-low;
+          left = q.left_ok;
+          right = q.right_ok;
+          left_low = q.left_low;
+          right_low = q.right_low;
         };
         left-same = refl;
         right-same = refl;
@@ -131,10 +131,10 @@ module _ {c : World} {b : Bytes} {w : Words} {g : Go} (i : In c b w g) {n : ℕ}
   standing {p} (inl o) =
       let q = both-here i a in
       let m = q.memory in
-      let left : (E : Environment) → fillTerm (termsOf E) a.left ≡ a.left =
-      λ E. no-parameter w (termsOf E) a.left a.first q.left (λ j x y. o.1 j x (omega (arith, terms-stand.2, right-ends.after))) in
-      let right : (E : Environment) → fillTerm (termsOf E) a.right ≡ a.right =
-      λ E. no-parameter w (termsOf E) a.right (end_at w a.first) q.right
+      let left : (E : Environment) → fill_term (terms_of E) a.left ≡ a.left =
+      λ E. no-parameter w (terms_of E) a.left a.first q.left (λ j x y. o.1 j x (omega (arith, terms-stand.2, right-ends.after))) in
+      let right : (E : Environment) → fill_term (terms_of E) a.right ≡ a.right =
+      λ E. no-parameter w (terms_of E) a.right (end_at w a.first) q.right
       (λ j x y. o.1 j (omega (arith, left-ends.after)) (omega (arith, terms-stand.2))) in
       let left-same = left [] ∙ sym (left a.E) in
       let right-same = right [] ∙ sym (right a.E) in
@@ -155,10 +155,10 @@ module _ {c : World} {b : Bytes} {w : Words} {g : Go} (i : In c b w g) {n : ℕ}
           terms = terms-stand;
           scope = q.scope;
           locals = q.locals;
-          left = subst (OkTerm c.declared q.scope) (sym left-same) q.left-ok;
-          right = subst (OkTerm c.declared q.scope) (sym right-same) q.right-ok;
-          left-low = q.left-low;
-          right-low = q.right-low;
+          left = subst (OkTerm c.declared q.scope) (sym left-same) q.left_ok;
+          right = subst (OkTerm c.declared q.scope) (sym right-same) q.right_ok;
+          left_low = q.left_low;
+          right_low = q.right_low;
         };
         left-same = left-same;
         right-same = right-same;
@@ -167,15 +167,15 @@ module _ {c : World} {b : Bytes} {w : Words} {g : Go} (i : In c b w g) {n : ℕ}
 -- ---- the code's numbers
 
 module _ {w : Words} {g : Go} {n : ℕ} (x : Entered w g n) (h : HasTerms n) where
-  pub near : (g.due / 4 + 1 < maxTokens) × (pathAt ≤ length w)
+  pub near : (g.due / 4 + 1 < max_tokens) × (path_at ≤ length w)
   near =
       let i = x.at.ins in
       let a = terms-here i x.code h in
       let z = head_near i a in
       (omega (arith, head-is i a), (both-here i a).memory.size)
 
-module _ {w : Words} {g : Go} {n : ℕ} (x : Entered w g n) (h : HasTerms n) {from to : ℕ} (ef : from ≡ firstTerm (g.due / 4) n)
-    (et : to ≡ endOfTerms w (g.due / 4) n) where
+module _ {w : Words} {g : Go} {n : ℕ} (x : Entered w g n) (h : HasTerms n) {from to : ℕ} (ef : from ≡ first_term (g.due / 4) n)
+    (et : to ≡ end_of_terms w (g.due / 4) n) where
   pub searches : Searches w from to
   searches =
       let i = x.at.ins in
@@ -213,7 +213,7 @@ module _ {w : Words} {g : Go} {n : ℕ} (x : Entered w g n) (h : HasTerms n) {fr
         at = entered-spare w w' v.kept v.size x h;
         terms = h;
         sides = λ c b i E F is e s t q.
-            each x h (λ y z. r ≡ sidesOf y z)
+            each x h (λ y z. r ≡ sides_of y z)
             (λ c b i a.
             let z = standing i a (found_here i a f) in
             let k = v.sides c.declared i.α z.env a.left a.right (stand-there i a z.stand) in

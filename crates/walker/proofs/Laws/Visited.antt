@@ -3,8 +3,8 @@ use Prim.Native.Nat.{ℕ, suc, ◌+◌, ◌≤◌, ◌<◌}
 use native.Mathlib.Omega.{arith}
 use mathlib.Core.Path.{◌≡◌, sym, ◌∙◌}
 use lib.ListN.{length, get_or}
-use Rattle.tables.specs.Codes.{trueCode, andCode, orCode, impCode, notCode, exCode, callCode, localCode}
-use Rattle.tables.specs.Leaves.{risePlace, emptyCode, successCode, failureCode, errorCode, returnCode, riseCode}
+use Rattle.tables.specs.Codes.{true_code, and_code, or_code, imp_code, not_code, ex_code, call_code, local_code}
+use Rattle.tables.specs.Leaves.{rise_place, empty_code, success_code, failure_code, error_code, return_code, rise_code}
 use Rattle.sheet.specs.Tables.{Words}
 use Rattle.search.specs.declared.Go.{Go}
 use Rattle.search.specs.Steps.{Entered, Stepped, HasTerms}
@@ -23,37 +23,37 @@ due-word {w} {g} d = go d.due
     go (visit i) = omega (arith, due-near i)
     go (rising e u) = omega (arith, e, u.path.tables.size)
 
-above-not : (n : ℕ) → ¬ (n ≡ emptyCode) → ¬ (n ≡ trueCode) → ¬ (n ≡ andCode) → ¬ (n ≡ orCode) → ¬ (n ≡ impCode) → ¬ (n ≡ notCode) → notCode < n
+above-not : (n : ℕ) → ¬ (n ≡ empty_code) → ¬ (n ≡ true_code) → ¬ (n ≡ and_code) → ¬ (n ≡ or_code) → ¬ (n ≡ imp_code) → ¬ (n ≡ not_code) → not_code < n
 above-not n a b c d e f = omega arith
 
 -- the code that was read is n
 module _ {w : Words} {g : Go} {path budget : ℕ} (d : Dues w g path budget) {code : ℕ} (read : code ≡ get_or w g.due 0) where
-  not-up : (n : ℕ) → code ≡ n → ¬ (n ≡ riseCode) → ¬ (get_or w g.due 0 ≡ riseCode)
+  not-up : (n : ℕ) → code ≡ n → ¬ (n ≡ rise_code) → ¬ (get_or w g.due 0 ≡ rise_code)
   not-up n e r z = r (sym e ∙ read ∙ z)
 
-  pub due-entered : (n : ℕ) → code ≡ n → ¬ (n ≡ riseCode) → Entered w g n
+  pub due-entered : (n : ℕ) → code ≡ n → ¬ (n ≡ rise_code) → Entered w g n
   due-entered n e r = record { at = record { c = d.c; b = d.b; ins = due_in d.due (not-up n e r) }; code = sym read ∙ e }
 
-  pub due-arrived : (n : ℕ) → code ≡ n → ¬ (n ≡ riseCode) → Arrived w g n path budget
+  pub due-arrived : (n : ℕ) → code ≡ n → ¬ (n ≡ rise_code) → Arrived w g n path budget
   due-arrived n e r = record { c = d.c; b = d.b; set = d.set; ins = due_in d.due (not-up n e r); code = sym read ∙ e }
 
-  pub due-came : (n : ℕ) → code ≡ n → ¬ (n ≡ riseCode) → {w' : Words} {q : Go} → Stepped w w' g q → Came w w' g q path budget
+  pub due-came : (n : ℕ) → code ≡ n → ¬ (n ≡ rise_code) → {w' : Words} {q : Go} → Stepped w w' g q → Came w w' g q path budget
   due-came n e r s = stepped-came d (not-up n e r) s
 
-  pub due-within : (n : ℕ) → code ≡ n → ¬ (n ≡ riseCode) → {w' : Words} {q : Go} → SteppedWithin w w' g q path budget → Came w w' g q path budget
+  pub due-within : (n : ℕ) → code ≡ n → ¬ (n ≡ rise_code) → {w' : Words} {q : Go} → SteppedWithin w w' g q path budget → Came w w' g q path budget
   due-within n e r s = within-came d (not-up n e r) s
 
   -- the place that a procedure's end leads to is a word
-  pub due-return : code ≡ returnCode → (g.due + 1 < 4294967296) × (g.due + 1 < length w)
+  pub due-return : code ≡ return_code → (g.due + 1 < 4294967296) × (g.due + 1 < length w)
   due-return e =
-      let i = due_in d.due (not-up returnCode e (λ z. omega arith)) in
+      let i = due_in d.due (not-up return_code e (λ z. omega arith)) in
       let r = at_return i (sym read ∙ e) in
       (omega (arith, r.place, r.small), omega (arith, due-near i))
 
   -- by elimination
-  pub due-terms : ¬ (code ≡ emptyCode) → ¬ (code ≡ trueCode) → ¬ (code ≡ andCode) → ¬ (code ≡ orCode) → ¬ (code ≡ impCode) → ¬ (code ≡ notCode) →
-      ¬ (code ≡ exCode) → ¬ (code ≡ callCode) → ¬ (code ≡ successCode) → ¬ (code ≡ failureCode) → ¬ (code ≡ errorCode) → ¬ (code ≡ riseCode) →
-      ¬ (code ≡ returnCode) → ¬ (code ≡ localCode) → HasTerms code
+  pub due-terms : ¬ (code ≡ empty_code) → ¬ (code ≡ true_code) → ¬ (code ≡ and_code) → ¬ (code ≡ or_code) → ¬ (code ≡ imp_code) → ¬ (code ≡ not_code) →
+      ¬ (code ≡ ex_code) → ¬ (code ≡ call_code) → ¬ (code ≡ success_code) → ¬ (code ≡ failure_code) → ¬ (code ≡ error_code) → ¬ (code ≡ rise_code) →
+      ¬ (code ≡ return_code) → ¬ (code ≡ local_code) → HasTerms code
   due-terms a b c e f h x y s j k r t l =
       let i = due_in d.due (λ z. r (read ∙ z)) in
       terms-code i code (sym read) (above-not code a b c e f h) x y s j k t l

@@ -6,16 +6,16 @@ use mathlib.Core.Path.{◌≡◌, refl, sym, ◌∙◌, ap, subst}
 use lib.ListN.{get_or}
 use Rattle.specification.specs.Bytes.{Bytes}
 use Rattle.specification.specs.declared.Tallies.{Tallies}
-use Rattle.specification.specs.Run.{addNode}
-use Rattle.tables.specs.Leaves.{successCode}
+use Rattle.specification.specs.Run.{add_node}
+use Rattle.tables.specs.Leaves.{success_code}
 use Rattle.sheet.specs.Tables.{Words}
 use Rattle.search.specs.declared.Go.{Go}
 use Rattle.search.specs.Path.{World}
 use Rattle.search.specs.Sim.{In, Yes, down}
-use Rattle.search.specs.Registers.{tallied, leafGo, outGo}
+use Rattle.search.specs.Registers.{tallied, leaf_go, out_go}
 use Rattle.search.specs.Climb.{Set, Granted}
 use Rattle.search.specs.Steps.{Entered, Stepped}
-use Rattle.search.specs.States.{mainTree, wonMode, blockMode}
+use Rattle.search.specs.States.{main_tree, won_mode, block_mode}
 use Rattle.search.proofs.LeafSteps.{answers, inner-won}
 use Rattle.walker.specs.Steps.{Arrived, SteppedWithin}
 use Rattle.walker.specs.Climbing.{WinsInside, Unwound, Grants}
@@ -27,14 +27,14 @@ arrived-entered a = record { at = record { c = a.c; b = a.b; ins = a.ins }; code
 pub stepped_within : {w w' : Words} {g q : Go} {path budget : ℕ} → Stepped w w' g q → SteppedWithin w w' g q path budget
 stepped_within s = record { sim = λ c b k i. s.sim c b i; counts = s.counts; least = s.least }
 
-module _ {w : Words} {g : Go} {path budget : ℕ} (a : Arrived w g successCode path budget) where
-  pub won-block : {q : Go} → g.inner ≡ mainTree → q ≡ outGo g blockMode → SteppedWithin w w g q path budget
+module _ {w : Words} {g : Go} {path budget : ℕ} (a : Arrived w g success_code path budget) where
+  pub won-block : {q : Go} → g.inner ≡ main_tree → q ≡ out_go g block_mode → SteppedWithin w w g q path budget
   won-block n e = stepped_within (answers (arrived-entered a) n e)
 
   -- t are the tallies with the leaf's visit, and v the registers
-  module _ (n : ¬ (g.inner ≡ mainTree)) {t : Tallies} (et : t ≡ addNode (tallied g)) {v : Go} (ev : v ≡ leafGo g wonMode g.bad t) where
-    registers-are : v ≡ leafGo g wonMode g.bad (addNode (tallied g))
-    registers-are = ev ∙ ap (leafGo g wonMode g.bad) et
+  module _ (n : ¬ (g.inner ≡ main_tree)) {t : Tallies} (et : t ≡ add_node (tallied g)) {v : Go} (ev : v ≡ leaf_go g won_mode g.bad t) where
+    registers-are : v ≡ leaf_go g won_mode g.bad (add_node (tallied g))
+    registers-are = ev ∙ ap (leaf_go g won_mode g.bad) et
 
     won : (c : World) (b : Bytes) → In c b w g → Yes c b w v
     won c b i = subst (Yes c b w) (sym registers-are) (inner-won (arrived-entered a) n c b i)

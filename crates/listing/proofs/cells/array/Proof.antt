@@ -3,8 +3,8 @@ use Prim.Native.Nat.{◌-◌}
 use mathlib.Core.List.{[], ◌∷◌}
 use native.Mathlib.Omega.{arith}
 use borrow.Author.Rules.{rules}
-use Rattle.specification.specs.Listing.{linesText}
-use Rattle.listing.specs.Model.{eachLine, elementLine, arrayLines}
+use Rattle.specification.specs.Listing.{lines_text}
+use Rattle.listing.specs.Model.{each_line, element_line, array_lines}
 use Rattle.listing.proofs.Laws.Put.{Left, pieces-left, last-left, room-left}
 use Rattle.listing.proofs.Laws.Pieces.{array-pieces}
 use Rattle.listing.proofs.cells.array.Statement.{statement}
@@ -13,11 +13,11 @@ use Rattle.listing.proofs.cells.array.Tie as tie
 -- its lines by the cells that were read
 parted : (c : tie.After-first-cell2) →
     let a = c.before.before.before.before.args in
-    let from = c.before.first_Cell.result in
-    Left a.out.now a.at (linesText (arrayLines a.w.now a.a)) a.out.now a.at
-    (linesText (eachLine (elementLine a.w.now a.a from) 0 (c.first-cell2.result - from)) ∷ [])
+    let from = c.before.first_cell.result in
+    Left a.out.now a.at (lines_text (array_lines a.w.now a.a)) a.out.now a.at
+    (lines_text (each_line (element_line a.w.now a.a from) 0 (c.first-cell2.result - from)) ∷ [])
 parted c =
-    let f = c.before.first_Cell in
+    let f = c.before.first_cell in
     pieces-left _ _ _ (array-pieces _ _ f.result c.first-cell2.result f.ensures c.first-cell2.ensures)
 
 first-cell-requires : tie.Need-first-cell-requires

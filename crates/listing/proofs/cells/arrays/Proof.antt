@@ -1,19 +1,19 @@
 -- `listing::cells::arrays` meets its contract. Assumes nothing.
 use Prim.Native.Nat.{◌-◌}
 use native.Mathlib.Omega.{arith}
-use Rattle.listing.specs.Model.{arrayLines}
+use Rattle.listing.specs.Model.{array_lines}
 use Rattle.listing.proofs.Laws.Loop.{Turn, turn-first, turn-room, turn-next, turn_last}
 use Rattle.listing.proofs.cells.arrays.Statement.{statement}
 use Rattle.listing.proofs.cells.arrays.Tie as tie
 
 abbrev invariant-loop : tie.invariant-loop
-invariant-loop out₀ at w n p₀ a₀ out p a = Turn (arrayLines w) n out₀ at out p a
+invariant-loop out₀ at w n p₀ a₀ out p a = Turn (array_lines w) n out₀ at out p a
 
 abbrev decreases-loop : tie.decreases-loop
 decreases-loop out₀ at w n p₀ a₀ out p a = n - a
 
 loop-holds : tie.Need-loop-init invariant-loop decreases-loop
-loop-holds c = let a = c.before.before.args in turn-first (arrayLines a.w.now) a.n a.out.now a.at
+loop-holds c = let a = c.before.before.args in turn-first (array_lines a.w.now) a.n a.out.now a.at
 
 array-requires : tie.Need-array-requires invariant-loop decreases-loop
 array-requires c κs =

@@ -2,8 +2,8 @@
 use mathlib.Core.List.{[], ◌∷◌}
 use borrow.Author.Rules.{rules}
 use Rattle.specification.specs.Lines.{element}
-use Rattle.specification.specs.Listing.{cellLabel, labelText, linesText}
-use Rattle.listing.specs.Put.{endText}
+use Rattle.specification.specs.Listing.{cell_label, label_text, lines_text}
+use Rattle.listing.specs.Put.{end_text}
 use Rattle.listing.specs.Model.{line_at}
 use Rattle.listing.proofs.Laws.Put.{Left, all_left, pieces-left, less-left, last-left, none_left, room-left}
 use Rattle.listing.proofs.Laws.Pieces.{no_line, line-pieces}
@@ -13,8 +13,8 @@ use Rattle.listing.proofs.cells.element.Tie as tie
 -- the line's pieces
 parted : (c : tie.After-cell-value) →
     let a = c.before.before.before.before.before.args in
-    Left a.out.now a.at (linesText (line_at a.w.now (element a.a a.e) a.c)) a.out.now a.at
-    (labelText (cellLabel (element a.a a.e)) ∷ endText c.cell-value.result ∷ [])
+    Left a.out.now a.at (lines_text (line_at a.w.now (element a.a a.e) a.c)) a.out.now a.at
+    (label_text (cell_label (element a.a a.e)) ∷ end_text c.cell-value.result ∷ [])
 parted c =
     let a = c.before.before.before.before.before.args in
     let f = c.before.before.cell-flag in
@@ -30,7 +30,7 @@ returns c =
     let start = at_flag.before.before.before in
     let a = start.args in
     none_left (no_line a.w.now a.c at_flag.cell-flag.result at_flag.cell-flag.ensures (element a.a a.e) c.if1.true)
-    (all_left a.out.now a.at (linesText (line_at a.w.now (element a.a a.e) a.c)))
+    (all_left a.out.now a.at (lines_text (line_at a.w.now (element a.a a.e) a.c)))
 
 cell-value-requires : tie.Need-cell-value-requires
 cell-value-requires c κs = search rules

@@ -3,7 +3,7 @@ use mathlib.Core.List.{[], ◌∷◌}
 use borrow.Author.Rules.{rules}
 use Rattle.specification.specs.Lines.{element}
 use Rattle.specification.specs.Number.{printℕ}
-use Rattle.specification.specs.Listing.{cellLabel, labelText}
+use Rattle.specification.specs.Listing.{cell_label, label_text}
 use Rattle.listing.proofs.Laws.Put.{Left, pieces-left, less-left, last-left, room-left}
 use Rattle.listing.proofs.Laws.Pieces.{element-pieces}
 use Rattle.listing.proofs.cells.element_name.Statement.{statement}
@@ -12,7 +12,7 @@ use Rattle.listing.proofs.cells.element_name.Tie as tie
 -- the name's pieces
 parted : (c : tie.Start) →
     let a = c.args in
-    Left a.out.now a.at (labelText (cellLabel (element a.a a.e))) a.out.now a.at
+    Left a.out.now a.at (label_text (cell_label (element a.a a.e))) a.out.now a.at
     ((97 ∷ []) ∷ printℕ a.a ∷ (46 ∷ []) ∷ printℕ a.e ∷ [])
 parted c = pieces-left _ _ _ (element-pieces c.args.a c.args.e)
 
@@ -20,7 +20,7 @@ parted c = pieces-left _ _ _ (element-pieces c.args.a c.args.e)
 numbered : (c : tie.After-number) →
     let at_byte = c.before.before.before.before in
     let a = at_byte.before.before.before.args in
-    Left a.out.now a.at (labelText (cellLabel (element a.a a.e))) c.number.new.0 c.number.result
+    Left a.out.now a.at (label_text (cell_label (element a.a a.e))) c.number.new.0 c.number.result
     ((46 ∷ []) ∷ printℕ a.e ∷ [])
 numbered c =
     let at_byte = c.before.before.before.before in

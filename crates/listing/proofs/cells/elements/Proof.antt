@@ -1,19 +1,19 @@
 -- `listing::cells::elements` meets its contract. Assumes nothing.
 use Prim.Native.Nat.{◌-◌}
 use native.Mathlib.Omega.{arith}
-use Rattle.listing.specs.Model.{elementLine}
+use Rattle.listing.specs.Model.{element_line}
 use Rattle.listing.proofs.Laws.Loop.{Turn, turn-first, turn-room, turn-next, turn_last}
 use Rattle.listing.proofs.cells.elements.Statement.{statement}
 use Rattle.listing.proofs.cells.elements.Tie as tie
 
 abbrev invariant-loop : tie.invariant-loop
-invariant-loop out₀ at w a c n p₀ i₀ out p i = Turn (elementLine w a c) n out₀ at out p i
+invariant-loop out₀ at w a c n p₀ i₀ out p i = Turn (element_line w a c) n out₀ at out p i
 
 abbrev decreases-loop : tie.decreases-loop
 decreases-loop out₀ at w a c n p₀ i₀ out p i = n - i
 
 loop-holds : tie.Need-loop-init invariant-loop decreases-loop
-loop-holds c = let a = c.before.before.args in turn-first (elementLine a.w.now a.a a.c) a.n a.out.now a.at
+loop-holds c = let a = c.before.before.args in turn-first (element_line a.w.now a.a a.c) a.n a.out.now a.at
 
 add-element : tie.Need-overflow-add-element invariant-loop decreases-loop
 add-element c = omega arith

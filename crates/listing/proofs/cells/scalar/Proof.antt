@@ -2,8 +2,8 @@
 use mathlib.Core.List.{[], ◌∷◌}
 use borrow.Author.Rules.{rules}
 use Rattle.specification.specs.Lines.{scalar}
-use Rattle.specification.specs.Listing.{cellLabel, labelText, linesText}
-use Rattle.listing.specs.Put.{endText}
+use Rattle.specification.specs.Listing.{cell_label, label_text, lines_text}
+use Rattle.listing.specs.Put.{end_text}
 use Rattle.listing.specs.Model.{line_at}
 use Rattle.listing.proofs.Laws.Put.{Left, all_left, pieces-left, less-left, last-left, none_left, room-left}
 use Rattle.listing.proofs.Laws.Pieces.{no_line, line-pieces}
@@ -13,8 +13,8 @@ use Rattle.listing.proofs.cells.scalar.Tie as tie
 -- the line's pieces
 parted : (c : tie.After-cell-value) →
     let a = c.before.before.before.before.before.args in
-    Left a.out.now a.at (linesText (line_at a.w.now (scalar a.n) a.n)) a.out.now a.at
-    (labelText (cellLabel (scalar a.n)) ∷ endText c.cell-value.result ∷ [])
+    Left a.out.now a.at (lines_text (line_at a.w.now (scalar a.n) a.n)) a.out.now a.at
+    (label_text (cell_label (scalar a.n)) ∷ end_text c.cell-value.result ∷ [])
 parted c =
     let a = c.before.before.before.before.before.args in
     let f = c.before.before.cell-flag in
@@ -30,7 +30,7 @@ returns c =
     let start = at_flag.before.before.before in
     let a = start.args in
     none_left (no_line a.w.now a.n at_flag.cell-flag.result at_flag.cell-flag.ensures (scalar a.n) c.if1.true)
-    (all_left a.out.now a.at (linesText (line_at a.w.now (scalar a.n) a.n)))
+    (all_left a.out.now a.at (lines_text (line_at a.w.now (scalar a.n) a.n)))
 
 cell-value-requires : tie.Need-cell-value-requires
 cell-value-requires c κs = search rules

@@ -3,7 +3,7 @@ use mathlib.Core.List.{[], ◌∷◌}
 use borrow.Author.Rules.{rules}
 use Rattle.specification.specs.Lines.{scalar}
 use Rattle.specification.specs.Number.{printℕ}
-use Rattle.specification.specs.Listing.{cellLabel, labelText}
+use Rattle.specification.specs.Listing.{cell_label, label_text}
 use Rattle.listing.proofs.Laws.Put.{Left, pieces-left, less-left, last-left, room-left}
 use Rattle.listing.proofs.Laws.Pieces.{scalar-pieces}
 use Rattle.listing.proofs.cells.scalar_name.Statement.{statement}
@@ -12,7 +12,7 @@ use Rattle.listing.proofs.cells.scalar_name.Tie as tie
 -- the name's pieces
 parted : (c : tie.Start) →
     let a = c.args in
-    Left a.out.now a.at (labelText (cellLabel (scalar a.n))) a.out.now a.at ((118 ∷ []) ∷ printℕ a.n ∷ [])
+    Left a.out.now a.at (label_text (cell_label (scalar a.n))) a.out.now a.at ((118 ∷ []) ∷ printℕ a.n ∷ [])
 parted c = pieces-left _ _ _ (scalar-pieces c.args.n)
 
 byte-requires : tie.Need-byte-requires

@@ -1,19 +1,19 @@
 -- `listing::cells::scalars` meets its contract. Assumes nothing.
 use Prim.Native.Nat.{◌-◌}
 use native.Mathlib.Omega.{arith}
-use Rattle.listing.specs.Model.{scalarLine}
+use Rattle.listing.specs.Model.{scalar_line}
 use Rattle.listing.proofs.Laws.Loop.{Turn, turn-first, turn-room, turn-next, turn_last}
 use Rattle.listing.proofs.cells.scalars.Statement.{statement}
 use Rattle.listing.proofs.cells.scalars.Tie as tie
 
 abbrev invariant-loop : tie.invariant-loop
-invariant-loop out₀ at w n p₀ i₀ out p i = Turn (scalarLine w) n out₀ at out p i
+invariant-loop out₀ at w n p₀ i₀ out p i = Turn (scalar_line w) n out₀ at out p i
 
 abbrev decreases-loop : tie.decreases-loop
 decreases-loop out₀ at w n p₀ i₀ out p i = n - i
 
 loop-holds : tie.Need-loop-init invariant-loop decreases-loop
-loop-holds c = let a = c.before.before.args in turn-first (scalarLine a.w.now) a.n a.out.now a.at
+loop-holds c = let a = c.before.before.args in turn-first (scalar_line a.w.now) a.n a.out.now a.at
 
 scalar-requires : tie.Need-scalar-requires invariant-loop decreases-loop
 scalar-requires c κs =

@@ -4,7 +4,7 @@ use mathlib.Core.List.{[], ◌∷◌}
 use borrow.Author.Rules.{rules}
 use Rattle.specification.specs.Number.{printℤ}
 use Rattle.values.specs.Word.{signed}
-use Rattle.listing.specs.Put.{endText}
+use Rattle.listing.specs.Put.{end_text}
 use Rattle.listing.proofs.Laws.Put.{Left, pieces-left, less-left, last-left, room-left}
 use Rattle.listing.proofs.put.ending.Statement.{statement}
 use Rattle.listing.proofs.put.ending.Tie as tie
@@ -12,7 +12,7 @@ use Rattle.listing.proofs.put.ending.Tie as tie
 -- the three pieces
 parted : (c : tie.Start) →
     let a = c.args in
-    Left a.out.now a.at (endText a.word) a.out.now a.at ((61 ∷ []) ∷ printℤ (signed a.word) ∷ (10 ∷ []) ∷ [])
+    Left a.out.now a.at (end_text a.word) a.out.now a.at ((61 ∷ []) ∷ printℤ (signed a.word) ∷ (10 ∷ []) ∷ [])
 parted c = pieces-left _ _ _ refl
 
 byte-requires : tie.Need-byte-requires

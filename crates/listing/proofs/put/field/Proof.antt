@@ -3,7 +3,7 @@ use mathlib.Core.Path.{refl}
 use mathlib.Core.List.{[], ◌∷◌}
 use borrow.Author.Rules.{rules}
 use Rattle.specification.specs.Number.{printℕ}
-use Rattle.specification.specs.Printed.{fieldText}
+use Rattle.specification.specs.Printed.{field_text}
 use Rattle.listing.proofs.Laws.Put.{Left, pieces-left, less-left, last-left, room-left}
 use Rattle.listing.proofs.put.field.Statement.{statement}
 use Rattle.listing.proofs.put.field.Tie as tie
@@ -11,7 +11,7 @@ use Rattle.listing.proofs.put.field.Tie as tie
 -- the three pieces
 parted : (c : tie.Start) →
     let a = c.args in
-    Left a.out.now a.at (fieldText a.key.now a.n) a.out.now a.at (a.key.now ∷ printℕ a.n ∷ (10 ∷ []) ∷ [])
+    Left a.out.now a.at (field_text a.key.now a.n) a.out.now a.at (a.key.now ∷ printℕ a.n ∷ (10 ∷ []) ∷ [])
 parted c = pieces-left _ _ _ refl
 
 text-requires : tie.Need-text-requires

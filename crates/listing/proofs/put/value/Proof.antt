@@ -3,19 +3,19 @@ use borrow.Author.Rules.{rules}
 use Rattle.specification.specs.Number.{printℤ}
 use Rattle.values.specs.Word.{signed}
 use Rattle.listing.proofs.Laws.Put.{Left, pieces-left, less-left, last-left, room-left}
-use Rattle.listing.proofs.Laws.Digits.{lowPieces, value_low, highPieces, value-high}
+use Rattle.listing.proofs.Laws.Digits.{low_pieces, value_low, high_pieces, value-high}
 use Rattle.listing.proofs.put.value.Statement.{statement}
 use Rattle.listing.proofs.put.value.Tie as tie
 
 -- the pieces of a value from 0 up, and below 0
 high : (c : tie.Then1) →
     let a = c.before.before.args in
-    Left a.out.now a.at (printℤ (signed a.word)) a.out.now a.at (highPieces a.word)
+    Left a.out.now a.at (printℤ (signed a.word)) a.out.now a.at (high_pieces a.word)
 high c = pieces-left _ _ _ (value-high c.before.before.args.word c.if1.true)
 
 low : (c : tie.Else1) →
     let a = c.before.before.args in
-    Left a.out.now a.at (printℤ (signed a.word)) a.out.now a.at (lowPieces a.word)
+    Left a.out.now a.at (printℤ (signed a.word)) a.out.now a.at (low_pieces a.word)
 low c = pieces-left _ _ _ (value_low c.before.before.args.word c.if1.false)
 
 cast-number : tie.Need-overflow-cast-number

@@ -3,13 +3,13 @@ use Prim.Native.Nat.{◌+◌, ◌-◌, ◌≤◌}
 use native.Mathlib.Omega.{arith}
 use mathlib.Core.Path.{◌≡◌, refl}
 use lib.ListN.{length, drop}
-use Rattle.mover.specs.Model.{lineLength}
+use Rattle.mover.specs.Model.{line_length}
 use Rattle.mover.proofs.Laws.Lines.{line-feed, line-more, line-none}
 use Rattle.mover.proofs.lines.line_end.Statement.{statement}
 use Rattle.mover.proofs.lines.line_end.Tie as tie
 
 abbrev invariant-loop : tie.invariant-loop
-invariant-loop s from i₀ i = (i ≤ length s) × (from + lineLength (drop from s) ≡ i + lineLength (drop i s))
+invariant-loop s from i₀ i = (i ≤ length s) × (from + line_length (drop from s) ≡ i + line_length (drop i s))
 
 abbrev decreases-loop : tie.decreases-loop
 decreases-loop s from i₀ i = length s - i

@@ -3,13 +3,13 @@ use Prim.Native.Nat.{◌+◌, ◌-◌, ◌≤◌}
 use native.Mathlib.Omega.{arith}
 use mathlib.Core.Path.{◌≡◌, sym, ◌∙◌}
 use lib.ListN.{length, drop, length-drop}
-use Rattle.mover.specs.Model.{linesLength}
-use Rattle.mover.proofs.Laws.Lines.{lineLength-≤, lines-all, lines_none, lines_more}
+use Rattle.mover.specs.Model.{lines_length}
+use Rattle.mover.proofs.Laws.Lines.{line_length-≤, lines-all, lines_none, lines_more}
 use Rattle.mover.proofs.lines.lines_end.Statement.{statement}
 use Rattle.mover.proofs.lines.lines_end.Tie as tie
 
 abbrev invariant-loop : tie.invariant-loop
-invariant-loop s n p₀ i₀ p i = (i ≤ n) × (p ≤ length s) × (p + linesLength (n - i) (drop p s) ≡ linesLength n s)
+invariant-loop s n p₀ i₀ p i = (i ≤ n) × (p ≤ length s) × (p + lines_length (n - i) (drop p s) ≡ lines_length n s)
 
 abbrev decreases-loop : tie.decreases-loop
 decreases-loop s n p₀ i₀ p i = n - i
@@ -35,7 +35,7 @@ loop-again c =
     let l = at-loop.loop in
     let e = c.line-end.ensures in (
       omega arith,
-      omega (arith, e, lineLength-≤ (drop l.p s), length-drop l.p s, l.invariant.1),
+      omega (arith, e, line_length-≤ (drop l.p s), length-drop l.p s, l.invariant.1),
       sym (lines_more s l.p c.line-end.result (n - l.i) (n - (l.i + 1)) e (omega arith)) ∙ l.invariant.2,
     )
 

@@ -3,19 +3,19 @@ use mathlib.Core.List.{[], ◌∷◌}
 use borrow.Author.Rules.{rules}
 use Rattle.specification.specs.Bytes.{bytes}
 use Rattle.listing.proofs.Laws.Put.{Left, pieces-left, less-left, last-left, room-left}
-use Rattle.mover.specs.Model.{fullRanges, fullLine}
+use Rattle.mover.specs.Model.{full_ranges, full_line}
 use Rattle.mover.proofs.Laws.Ranges.{line-none, line-some}
 use Rattle.mover.proofs.ranges.full_line.Statement.{statement}
 use Rattle.mover.proofs.ranges.full_line.Tie as tie
 
 whole : (c : tie.Then1) →
     let a = c.before.before.args in
-    Left a.out.now a.at (fullLine a.n) a.out.now a.at (bytes "ranges=\n" ∷ [])
+    Left a.out.now a.at (full_line a.n) a.out.now a.at (bytes "ranges=\n" ∷ [])
 whole c = pieces-left _ _ _ (line-none c.before.before.args.n c.if1.taken)
 
 parted : (c : tie.Else1) →
     let a = c.before.before.args in
-    Left a.out.now a.at (fullLine a.n) a.out.now a.at (bytes "ranges=" ∷ fullRanges a.n ∷ [])
+    Left a.out.now a.at (full_line a.n) a.out.now a.at (bytes "ranges=" ∷ full_ranges a.n ∷ [])
 parted c = pieces-left _ _ _ (line-some c.before.before.args.n c.if1.left)
 
 slice-aggregate-text : tie.Need-slice-aggregate-text

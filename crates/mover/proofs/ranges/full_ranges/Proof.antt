@@ -5,13 +5,13 @@ use mathlib.Core.Path.{◌≡◌, refl}
 use mathlib.Core.List.{[], ◌∷◌}
 use lib.ListN.{length}
 use Rattle.listing.proofs.Laws.Put.{Left, all_left, split-left, less-left, none_left, room-left}
-use Rattle.mover.specs.Model.{fullRanges}
+use Rattle.mover.specs.Model.{full_ranges}
 use Rattle.mover.proofs.Laws.Ranges.{marked, full-none, full-more}
 use Rattle.mover.proofs.ranges.full_ranges.Statement.{statement}
 use Rattle.mover.proofs.ranges.full_ranges.Tie as tie
 
 abbrev invariant-loop : tie.invariant-loop
-invariant-loop out₀ at n p₀ left₀ out p left = Left out₀ at (fullRanges n) out p (fullRanges left ∷ []) × (length out ≡ length out₀)
+invariant-loop out₀ at n p₀ left₀ out p left = Left out₀ at (full_ranges n) out p (full_ranges left ∷ []) × (length out ≡ length out₀)
 
 abbrev decreases-loop : tie.decreases-loop
 decreases-loop out₀ at n p₀ left₀ out p left = left
@@ -20,11 +20,11 @@ decreases-loop out₀ at n p₀ left₀ out p left = left
 parted : (c : tie.In-loop invariant-loop decreases-loop) →
     let a = c.before.before.before.args in
     let l = c.before.loop in
-    Left a.out.now a.at (fullRanges a.n) l.out l.p (marked (l.left - 1) ∷ fullRanges (l.left - 1) ∷ [])
+    Left a.out.now a.at (full_ranges a.n) l.out l.p (marked (l.left - 1) ∷ full_ranges (l.left - 1) ∷ [])
 parted c = split-left _ (full-more c.before.loop.left (c.before.loop.left - 1) (omega (arith, c.loop-test.true))) c.before.loop.invariant.0
 
 loop-holds : tie.Need-loop-init invariant-loop decreases-loop
-loop-holds c = (all_left c.before.args.out.now c.before.args.at (fullRanges c.before.args.n), refl)
+loop-holds c = (all_left c.before.args.out.now c.before.args.at (full_ranges c.before.args.n), refl)
 
 sub-left : tie.Need-overflow-sub-left invariant-loop decreases-loop
 sub-left c = omega arith

@@ -5,13 +5,13 @@ use mathlib.Core.Path.{◌≡◌, refl, sym, ◌∙◌}
 use lib.ListN.{drop}
 use borrow.Author.Rules.{rules}
 use borrow.Author.Tests.{not-true, not-false}
-use Rattle.mover.specs.Model.{narrowPlace}
+use Rattle.mover.specs.Model.{narrow_place}
 use Rattle.mover.proofs.Laws.Ranges.{narrow-none, narrow-here, narrow-later, narrow-fits}
 use Rattle.mover.proofs.ranges.narrow.Statement.{statement}
 use Rattle.mover.proofs.ranges.narrow.Tie as tie
 
 abbrev invariant-loop : tie.invariant-loop
-invariant-loop s at n p₀ left₀ p left = narrowPlace at n (drop at s) ≡ narrowPlace p left (drop p s)
+invariant-loop s at n p₀ left₀ p left = narrow_place at n (drop at s) ≡ narrow_place p left (drop p s)
 
 abbrev decreases-loop : tie.decreases-loop
 decreases-loop s at n p₀ left₀ p left = left

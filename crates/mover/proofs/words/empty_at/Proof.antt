@@ -3,8 +3,8 @@ use Prim.Native.Nat.{◌+◌, ◌≤◌}
 use native.Mathlib.Omega.{arith}
 use mathlib.Core.Path.{◌≡◌, sym, ◌∙◌}
 use borrow.Author.Rules.{rules}
-use Rattle.tables.specs.Codes.{someCode, allCode, constant_code}
-use Rattle.mover.specs.Model.{tokenCode}
+use Rattle.tables.specs.Codes.{some_code, all_code, constant_code}
+use Rattle.mover.specs.Model.{token_code}
 use Rattle.mover.proofs.Laws.Words.{inside, empty-low, empty-high, lower-other, upper-other, empty-bounds}
 use Rattle.mover.proofs.words.empty_at.Statement.{statement}
 use Rattle.mover.proofs.words.empty_at.Tie as tie
@@ -14,15 +14,15 @@ start c = c.before.before.before.before
 
 quantifier : (c : tie.Else2) →
     let a = (start c).args in
-    (someCode ≤ tokenCode a.w.now a.i) × (tokenCode a.w.now a.i ≤ allCode)
+    (some_code ≤ token_code a.w.now a.i) × (token_code a.w.now a.i ≤ all_code)
 quantifier c =
     let at_code = c.before.before in
     (omega (arith, at_code.code.ensures, c.before.if1.false), omega (arith, at_code.code.ensures, c.if2.false))
 
-lower : (c : tie.Else3) → let a = (start c.before.before).args in tokenCode a.w.now (a.i + 2) ≡ constant_code
+lower : (c : tie.Else3) → let a = (start c.before.before).args in token_code a.w.now (a.i + 2) ≡ constant_code
 lower c = sym c.before.code2.ensures ∙ c.if3.false
 
-upper : (c : tie.Else4) → let a = (start c.before.before.before.before).args in tokenCode a.w.now (a.i + 3) ≡ constant_code
+upper : (c : tie.Else4) → let a = (start c.before.before.before.before).args in token_code a.w.now (a.i + 3) ≡ constant_code
 upper c = sym c.before.code3.ensures ∙ c.if4.false
 
 code-requires : tie.Need-code-requires

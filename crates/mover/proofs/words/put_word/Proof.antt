@@ -1,7 +1,7 @@
 -- By whether the token is dropped, and whether its range is empty. Assumes nothing.
 use mathlib.Core.Path.{◌≡◌, sym, ◌∙◌}
 use borrow.Author.Rules.{rules}
-use Rattle.mover.specs.Model.{standIn, spelling, word_piece}
+use Rattle.mover.specs.Model.{stand_in, spelling, word_piece}
 use Rattle.mover.proofs.Laws.Words.{room_as, put_as, put-none, word-dropped, word-empty, word-spelt}
 use Rattle.mover.proofs.words.put_word.Statement.{statement}
 use Rattle.mover.proofs.words.put_word.Tie as tie
@@ -11,7 +11,7 @@ start_of c = c.before.before.before.before.before
 
 empty : (c : tie.Then2) →
     let a = (start_of c.before).args in
-    word_piece a.w.now a.newer a.i a.until a.letters.now ≡ standIn a.w.now a.i
+    word_piece a.w.now a.newer a.i a.until a.letters.now ≡ stand_in a.w.now a.i
 empty c =
     let at-empty = c.before in
     let a = (start_of at-empty).args in

@@ -6,9 +6,9 @@ use mathlib.Core.List.{List, [], ◌∷◌}
 use lib.ListN.{length, drop}
 use borrow.Author.Rules.{rules}
 use Rattle.specification.specs.Bytes.{Bytes}
-use Rattle.specification.specs.Moves.{longestSheet}
+use Rattle.specification.specs.Moves.{longest_sheet}
 use Rattle.listing.proofs.Laws.Put.{Left, all_left, split-left, less-left, none_left, room-left}
-use Rattle.mover.specs.Model.{chunk, chunks, is_key, untilAfter, word_piece, rewritten}
+use Rattle.mover.specs.Model.{chunk, chunks, is_key, until_after, word_piece, rewritten}
 use Rattle.mover.specs.Steps.{kept}
 use Rattle.mover.proofs.Laws.Chunks.{part, ChunkAt, chunk-places, chunk-some, key-at, key_more, word_more, rewritten-none}
 use Rattle.mover.proofs.words.rewrite.Statement.{statement}
@@ -60,7 +60,7 @@ is-key : (c : Chunked) → is_key (chunk (part (here c) (end c) (sheet c)) (part
 is-key c = key-at (at c) ∙ sym c.either-at.ensures
 
 -- its token is one that tables are asked of
-few : (c : Chunked) → (turn c).loop.token ≤ longestSheet
+few : (c : Chunked) → (turn c).loop.token ≤ longest_sheet
 few c = let l = (turn c).loop in omega (arith, l.inv.0, l.inv.2, (start c).requires.1)
 
 -- these pieces are left
@@ -85,7 +85,7 @@ word : (c : tie.Else1 invariant-loop decreases-loop) →
     let b = c.before in
     let a = (start b).args in
     let l = (turn b).loop in
-    (token until : ℕ) → token ≡ l.token + 1 → until ≡ untilAfter a.w.now l.token l.until →
+    (token until : ℕ) → token ≡ l.token + 1 → until ≡ until_after a.w.now l.token l.until →
     Due b
     (word_piece a.w.now a.newer l.token l.until (part (here b) (end b) (sheet b))
     ∷ kept token until (part (end b) (next b) (sheet b))

@@ -3,13 +3,13 @@ use Prim.Native.Nat.{◌-◌}
 use mathlib.Core.Path.{◌≡◌, sym, ◌∙◌}
 use lib.ListN.{length, drop}
 use borrow.Author.Rules.{rules}
-use Rattle.mover.specs.Model.{roundingPlace}
+use Rattle.mover.specs.Model.{rounding_place}
 use Rattle.mover.proofs.Laws.Words.{rounding-none, rounding-here, rounding-later}
 use Rattle.mover.proofs.words.rounding.Statement.{statement}
 use Rattle.mover.proofs.words.rounding.Tie as tie
 
 abbrev invariant-loop : tie.invariant-loop
-invariant-loop s at i₀ t4 t5 i = roundingPlace at (drop at s) ≡ roundingPlace i (drop i s)
+invariant-loop s at i₀ t4 t5 i = rounding_place at (drop at s) ≡ rounding_place i (drop i s)
 
 abbrev decreases-loop : tie.decreases-loop
 decreases-loop s at i₀ t4 t5 i = length s - i

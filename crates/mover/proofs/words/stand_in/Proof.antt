@@ -2,17 +2,17 @@
 use mathlib.Core.Path.{◌≡◌, sym, ◌∙◌}
 use borrow.Author.Rules.{rules}
 use Rattle.specification.specs.Bytes.{bytes}
-use Rattle.mover.specs.Model.{standIn}
+use Rattle.mover.specs.Model.{stand_in}
 use Rattle.mover.proofs.Laws.Words.{room_as, put_as, stand-some, stand-all}
 use Rattle.mover.proofs.words.stand_in.Statement.{statement}
 use Rattle.mover.proofs.words.stand_in.Tie as tie
 
-some : (c : tie.Then1) → let a = c.before.before.before.before.args in standIn a.w.now a.i ≡ bytes "eq 0 1"
+some : (c : tie.Then1) → let a = c.before.before.before.before.args in stand_in a.w.now a.i ≡ bytes "eq 0 1"
 some c =
     let a = c.before.before.before.before.args in
     stand-some a.w.now a.i (sym c.before.code.ensures ∙ c.if1.true)
 
-all : (c : tie.Else1) → let a = c.before.before.before.before.args in standIn a.w.now a.i ≡ bytes "true"
+all : (c : tie.Else1) → let a = c.before.before.before.before.args in stand_in a.w.now a.i ≡ bytes "true"
 all c =
     let a = c.before.before.before.before.args in
     stand-all a.w.now a.i (λ e. c.if1.false (c.before.code.ensures ∙ e))

@@ -2,7 +2,7 @@
 use mathlib.Core.Path.{refl, ◌∙◌, sym}
 use native.Mathlib.Omega.{arith}
 use borrow.Author.Tests.{not-true, not-false}
-use Rattle.specification.specs.Bytes.{bytes, feed, classNumber}
+use Rattle.specification.specs.Bytes.{bytes, feed, class_number}
 use Rattle.text.proofs.Laws.Class.{class-inside}
 use Rattle.text.proofs.Laws.Keys.{key_fits}
 use Rattle.sheet.proofs.ArrayLine.{lined-no, lined-refused, lined-open, lined-found}
@@ -38,13 +38,13 @@ same_length : tie.Need-same-length
 same_length c = search rules
 
 returns-2 : tie.Need-returns-2
-unfolding classNumber
+unfolding class_number
 returns-2 c =
     let p = c.before.before.before.before.before in
     (lined-open _ _ _ (sym p.before.before.before.before.before.begins.ensures ∙ not-false _ p.before.before.before.before.if1.false) _ _ _ p.before.before.contents.ensures _ _ _ c.before.before.before.n.given.1 (λ e. c.if2.true (c.before.class-at.ensures ∙ e)), search rules)
 
 add-t23 : tie.Need-overflow-add-t23
-unfolding classNumber
+unfolding class_number
 add-t23 c =
     let p = c.before.before.before.before.before in
     let q = p.before.before.before.before.before in
@@ -62,7 +62,7 @@ same-length-3 : tie.Need-same-length-3
 same-length-3 c = search rules
 
 returns-4 : tie.Need-returns-4
-unfolding classNumber
+unfolding class_number
 returns-4 c =
     let p = c.before.before.before.before.before in
     lined-found _ _ _ (sym p.before.before.before.before.before.begins.ensures ∙ not-false _ p.before.before.before.before.if1.false) _ _ _ p.before.before.contents.ensures _ _ _ c.before.before.before.n.given.1 (sym c.before.class-at.ensures ∙ c.if2.false)

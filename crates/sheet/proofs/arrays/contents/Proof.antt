@@ -1,6 +1,6 @@
 -- By the first byte of the value. Assumes nothing.
 use mathlib.Core.Path.{◌∙◌, sym}
-use Rattle.specification.specs.Bytes.{classNumber}
+use Rattle.specification.specs.Bytes.{class_number}
 use Rattle.sheet.proofs.Keys.{part-class}
 use Rattle.sheet.proofs.ArrayLine.{value_none, value-some}
 use borrow.Author.Rules.{rules}
@@ -20,7 +20,7 @@ same_length : tie.Need-same-length
 same_length c = search rules
 
 returns : tie.Need-returns
-unfolding classNumber
+unfolding class_number
 returns c =
     let p = c.before.before.before.before.before in
     value_none _ _ _ _ (sym (part-class _ _ _ p.before.value.ensures) ∙ sym c.before.before.before.before.before.class-at.ensures ∙ c.before.before.before.before.if1.true) _ c.before.before.fill.ensures
@@ -32,7 +32,7 @@ same-length-2 : tie.Need-same-length-2
 same-length-2 c = search rules
 
 returns-2 : tie.Need-returns-2
-unfolding classNumber
+unfolding class_number
 returns-2 c =
     let p = c.before.before.before.before.before in
     c.before.before.lengths.ensures ∙ value-some _ _ _ _ (λ e. c.before.before.before.before.if1.false (c.before.before.before.before.before.class-at.ensures ∙ part-class _ _ _ p.before.value.ensures ∙ e))

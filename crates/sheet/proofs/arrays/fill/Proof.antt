@@ -1,7 +1,7 @@
 -- The invariant: what is laid from the start on is laid from here on. Assumes nothing.
 use Prim.Native.Nat.{suc, ◌-◌}
 use mathlib.Core.Path.{refl}
-use Rattle.tables.specs.Layout.{maxArrays}
+use Rattle.tables.specs.Layout.{max_arrays}
 use Rattle.sheet.proofs.ArrayLine.{Filling, fill_more, fill_done}
 use borrow.Author.Rules.{rules}
 use Rattle.sheet.proofs.arrays.fill.Statement.{statement}
@@ -11,7 +11,7 @@ abbrev invariant-loop : tie.invariant-loop
 invariant-loop w₀ from end a₀ w a = Filling w₀ from end w a
 
 abbrev decreases-loop : tie.decreases-loop
-decreases-loop w₀ from end a₀ w a = suc maxArrays - a
+decreases-loop w₀ from end a₀ w a = suc max_arrays - a
 
 loop-holds : tie.Need-loop-init invariant-loop decreases-loop
 loop-holds c = record { long = refl; rest = refl }

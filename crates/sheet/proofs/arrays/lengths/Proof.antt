@@ -2,9 +2,9 @@
 use Prim.Native.Nat.{◌-◌}
 use mathlib.Core.Path.{refl, ◌∙◌, sym}
 use native.Mathlib.Omega.{arith}
-use Rattle.specification.specs.Bytes.{comma, classNumber}
+use Rattle.specification.specs.Bytes.{comma, class_number}
 use Rattle.text.proofs.Laws.Class.{class-inside}
-use Rattle.tables.specs.Layout.{maxArrays}
+use Rattle.tables.specs.Layout.{max_arrays}
 use Rattle.sheet.proofs.ArrayLine.{Reading, turn-none, turn-refused, turn-few, turn_last, turn-next}
 use borrow.Author.Rules.{rules}
 use Rattle.sheet.proofs.arrays.lengths.Statement.{statement}
@@ -14,7 +14,7 @@ abbrev invariant-loop : tie.invariant-loop
 invariant-loop s from scalars w₀ at₀ n₀ end₀ w at n end = Reading s from scalars w₀ w at n end
 
 abbrev decreases-loop : tie.decreases-loop
-decreases-loop s from scalars w₀ at₀ n₀ end₀ w at n end = maxArrays - n
+decreases-loop s from scalars w₀ at₀ n₀ end₀ w at n end = max_arrays - n
 
 loop-holds : tie.Need-loop-init invariant-loop decreases-loop
 loop-holds c = record { few = omega arith; small = c.before.before.requires.0; long = refl; rest = refl }
@@ -68,7 +68,7 @@ same-length-2 c =
     c.before.before.fill.auto.0 ∙ p.before.before.before.set_first.auto.0 ∙ r.loop.invariant.long
 
 returns-2 : tie.Need-returns-2 invariant-loop decreases-loop
-unfolding classNumber
+unfolding class_number
 returns-2 c =
     let p = c.before.before.before.before.before in
     let q = p.before.before.before.before.before in
@@ -76,7 +76,7 @@ returns-2 c =
     turn_last r.loop.invariant q.before.before.before.before.loop-test.true _ q.before.before.before.count_at.ensures _ _ q.before.m.given.1 _ p.before.before.before.set_first.ensures (λ e. c.before.before.before.before.if1.true (c.before.before.before.before.before.class-at.ensures ∙ e)) _ c.before.before.fill.ensures
 
 add_at : tie.Need-overflow-add-at invariant-loop decreases-loop
-unfolding classNumber
+unfolding class_number
 add_at c =
     let p = c.before.before.before.before.before in
     let q = p.before.before.before.before.before in
@@ -86,7 +86,7 @@ loop-less : tie.Need-loop-smaller invariant-loop decreases-loop
 loop-less c = search rules
 
 loop-again : tie.Need-loop-preserved invariant-loop decreases-loop
-unfolding classNumber
+unfolding class_number
 loop-again c =
     let p = c.before.before.before.before.before in
     let q = p.before.before.before.before.before in

@@ -3,13 +3,13 @@ use Prim.Native.Nat.{◌≤◌}
 use native.Mathlib.Omega.{arith}
 use mathlib.Core.Path.{◌≡◌, refl, ◌∙◌}
 use lib.ListN.{length}
-use Rattle.sheet.proofs.Subtrees.{laidFrom, from-none, from-ends, from_more}
+use Rattle.sheet.proofs.Subtrees.{laid_from, from-none, from-ends, from_more}
 use borrow.Author.Rules.{rules}
 use Rattle.sheet.proofs.ends.ends.Statement.{statement}
 use Rattle.sheet.proofs.ends.ends.Tie as tie
 
 abbrev invariant-loop : tie.invariant-loop
-invariant-loop w₀ n i₀ w i = (i ≤ n) × (w ≡ laidFrom w₀ n i) × (length w ≡ length w₀)
+invariant-loop w₀ n i₀ w i = (i ≤ n) × (w ≡ laid_from w₀ n i) × (length w ≡ length w₀)
 
 abbrev decreases-loop : tie.decreases-loop
 decreases-loop w₀ n i₀ w i = i

@@ -2,14 +2,14 @@
 use native.Mathlib.Omega.{arith}
 use mathlib.Core.Path.{◌≡◌, ◌∙◌, ap}
 use Rattle.sheet.specs.Sorts.{arity}
-use Rattle.sheet.specs.Ends.{tokensIn}
+use Rattle.sheet.specs.Ends.{tokens_in}
 use Rattle.sheet.proofs.Subtrees.{Passing, passing-first, passing-more, passing-end}
 use borrow.Author.Rules.{rules}
 use Rattle.sheet.proofs.ends.subtree.Statement.{statement}
 use Rattle.sheet.proofs.ends.subtree.Tie as tie
 
 abbrev invariant-loop : tie.invariant-loop
-invariant-loop w n i e₀ k₀ e k = Passing (tokensIn w 0 n) i e k
+invariant-loop w n i e₀ k₀ e k = Passing (tokens_in w 0 n) i e k
 
 abbrev decreases-loop : tie.decreases-loop
 decreases-loop w n i e₀ k₀ e k = k
@@ -42,7 +42,7 @@ loop-again c =
     passing-more start.args.w.now start.args.n start.args.i mid.loop.e mid.loop.k _ start.requires.3 c.before.loop-test.true c.end.ensures mid.loop.invariant
 
 returns : tie.Need-returns invariant-loop decreases-loop
-returns c = let z : c.before.loop.k ≡ 0 = omega arith in passing-end (tokensIn c.before.before.before.before.before.args.w.now 0 c.before.before.before.before.before.args.n) c.before.before.before.before.before.args.i c.before.loop.e (rw z at c.before.loop.invariant)
+returns c = let z : c.before.loop.k ≡ 0 = omega arith in passing-end (tokens_in c.before.before.before.before.before.args.w.now 0 c.before.before.before.before.before.args.n) c.before.before.before.before.before.args.i c.before.loop.e (rw z at c.before.loop.invariant)
 
 pub subtree-spec : {M : Type 1} → statement M
 subtree-spec =

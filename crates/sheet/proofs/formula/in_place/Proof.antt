@@ -3,7 +3,7 @@ use native.Mathlib.Omega.{arith}
 use mathlib.Core.Path.{◌∙◌, ap}
 use mathlib.Core.Bool.{not}
 use borrow.Author.Tests.{eq-eqb, ne_eqb}
-use Rattle.sheet.specs.Sorts.{formulaSort, termSort, boundsSort, procedureSort}
+use Rattle.sheet.specs.Sorts.{formula_sort, term_sort, bounds_sort, procedure_sort}
 use Rattle.text.proofs.Laws.Ranges.{inside, over}
 use Rattle.sheet.proofs.Faults.{placed_by}
 use borrow.Author.Rules.{rules}
@@ -17,7 +17,7 @@ has-requires-2 : tie.Need-has-requires-2
 has-requires-2 c κs = search rules
 
 returns : tie.Need-returns
-returns c = let a = c.before.args in λ d B m b. rw (placed_by d B a.e.sort a.l m.sort, eq-eqb _ formulaSort c.match.keys1)
+returns c = let a = c.before.args in λ d B m b. rw (placed_by d B a.e.sort a.l m.sort, eq-eqb _ formula_sort c.match.keys1)
 
 returns-2 : tie.Need-returns-2
 returns-2 c =
@@ -26,9 +26,9 @@ returns-2 c =
     λ d B m b.
     rw (
       placed_by d B a.e.sort a.l m.sort,
-      ne_eqb a.e.sort formulaSort (λ q. omega arith),
-      over termSort boundsSort a.e.sort (omega arith),
-      eq-eqb _ procedureSort is,
+      ne_eqb a.e.sort formula_sort (λ q. omega arith),
+      over term_sort bounds_sort a.e.sort (omega arith),
+      eq-eqb _ procedure_sort is,
     )
 
 returns-3 : tie.Need-returns-3
@@ -39,8 +39,8 @@ returns-3 c =
     λ d B m b.
     rw (
       placed_by d B a.e.sort a.l m.sort,
-      ne_eqb a.e.sort formulaSort r.0.1,
-      inside termSort boundsSort a.e.sort (omega arith) (omega arith),
+      ne_eqb a.e.sort formula_sort r.0.1,
+      inside term_sort bounds_sort a.e.sort (omega arith) (omega arith),
     )
     (c.has.ensures ∙ m.scope.at _ c.before.before.before.requires)
 
@@ -51,9 +51,9 @@ returns-4 c =
     λ d B m b.
     rw (
       placed_by d B a.e.sort a.l m.sort,
-      ne_eqb a.e.sort formulaSort r.0.1,
-      over termSort boundsSort a.e.sort c.before.if1.false,
-      ne_eqb a.e.sort procedureSort r.1,
+      ne_eqb a.e.sort formula_sort r.0.1,
+      over term_sort bounds_sort a.e.sort c.before.if1.false,
+      ne_eqb a.e.sort procedure_sort r.1,
     )
     (ap not (c.has2.ensures ∙ b.at _ c.before.before.before.requires))
 

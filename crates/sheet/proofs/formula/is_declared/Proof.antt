@@ -2,7 +2,7 @@
 use native.Mathlib.Omega.{arith}
 use lib.ListN.{length-replicate}
 use borrow.Author.Tests.{ne_eqb}
-use Rattle.tables.specs.Codes.{scalarCode, localCode, arrayCode, parameterCode, procedureCode, lastCode}
+use Rattle.tables.specs.Codes.{scalar_code, local_code, array_code, parameter_code, procedure_code, last_code}
 use Rattle.sheet.specs.Turn.{declared}
 use Rattle.text.proofs.Laws.Ranges.{inside, under, over}
 use Rattle.sheet.proofs.formula.is_declared.Statement.{statement}
@@ -29,11 +29,11 @@ unfolding declared
 returns-5 c =
     let code = c.before.before.before.before.before.args.t.code in
     rw (
-      ne_eqb code scalarCode (λ q. omega arith),
-      ne_eqb code localCode (λ q. omega arith),
-      ne_eqb code arrayCode (λ q. omega arith),
-      ne_eqb code parameterCode (λ q. omega arith),
-      inside procedureCode lastCode code (omega arith) (omega arith),
+      ne_eqb code scalar_code (λ q. omega arith),
+      ne_eqb code local_code (λ q. omega arith),
+      ne_eqb code array_code (λ q. omega arith),
+      ne_eqb code parameter_code (λ q. omega arith),
+      inside procedure_code last_code code (omega arith) (omega arith),
       length-replicate,
     )
 
@@ -41,13 +41,13 @@ returns-6 : tie.Need-returns-6
 unfolding declared
 returns-6 c =
     let r = c.before.match.rest in
-    simp (ne_eqb _ _ r.1, ne_eqb _ _ r.0.1, ne_eqb _ _ r.0.0.1, ne_eqb _ _ r.0.0.0.1, under procedureCode lastCode _ c.if1.true)
+    simp (ne_eqb _ _ r.1, ne_eqb _ _ r.0.1, ne_eqb _ _ r.0.0.1, ne_eqb _ _ r.0.0.0.1, under procedure_code last_code _ c.if1.true)
 
 returns-7 : tie.Need-returns-7
 unfolding declared
 returns-7 c =
     let r = c.before.before.match.rest in
-    simp (ne_eqb _ _ r.1, ne_eqb _ _ r.0.1, ne_eqb _ _ r.0.0.1, ne_eqb _ _ r.0.0.0.1, over procedureCode lastCode c.before.before.before.args.t.code (omega arith))
+    simp (ne_eqb _ _ r.1, ne_eqb _ _ r.0.1, ne_eqb _ _ r.0.0.1, ne_eqb _ _ r.0.0.0.1, over procedure_code last_code c.before.before.before.args.t.code (omega arith))
 
 pub is-declared-spec : {M : Type 1} → statement M
 is-declared-spec = tie.close (tie.spec returns returns-2 returns-3 returns-4 returns-5 returns-6 returns-7)

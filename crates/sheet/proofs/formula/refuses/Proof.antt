@@ -2,7 +2,7 @@
 use mathlib.Core.Path.{◌≡◌, refl}
 use mathlib.Core.Bool.{Bool, true, false, ◌&&◌}
 use borrow.Author.Tests.{le-leb, lt-leb}
-use Rattle.specification.specs.Sheet.{firstStrict}
+use Rattle.specification.specs.Sheet.{first_strict}
 use Rattle.sheet.proofs.formula.refuses.Statement.{statement}
 use Rattle.sheet.proofs.formula.refuses.Tie as tie
 
@@ -15,10 +15,10 @@ always true = refl
 always false = refl
 
 returns : tie.Need-returns
-returns c = let d = c.before.before.args.d in rw (lt-leb firstStrict d.edition c.if1.true) (never d.strict)
+returns c = let d = c.before.before.args.d in rw (lt-leb first_strict d.edition c.if1.true) (never d.strict)
 
 returns-2 : tie.Need-returns-2
-returns-2 c = let d = c.before.before.args.d in rw (le-leb firstStrict d.edition c.if1.false) (always d.strict)
+returns-2 c = let d = c.before.before.args.d in rw (le-leb first_strict d.edition c.if1.false) (always d.strict)
 
 pub refuses-spec : {M : Type 1} → statement M
 refuses-spec = tie.close (tie.spec returns returns-2)

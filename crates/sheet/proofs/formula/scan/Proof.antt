@@ -4,13 +4,13 @@ use native.Mathlib.Omega.{arith}
 use mathlib.Core.Path.{◌≡◌, ◌∙◌, sym}
 use lib.ListN.{length}
 use Rattle.text.proofs.Laws.Run.{end_ge, end-le}
-use Rattle.specification.specs.Bytes.{inToken}
+use Rattle.specification.specs.Bytes.{in_token}
 use Rattle.specification.specs.Formula.{Locals}
-use Rattle.tables.specs.Layout.{maxTokens, maxLocals, pathAt}
+use Rattle.tables.specs.Layout.{max_tokens, max_locals, path_at}
 use Rattle.sheet.specs.Dues.{Due}
 use Rattle.sheet.specs.Turn.{empties}
 use Rattle.sheet.specs.Stack.{Bits, Means, Kept}
-use Rattle.sheet.specs.FormulaLine.{refusesIn, Sized, Begin, begin}
+use Rattle.sheet.specs.FormulaLine.{refuses_in, Sized, Begin, begin}
 use Rattle.sheet.proofs.Bits.{locals_in, bits_in}
 use Rattle.sheet.proofs.Loop.{Reading, Taken, reading-start, taken-last, taken-stops, taken_next, known_start, sized-start, through-start}
 use Rattle.sheet.proofs.Scan.{sized-here, May, turn-stops, may, turn-empties, turn-stands}
@@ -20,10 +20,10 @@ use Rattle.sheet.proofs.formula.scan.Tie as tie
 
 abbrev invariant-loop : tie.invariant-loop
 invariant-loop s from d tokens binders w₀ refusing n₀ count₀ bound₀ at₀ word₀ w n count bound at word =
-    ((B : Locals) → Bits binders B → Reading (begin s d from tokens B) w₀ w n count bound at word) × (pathAt ≤ length w₀) × Sized d w₀
+    ((B : Locals) → Bits binders B → Reading (begin s d from tokens B) w₀ w n count bound at word) × (path_at ≤ length w₀) × Sized d w₀
 
 abbrev decreases-loop : tie.decreases-loop
-decreases-loop s from d tokens binders w₀ refusing n₀ count₀ bound₀ at₀ word₀ w n count bound at word = maxTokens - count
+decreases-loop s from d tokens binders w₀ refusing n₀ count₀ bound₀ at₀ word₀ w n count bound at word = max_tokens - count
 
 -- ---- places: the first entry is put, the loop's head, the entry that is due, the token that may stand, and that makes no range empty
 
@@ -64,7 +64,7 @@ binders c = (start c).args.binders
 
 -- one list
 abbrev some : tie.At-loop invariant-loop decreases-loop → Locals
-some c = locals_in (binders c) maxLocals
+some c = locals_in (binders c) max_locals
 
 reading : (c : tie.At-loop invariant-loop decreases-loop) →
     Reading (beginning c (some c)) (begun c).begin.new.0 c.loop.w c.loop.n c.loop.count c.loop.bound c.loop.at c.loop.word
@@ -83,7 +83,7 @@ may_here c =
 -- whether it makes a range empty
 tells-here : (c : tie.After-is-empty invariant-loop decreases-loop) → let h = head (stood c).before in
     (d : Due) (p : ℕ) → Means (got (stood c).before).get.result d → Kept h.loop.w h.loop.count p d →
-    c.is-empty.result ≡ empties (refusesIn (start h).args.d) d (stood c).before.before.spelt.result
+    c.is-empty.result ≡ empties (refuses_in (start h).args.d) d (stood c).before.before.spelt.result
 tells-here c = rw (head (stood c).before).before.refuses.ensures at c.is-empty.ensures
 
 taken_here : (c : tie.After-slice-known4 invariant-loop decreases-loop) (B : Locals) → Bits (binders (behind c)) B →
@@ -146,7 +146,7 @@ run-end-requires : tie.Need-run-end-requires invariant-loop decreases-loop
 run-end-requires c κs = search rules
 
 sub-spelt : tie.Need-overflow-sub-spelt invariant-loop decreases-loop
-sub-spelt c = let h = c.before.before.before in end_ge inToken (start h).args.s.now h.loop.at _ c.run-end.ensures
+sub-spelt c = let h = c.before.before.before in end_ge in_token (start h).args.s.now h.loop.at _ c.run-end.ensures
 
 part-spelt-start : tie.Need-slice-bounds-spelt-start invariant-loop decreases-loop
 part-spelt-start c = sub-spelt c
@@ -154,7 +154,7 @@ part-spelt-start c = sub-spelt c
 part-spelt-end : tie.Need-slice-bounds-spelt-end invariant-loop decreases-loop
 part-spelt-end c =
     let h = c.before.before.before in
-    end-le inToken (start h).args.s.now h.loop.at _ c.run-end.ensures (reading h).within
+    end-le in_token (start h).args.s.now h.loop.at _ c.run-end.ensures (reading h).within
 
 spelt-requires : tie.Need-spelt-requires invariant-loop decreases-loop
 spelt-requires c κs =

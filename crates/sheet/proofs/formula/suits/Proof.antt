@@ -1,6 +1,6 @@
 -- By the sort. Assumes nothing.
 use native.Mathlib.Omega.{arith}
-use Rattle.sheet.specs.Sorts.{formulaSort, termSort, boundsSort, procedureSort}
+use Rattle.sheet.specs.Sorts.{formula_sort, term_sort, bounds_sort, procedure_sort}
 use Rattle.text.proofs.Laws.Ranges.{inside, over}
 use Rattle.sheet.proofs.Faults.{suits-by}
 use borrow.Author.Tests.{eq-eqb, ne_eqb}
@@ -18,7 +18,7 @@ is-term-requires : tie.Need-is-term-requires
 is-term-requires c κs = search rules
 
 returns : tie.Need-returns
-returns c = let a = c.before.before.args in λ d e. rw (suits-by d a.sort a.code e, eq-eqb _ formulaSort c.before.match.keys1) c.is-formula.ensures
+returns c = let a = c.before.before.args in λ d e. rw (suits-by d a.sort a.code e, eq-eqb _ formula_sort c.before.match.keys1) c.is-formula.ensures
 
 returns-2 : tie.Need-returns-2
 returns-2 c =
@@ -27,9 +27,9 @@ returns-2 c =
     λ d e.
     rw (
       suits-by d a.sort a.code e,
-      ne_eqb a.sort formulaSort (λ q. omega arith),
-      over termSort boundsSort a.sort (omega arith),
-      eq-eqb _ procedureSort is,
+      ne_eqb a.sort formula_sort (λ q. omega arith),
+      over term_sort bounds_sort a.sort (omega arith),
+      eq-eqb _ procedure_sort is,
     )
     c.is_number.ensures
 
@@ -41,8 +41,8 @@ returns-3 c =
     λ d e.
     rw (
       suits-by d a.sort a.code e,
-      ne_eqb a.sort formulaSort r.0.1,
-      inside termSort boundsSort a.sort (omega arith) (omega arith),
+      ne_eqb a.sort formula_sort r.0.1,
+      inside term_sort bounds_sort a.sort (omega arith) (omega arith),
     )
     c.is-term.ensures
 
@@ -53,9 +53,9 @@ returns-4 c =
     λ d e.
     rw (
       suits-by d a.sort a.code e,
-      ne_eqb a.sort formulaSort r.0.1,
-      over termSort boundsSort a.sort c.if1.false,
-      ne_eqb a.sort procedureSort r.1,
+      ne_eqb a.sort formula_sort r.0.1,
+      over term_sort bounds_sort a.sort c.if1.false,
+      ne_eqb a.sort procedure_sort r.1,
     )
 
 pub suits-spec : {M : Type 1} → statement M

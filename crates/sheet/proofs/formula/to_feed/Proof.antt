@@ -1,10 +1,10 @@
 -- The tokens, then the line feed. Assumes nothing.
 use native.Mathlib.Omega.{arith}
 use mathlib.Core.Path.{◌∙◌, sym}
-use Rattle.specification.specs.Bytes.{feed, classNumber}
+use Rattle.specification.specs.Bytes.{feed, class_number}
 use Rattle.specification.specs.Formula.{Locals}
 use Rattle.text.proofs.Laws.Class.{class-inside}
-use Rattle.tables.specs.Layout.{maxLocals}
+use Rattle.tables.specs.Layout.{max_locals}
 use Rattle.sheet.specs.Stack.{Bits}
 use Rattle.sheet.specs.FormulaLine.{Begin, begin, Through}
 use Rattle.sheet.proofs.Bits.{locals_in, bits_in}
@@ -30,9 +30,9 @@ through_here c B b = let q = read c in scans-read (beginning q B) (start q).args
 
 -- one list
 through-some : (c : tie.After-n) →
-    Through (beginning (read c) (locals_in (start (read c)).args.binders maxLocals)) (start (read c)).args.w.now (read c).scan.new.1.1.1.1.1.0 c.n.given.0.0
+    Through (beginning (read c) (locals_in (start (read c)).args.binders max_locals)) (start (read c)).args.w.now (read c).scan.new.1.1.1.1.1.0 c.n.given.0.0
     c.n.given.0.1.0 c.n.given.0.1.1.0
-through-some c = let m = (start (read c)).args.binders in through_here c (locals_in m maxLocals) (bits_in m)
+through-some c = let m = (start (read c)).args.binders in through_here c (locals_in m max_locals) (bits_in m)
 
 -- ---- the needs
 
@@ -52,13 +52,13 @@ same_length : tie.Need-same-length
 same_length c = search rules
 
 returns : tie.Need-returns
-unfolding classNumber
+unfolding class_number
 returns c =
     let p = c.before.before.before in
     (tt, λ B b D g. (through-no-feed (through_here p B b) D g (λ q. c.if1.true (c.before.class-at.ensures ∙ q)), through-long (through_here p B b)))
 
 add-t18 : tie.Need-overflow-add-t18
-unfolding classNumber
+unfolding class_number
 add-t18 c =
     let p = c.before.before.before in
     omega (arith, class-inside (start (read p)).args.s.now _ feed (sym c.before.class-at.ensures ∙ c.if1.false), (start (read p)).well-formed.0.1)
@@ -80,7 +80,7 @@ same-length-3 : tie.Need-same-length-3
 same-length-3 c = search rules
 
 returns-3 : tie.Need-returns-3
-unfolding classNumber
+unfolding class_number
 returns-3 c =
     let p = c.before.before.before in
     let there = sym c.before.class-at.ensures ∙ c.if1.false in (

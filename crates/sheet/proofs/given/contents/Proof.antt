@@ -1,6 +1,6 @@
 -- By the first byte of the value. Assumes nothing.
 use mathlib.Core.Path.{◌∙◌, sym}
-use Rattle.specification.specs.Bytes.{classNumber}
+use Rattle.specification.specs.Bytes.{class_number}
 use Rattle.sheet.proofs.Keys.{part-class}
 use Rattle.sheet.proofs.GivenLine.{value_none, value-some}
 use borrow.Author.Rules.{rules}
@@ -14,7 +14,7 @@ class-at-requires : tie.Need-class-at-requires
 class-at-requires c κs = search rules
 
 returns : tie.Need-returns
-unfolding classNumber
+unfolding class_number
 returns c = λ D d. value_none D _ _ _ (sym (part-class _ _ _ c.before.before.value.ensures) ∙ sym c.before.class-at.ensures ∙ c.if1.true)
 
 items-at-requires : tie.Need-items-at-requires
@@ -24,7 +24,7 @@ same_length : tie.Need-same-length
 same_length c = search rules
 
 returns-2 : tie.Need-returns-2
-unfolding classNumber
+unfolding class_number
 returns-2 c =
     let p = c.before.before.before.before.before in
     λ D d. c.before.before.items_at.ensures D d ∙ value-some D _ _ _ (λ e. c.before.before.before.before.if1.false (c.before.before.before.before.before.class-at.ensures ∙ part-class _ _ _ p.before.value.ensures ∙ e))

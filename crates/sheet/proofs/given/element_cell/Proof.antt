@@ -33,7 +33,7 @@ returns-2 : tie.Need-returns-2
 returns-2 c =
     let p = c.before.before.before.before.before in
     let a = p.before.before.before.args in
-    element-out _ a.w.now _ a.i p.before.if1.false (omega (arith, c.if2.true, c.before.wide3.ensures.0, c.before.before.first-cell2.ensures, c.before.before.before.wide2.ensures.0, c.before.before.before.before.wide.ensures.0, c.before.before.before.before.before.first_Cell.ensures))
+    element-out _ a.w.now _ a.i p.before.if1.false (omega (arith, c.if2.true, c.before.wide3.ensures.0, c.before.before.first-cell2.ensures, c.before.before.before.wide2.ensures.0, c.before.before.before.before.wide.ensures.0, c.before.before.before.before.before.first_cell.ensures))
 
 cast-t8 : tie.Need-overflow-cast-t8
 cast-t8 c = search rules
@@ -42,7 +42,7 @@ returns-3 : tie.Need-returns-3
 returns-3 c =
     let p = c.before.before.before.before.before in
     let a = p.before.before.before.args in
-    element-in _ a.w.now _ a.i p.before.if1.false _ (omega (arith, c.before.before.before.wide2.ensures.0, c.before.before.before.before.wide.ensures.0, c.before.before.before.before.before.first_Cell.ensures)) (omega (arith, c.if2.false, c.before.wide3.ensures.0, c.before.before.first-cell2.ensures))
+    element-in _ a.w.now _ a.i p.before.if1.false _ (omega (arith, c.before.before.before.wide2.ensures.0, c.before.before.before.before.wide.ensures.0, c.before.before.before.before.before.first_cell.ensures)) (omega (arith, c.if2.false, c.before.wide3.ensures.0, c.before.before.first-cell2.ensures))
 
 pub element-cell-spec : {M : Type 1} → statement M
 element-cell-spec =

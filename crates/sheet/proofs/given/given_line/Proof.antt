@@ -2,7 +2,7 @@
 use mathlib.Core.Path.{refl, ◌∙◌, sym}
 use native.Mathlib.Omega.{arith}
 use borrow.Author.Tests.{not-true, not-false}
-use Rattle.specification.specs.Bytes.{bytes, feed, classNumber}
+use Rattle.specification.specs.Bytes.{bytes, feed, class_number}
 use Rattle.text.proofs.Laws.Class.{class-inside}
 use Rattle.text.proofs.Laws.Keys.{key_fits}
 use Rattle.sheet.proofs.GivenLine.{lined-no, lined-refused, lined-open, lined-found}
@@ -38,13 +38,13 @@ same_length : tie.Need-same-length
 same_length c = search rules
 
 returns-2 : tie.Need-returns-2
-unfolding classNumber
+unfolding class_number
 returns-2 c =
     let p = c.before.before.before.before.before in
     λ D d. (lined-open D _ _ (sym p.before.before.before.before.before.begins.ensures ∙ not-false _ p.before.before.before.before.if1.false) _ _ p.before.before.contents.result (p.before.before.contents.ensures D d) _ c.before.before.before.e.given.1 (λ e. c.if2.true (c.before.class-at.ensures ∙ e)), search rules)
 
 add-t22 : tie.Need-overflow-add-t22
-unfolding classNumber
+unfolding class_number
 add-t22 c =
     let p = c.before.before.before.before.before in
     let q = p.before.before.before.before.before in
@@ -62,7 +62,7 @@ same-length-3 : tie.Need-same-length-3
 same-length-3 c = search rules
 
 returns-4 : tie.Need-returns-4
-unfolding classNumber
+unfolding class_number
 returns-4 c =
     let p = c.before.before.before.before.before in
     λ D d. lined-found D _ _ (sym p.before.before.before.before.before.begins.ensures ∙ not-false _ p.before.before.before.before.if1.false) _ _ p.before.before.contents.result (p.before.before.contents.ensures D d) _ c.before.before.before.e.given.1 (sym c.before.class-at.ensures ∙ c.if2.false)

@@ -3,9 +3,9 @@
 use Prim.Native.Nat.{◌-◌}
 use mathlib.Core.Path.{◌∙◌, sym}
 use native.Mathlib.Omega.{arith}
-use Rattle.specification.specs.Bytes.{comma, classNumber}
+use Rattle.specification.specs.Bytes.{comma, class_number}
 use Rattle.text.proofs.Laws.Class.{class-inside}
-use Rattle.tables.specs.Layout.{maxCells}
+use Rattle.tables.specs.Layout.{max_cells}
 use Rattle.sheet.proofs.GivenLine.{Turning, turn-first, turn-arranged, turn-refused, turn-cell, turn-length, turn_last, turn-next}
 use borrow.Author.Rules.{rules}
 use Rattle.sheet.proofs.given.items_at.Statement.{statement}
@@ -15,7 +15,7 @@ abbrev invariant-loop : tie.invariant-loop
 invariant-loop s from scalars arrays w₀ at₀ floor₀ w at floor = Turning s from scalars arrays w₀ w at floor
 
 abbrev decreases-loop : tie.decreases-loop
-decreases-loop s from scalars arrays w₀ at₀ floor₀ w at floor = maxCells - floor
+decreases-loop s from scalars arrays w₀ at₀ floor₀ w at floor = max_cells - floor
 
 loop-holds : tie.Need-loop-init invariant-loop decreases-loop
 loop-holds c = turn-first _ _ _ _ _
@@ -50,14 +50,14 @@ same-length-2 c =
     turn-length q.before.loop.invariant _ p.before.before.before.before.item-at.ensures _ _ _ p.before.before.cell.given.1 _ c.before.before.before.before.put.ensures
 
 returns-2 : tie.Need-returns-2 invariant-loop decreases-loop
-unfolding classNumber
+unfolding class_number
 returns-2 c =
     let p = c.before.before.before.before.before in
     let q = p.before.before.before.before.before in
     turn_last q.before.loop.invariant _ p.before.before.before.before.item-at.ensures _ _ _ p.before.before.cell.given.1 _ c.before.before.before.before.put.ensures (λ e. c.if1.true (c.before.class-at.ensures ∙ e))
 
 add_at : tie.Need-overflow-add-at invariant-loop decreases-loop
-unfolding classNumber
+unfolding class_number
 add_at c =
     let p = c.before.before.before.before.before in
     let q = p.before.before.before.before.before in
@@ -76,7 +76,7 @@ loop-less c =
     let h = turn-cell q.before.loop.invariant _ p.before.before.before.before.item-at.ensures _ _ _ p.before.before.cell.given.1 q.before.before.before.before.requires.0 in omega (arith, h.0, h.1)
 
 loop-again : tie.Need-loop-preserved invariant-loop decreases-loop
-unfolding classNumber
+unfolding class_number
 loop-again c =
     let p = c.before.before.before.before.before in
     let q = p.before.before.before.before.before in

@@ -1,10 +1,10 @@
 -- By the answer of the line. Assumes nothing.
 use native.Mathlib.Omega.{arith}
 use Rattle.sheet.specs.FormulaLine.{begin}
-use Rattle.specification.specs.Sheet.{withParameters}
+use Rattle.specification.specs.Sheet.{with_parameters}
 use Rattle.sheet.proofs.FormulaRest.{closes-refused, closes-read}
 use Rattle.sheet.proofs.ProcedureLines.{few-procedures}
-use Rattle.sheet.proofs.ProcedureBody.{inLine, line_small, line-sized, line_known, body_refused, body-found}
+use Rattle.sheet.proofs.ProcedureBody.{in_line, line_small, line-sized, line_known, body_refused, body-found}
 use borrow.Author.Rules.{rules}
 use Rattle.sheet.proofs.procedures.body.Statement.{statement}
 use Rattle.sheet.proofs.procedures.body.Tie as tie
@@ -43,8 +43,8 @@ returns c =
     let f = start.requires.filled in
     let told = c.before.before.before.before.before in
     body_refused start.args.s.now _ _ _ _ _ start.args.w.now start.requires told.to-feed.new.1.1.1.1.1.0 _ _
-    (closes-refused (begin a.s.now (inLine a.d a.n) a.from a.x.tokens f.locals) a.w.now told.to-feed.new.1.1.1.1.1.0 told.to-feed.result (withParameters a.n f.declared) _ _ c.before.k.given.1
-    (told.to-feed.ensures.1 f.locals f.set (withParameters a.n f.declared) (line_known start.args.s.now _ _ _ _ _ start.args.w.now start.requires)))
+    (closes-refused (begin a.s.now (in_line a.d a.n) a.from a.x.tokens f.locals) a.w.now told.to-feed.new.1.1.1.1.1.0 told.to-feed.result (with_parameters a.n f.declared) _ _ c.before.k.given.1
+    (told.to-feed.ensures.1 f.locals f.set (with_parameters a.n f.declared) (line_known start.args.s.now _ _ _ _ _ start.args.w.now start.requires)))
 
 same-length-2 : tie.Need-same-length-2
 same-length-2 c = search rules
@@ -58,8 +58,8 @@ returns-2 c =
     let f = start.requires.filled in
     let told = mid.before.before.before.before.before in
     body-found start.args.s.now _ _ _ _ _ start.args.w.now start.requires told.to-feed.new.1.1.1.1.1.0 _ _ _ _
-    (closes-read (begin a.s.now (inLine a.d a.n) a.from a.x.tokens f.locals) a.w.now told.to-feed.new.1.1.1.1.1.0 told.to-feed.result (withParameters a.n f.declared) _ _ _ mid.before.tokens.given.1
-    (told.to-feed.ensures.1 f.locals f.set (withParameters a.n f.declared) (line_known start.args.s.now _ _ _ _ _ start.args.w.now start.requires)))
+    (closes-read (begin a.s.now (in_line a.d a.n) a.from a.x.tokens f.locals) a.w.now told.to-feed.new.1.1.1.1.1.0 told.to-feed.result (with_parameters a.n f.declared) _ _ _ mid.before.tokens.given.1
+    (told.to-feed.ensures.1 f.locals f.set (with_parameters a.n f.declared) (line_known start.args.s.now _ _ _ _ _ start.args.w.now start.requires)))
     c.before.before.before.set-proc.ensures
 
 pub body-spec : {M : Type 1} → statement M

@@ -1,6 +1,6 @@
 -- The number of parameters, then the formula. Assumes nothing.
 use mathlib.Core.Path.{refl}
-use Rattle.specification.specs.Bytes.{colon, classNumber}
+use Rattle.specification.specs.Bytes.{colon, class_number}
 use Rattle.sheet.proofs.ProcedureLines.{head-refused, head-found}
 use borrow.Author.Rules.{rules}
 use Rattle.sheet.proofs.procedures.procedure_line.Statement.{statement}
@@ -19,7 +19,7 @@ enum-known-n : tie.Need-enum-known-n
 enum-known-n c = search rules
 
 body-requires : tie.Need-body-requires
-unfolding classNumber
+unfolding class_number
 body-requires c κs =
     let mid = c.before.before.before.before.before in
     let start = mid.before.before.before in
@@ -27,7 +27,7 @@ body-requires c κs =
     head-found start.args.s.now _ _ _ start.args.w.now start.requires told.count-line.result (told.count-line.ensures.1 colon refl) _ _ c.before.before.n.given.1 told.count-line.ensures.0
 
 returns : tie.Need-returns
-unfolding classNumber
+unfolding class_number
 returns c =
     let mid = c.before.before.before.before.before in
     let start = mid.before.before in

@@ -1,7 +1,7 @@
 -- One line a turn, as long as one follows. Assumes nothing.
 use mathlib.Core.Path.{◌≡◌, refl, ◌∙◌, sym}
 use lib.ListN.{length}
-use Rattle.sheet.specs.Whole.{Went, Leads, leftOver}
+use Rattle.sheet.specs.Whole.{Went, Leads, left_over}
 use Rattle.sheet.proofs.AllLines.{as_long, went-goes, went-leads}
 use Rattle.sheet.proofs.ProcedureLines.{no_more}
 use borrow.Author.Rules.{rules}
@@ -12,7 +12,7 @@ abbrev invariant-loop : tie.invariant-loop
 invariant-loop s w₀ q₀ w q = Leads 5 s (length w₀) q₀ q w × (length w ≡ length w₀)
 
 abbrev decreases-loop : tie.decreases-loop
-decreases-loop s w₀ q₀ w q = leftOver q
+decreases-loop s w₀ q₀ w q = left_over q
 
 loop-holds : tie.Need-loop-init invariant-loop decreases-loop
 loop-holds c = ((refl, c.before.before.requires), refl)

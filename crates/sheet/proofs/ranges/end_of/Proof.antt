@@ -18,7 +18,7 @@ first-cell-requires : tie.Need-first-cell-requires
 first-cell-requires c κs = search rules
 
 returns-2 : tie.Need-returns-2
-returns-2 c = c.first_Cell.ensures ∙ end-array _ _ _ c.before.if1.left
+returns-2 c = c.first_cell.ensures ∙ end-array _ _ _ c.before.if1.left
 
 pub end-of-spec : {M : Type 1} → statement M
 end-of-spec = tie.close (tie.spec add-result returns add-first-cell first-cell-requires returns-2)

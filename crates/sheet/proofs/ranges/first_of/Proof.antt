@@ -12,7 +12,7 @@ first-cell-requires : tie.Need-first-cell-requires
 first-cell-requires c κs = search rules
 
 returns-2 : tie.Need-returns-2
-returns-2 c = c.first_Cell.ensures ∙ first-array _ _ _ c.before.if1.left
+returns-2 c = c.first_cell.ensures ∙ first-array _ _ _ c.before.if1.left
 
 pub first-of-spec : {M : Type 1} → statement M
 first-of-spec = tie.close (tie.spec returns first-cell-requires returns-2)

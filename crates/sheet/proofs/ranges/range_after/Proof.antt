@@ -1,7 +1,7 @@
 -- The first range, or a comma and a range. Assumes nothing.
 use mathlib.Core.Path.{◌∙◌, sym}
 use native.Mathlib.Omega.{arith}
-use Rattle.specification.specs.Bytes.{comma, classNumber}
+use Rattle.specification.specs.Bytes.{comma, class_number}
 use Rattle.text.proofs.Laws.Class.{class-inside}
 use Rattle.sheet.proofs.RangeRead.{lead-first, lead-no, lead-yes}
 use borrow.Author.Rules.{rules}
@@ -18,18 +18,18 @@ class-at-requires : tie.Need-class-at-requires
 class-at-requires c κs = search rules
 
 returns-2 : tie.Need-returns-2
-unfolding classNumber
+unfolding class_number
 returns-2 c = lead-no _ _ _ c.before.before.if1.left (λ e. c.if2.taken (c.before.class-at.ensures ∙ e))
 
 add-range-at : tie.Need-add-range-at
-unfolding classNumber
+unfolding class_number
 add-range-at c = omega (arith, class-inside c.before.before.before.before.args.s.now c.before.before.before.before.args.at comma (sym c.before.class-at.ensures ∙ c.if2.left))
 
 range-at-requires-2 : tie.Need-range-at-requires-2
 range-at-requires-2 c κs = search rules
 
 returns-3 : tie.Need-returns-3
-unfolding classNumber
+unfolding class_number
 returns-3 c = lead-yes _ _ _ c.before.before.before.if1.left (sym c.before.before.class-at.ensures ∙ c.before.if2.left) _ c.range-at2.ensures
 
 pub range-after-spec : {M : Type 1} → statement M

@@ -2,7 +2,7 @@
 use mathlib.Core.Path.{refl, ◌∙◌, sym}
 use native.Mathlib.Omega.{arith}
 use borrow.Author.Tests.{not-true, not-false}
-use Rattle.specification.specs.Bytes.{bytes, feed, classNumber}
+use Rattle.specification.specs.Bytes.{bytes, feed, class_number}
 use Rattle.text.proofs.Laws.Class.{class-inside}
 use Rattle.text.proofs.Laws.Keys.{key_fits}
 use Rattle.sheet.proofs.RangeLine.{line-none, line-no, line_refused, line-open, line-found}
@@ -41,7 +41,7 @@ same_length : tie.Need-same-length
 same_length c = search rules
 
 returns-3 : tie.Need-returns-3
-unfolding classNumber
+unfolding class_number
 returns-3 c =
     let p = c.before.before.before.before.before in
     let q = p.before.before.before.before.before in
@@ -50,7 +50,7 @@ returns-3 c =
     (line-open _ _ _ _ _ q.before.before.before.if1.left (sym q.begins.ensures ∙ not-false _ p.before.before.before.before.if2.left) _ _ p.before.before.ranges-at.result start.pre.0 p.before.before.ranges-at.ensures _ c.before.before.before.e.given.1 (λ e. c.if3.taken (c.before.class-at.ensures ∙ e)), search rules)
 
 add-t23 : tie.Need-add-t23
-unfolding classNumber
+unfolding class_number
 add-t23 c =
     let p = c.before.before.before.before.before in
     let q = p.before.before.before.before.before in
@@ -71,7 +71,7 @@ same-length-3 : tie.Need-same-length-3
 same-length-3 c = search rules
 
 returns-5 : tie.Need-returns-5
-unfolding classNumber
+unfolding class_number
 returns-5 c =
     let p = c.before.before.before.before.before in
     let q = p.before.before.before.before.before in

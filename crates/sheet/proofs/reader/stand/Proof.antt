@@ -24,7 +24,7 @@ use denote.Laws.{Is}
 use denote.Builtin.{u8}
 use denote.Ref.{Bor, NamedLft}
 use denote.Signature.{plain, named_lft}
-use denote.Slice.{slice_val, ShrSlice, shr_slice_vals, shr_slice_Tells, shr_slice_Lawful, shr_slice_copy}
+use denote.Slice.{slice_val, ShrSlice, shr_slice_vals, shr_slice_tells, shr_slice_lawful, shr_slice_copy}
 use denote.Steps.{nothing, owned}
 use denote.Enum.Laws as EL
 use denote.Struct.Laws as LL
@@ -32,7 +32,7 @@ use denote.Struct.Rest.{own_shut}
 use denote.Triple.Entry.{Vals, on_entry}
 use denote.Triple.Spec.{Meets, triple_of}
 use denote.Triple.Table.{entered}
-use denote.Triple.Walked.{says, Stays, stay_none, stay_none_slice, walk_of, Goes-none, Goes-none_slice, Walks, ends_at, walked, walk_Meets}
+use denote.Triple.Walked.{says, Stays, stay_none, stay_none_slice, walk_of, Goes-none, Goes-none_slice, Walks, ends_at, walked, walk_meets}
 use denote.Exit.{yes}
 use Rattle.sheet.specs.declared.reader.Reader.{Reader}
 use Rattle.sheet.specs.declared.whole.Progress.{Progress}
@@ -89,7 +89,7 @@ module _ {M : Type 1} {𝓤 : Ura M} (𝓛 : Logic 𝓤) (mem : Memory → SProp
     walk is-s =
         qed 𝓛 (raw (on_entry 𝓛 stand.signature (κ, tt) (q, tt) (s, (p, tt)) at) ∷ []) ∵ enter ! C Λ code.function (v ∷ pv ∷ []) _ $
         alloc1 ! (λ l₀. alloc1 ! (λ l₁. alloc1 ! (λ l₂. alloc0 ! $ params1 ! $
-        pass1 ! (init ! 2 refl ((shr_slice_Lawful 𝓛 (named 0) κ u8).typed s (v ∷ []) is-s).0) $ pass1 ! (init ! 0 refl ((EL.lawful E.the_type E'.the_laws 𝓛 tt).typed p _ is-p).0) $ pass0 ! $
+        pass1 ! (init ! 2 refl ((shr_slice_lawful 𝓛 (named 0) κ u8).typed s (v ∷ []) is-s).0) $ pass1 ! (init ! 0 refl ((EL.lawful E.the_type E'.the_laws 𝓛 tt).typed p _ is-p).0) $ pass0 ! $
         assigns ! (agg ! (and_then ! (load ! (from ! (stop !)) (look ! 2 refl)) (and_then ! (load ! (from ! (stop !)) (look ! 0 refl)) (no_more !)))) (from ! (stop !)) (init ! 4 refl ((LL.lawful (T.the_type α) (T'.the_laws α) 𝓛).typed made _ (LL.owes (T.the_type α) (T'.the_laws α) made (is-s, (is-p, tt)))).0) $
         returns ! (look ! 4 refl) $ forget ! 0 refl $ forget ! 2 refl $ forget ! 4 refl $ move ! (4 ∷ 5 ∷ []) $ free1 ! $ move ! (2 ∷ 3 ∷ []) $ free1 ! $ free1 ! $ free0 ! $ by ! exits)))
 
@@ -97,12 +97,12 @@ module _ {M : Type 1} {𝓤 : Ura M} (𝓛 : Logic 𝓤) (mem : Memory → SProp
   open 𝓛 use {H}
 
   stand-walks : (C : Calls 𝓤 H) (Λ : Loops 𝓤 H) → Walks 𝓛 stand.ended stayed (WpFn 𝓤 H C Λ code.function) (stand.clauses 𝓛 mem run)
-  stand-walks C Λ = walked 𝓛 stand.ended stayed (stand.clauses 𝓛 mem run) (WpFn 𝓤 H C Λ code.function) (λ κs. (shr_slice_vals, (EL.vals E.the_type E'.the_laws, tt))) (λ κs. (shr_slice_Tells (named 0) κs.0 u8, (EL.tells E.the_type E'.the_laws, tt)))
+  stand-walks C Λ = walked 𝓛 stand.ended stayed (stand.clauses 𝓛 mem run) (WpFn 𝓤 H C Λ code.function) (λ κs. (shr_slice_vals, (EL.vals E.the_type E'.the_laws, tt))) (λ κs. (shr_slice_tells (named 0) κs.0 u8, (EL.tells E.the_type E'.the_laws, tt)))
       (λ κs qs bounds a g are. via 𝓤 _ (fst∗ 𝓤 _ (emp 𝓤)) (walk 𝓛 mem run κs.0 qs.0 a.0 a.1.0 are.1.0 C Λ are.0))
 
 stand-meets : {M : Type 1} {𝓤 : Ura M} (𝓛 : Logic 𝓤) → (mem : Memory → SProp 𝓤) (run : Routine → Fun 𝓤) (𝓣 : Tables 𝓤 𝓛.H)
     → Meets 𝓛 stand.signature (WpFn 𝓤 𝓛.H 𝓣.C 𝓣.Λ code.function) (stand.spec 𝓛 mem run)
-stand-meets {𝓤 = 𝓤} 𝓛 mem run 𝓣 = walk_Meets 𝓛 stand.ended stayed (Goes-none_slice 𝓛 1 (0 ∷ []) tt (plain (λ _. u8)) yes, (Goes-none 𝓛 1 (λ _. E.the_row) yes (λ κs x f. refl), tt)) (stand.clauses 𝓛 mem run) (WpFn 𝓤 𝓛.H 𝓣.C 𝓣.Λ code.function) (WpFn-mono 𝓤 𝓛.H 𝓛.laws 𝓣 code.function) (stand-walks 𝓛 mem run 𝓣.C 𝓣.Λ)
+stand-meets {𝓤 = 𝓤} 𝓛 mem run 𝓣 = walk_meets 𝓛 stand.ended stayed (Goes-none_slice 𝓛 1 (0 ∷ []) tt (plain (λ _. u8)) yes, (Goes-none 𝓛 1 (λ _. E.the_row) yes (λ κs x f. refl), tt)) (stand.clauses 𝓛 mem run) (WpFn 𝓤 𝓛.H 𝓣.C 𝓣.Λ code.function) (WpFn-mono 𝓤 𝓛.H 𝓛.laws 𝓣 code.function) (stand-walks 𝓛 mem run 𝓣.C 𝓣.Λ)
 
 pub stand-spec : {M : Type 1} → stated.statement M
 unfolding code.routine tables_of

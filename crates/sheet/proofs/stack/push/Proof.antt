@@ -1,7 +1,7 @@
 -- By the sort that was due. Assumes nothing.
 use Prim.Native.Nat.{◌<◌}
 use native.Mathlib.Omega.{arith}
-use Rattle.sheet.specs.Sorts.{procedureSort}
+use Rattle.sheet.specs.Sorts.{procedure_sort}
 use Rattle.sheet.proofs.Opened.{opened-ex, opened-range}
 use borrow.Author.Rules.{rules}
 use Rattle.sheet.proofs.stack.push.Statement.{statement}
@@ -25,7 +25,7 @@ abbrev first : tie.Else3 → tie.Start
 first c = start (past-terms (past-bounds c))
 
 -- the local of a binder is due
-is-local : (c : tie.Else3) → procedureSort < (first c).args.e.sort
+is-local : (c : tie.Else3) → procedure_sort < (first c).args.e.sort
 is-local c = let q = past-bounds c in omega (arith, (past-terms q).if1.left, q.if2.left, c.if3.false)
 
 -- ---- the needs

@@ -2,9 +2,9 @@
 use Prim.Native.Nat.{◌-◌}
 use native.Mathlib.Omega.{arith}
 use mathlib.Core.Path.{sym, ap}
-use Rattle.tables.specs.Codes.{procedureCode}
+use Rattle.tables.specs.Codes.{procedure_code}
 use Rattle.sheet.specs.declared.sorts.Operands.{Operands}
-use Rattle.sheet.specs.Sorts.{termSort, operands}
+use Rattle.sheet.specs.Sorts.{term_sort, operands}
 use Rattle.sheet.proofs.CodeOperands.{operands-number}
 use Rattle.sheet.proofs.Opened.{below-number, opened-operands}
 use borrow.Author.Rules.{rules}
@@ -29,7 +29,7 @@ returns c =
     let e = start.args.e in
     let t = start.args.t in
     rw c.before.before.repeat.ensures.0
-    (opened-operands start.args.w.now _ start.args.n e t (omega (arith, start.requires.2)) (operands termSort (t.code - procedureCode)) (sym (operands-number _ start.requires.3)) e.room
+    (opened-operands start.args.w.now _ start.args.n e t (omega (arith, start.requires.2)) (operands term_sort (t.code - procedure_code)) (sym (operands-number _ start.requires.3)) e.room
     (λ d m h. below-number e d m start.requires.2) c.before.before.repeat.ensures.1)
 
 pub push-arguments-spec : {M : Type 1} → statement M

@@ -28,11 +28,11 @@ use types.Tokens.{lft_new, lft_end}
 use sound.WpLaws.{FmC, fm_of, WpFn-mono}
 use denote.RattleType.{RattleType, owns}
 use denote.Laws.{Is, shows}
-use denote.Plain.{uint_Makes, bool_vals, bool_Tells, bool_Makes}
+use denote.Plain.{uint_makes, bool_vals, bool_tells, bool_makes}
 use denote.Builtin.{u8, u32, bool}
 use denote.Ref.{MutBor, NamedLft}
 use denote.Signature.{plain, named_lft}
-use denote.Slice.{slice_val, ShrSlice, MutSlice, Room, shr_slice_vals, mut_slice_vals, shr_slice_Tells, mut_slice_Tells, shr_slice_Lawful, shr_slice_copy}
+use denote.Slice.{slice_val, ShrSlice, MutSlice, Room, shr_slice_vals, mut_slice_vals, shr_slice_tells, mut_slice_tells, shr_slice_lawful, shr_slice_copy}
 use denote.Steps.{only, owned, peeks, heard, nothing}
 use denote.Enum.Laws as EL
 use denote.Struct.Laws as LL
@@ -41,10 +41,10 @@ use denote.Triple.Call.{calls_at}
 use denote.Triple.Entry.{Vals, on_entry}
 use denote.Triple.Spec.{Meets, triple_of}
 use denote.Triple.Table.{entered, cited}
-use denote.Triple.Walked.{says, needs, Stays, stay_none, stay_none_slice, stay_slice, walk_of, Goes-none, Goes-none_slice, Goes-slice, Walks, ends_at, walked, walk_Meets}
+use denote.Triple.Walked.{says, needs, Stays, stay_none, stay_none_slice, stay_slice, walk_of, Goes-none, Goes-none_slice, Goes-slice, Walks, ends_at, walked, walk_meets}
 use denote.Exit.{yes}
 use denote.Triple.Clauses.{ensured, lasts}
-use Rattle.tables.specs.Layout.{pathAt}
+use Rattle.tables.specs.Layout.{path_at}
 use Rattle.sheet.specs.Whole.{Went, unread}
 use Rattle.sheet.specs.declared.reader.Reader.{Reader}
 use Rattle.sheet.specs.declared.whole.Progress.{Progress}
@@ -90,7 +90,7 @@ module _ {M : Type 1} {𝓤 : Ura M} (𝓛 : Logic 𝓤) (mem : Memory → SProp
   abbrev Line : Contract 𝓤
   Line = triple_of 𝓛 line.signature (line.spec 𝓛 mem run)
 
-module _ {M : Type 1} {𝓤 : Ura M} (𝓛 : Logic 𝓤) (mem : Memory → SProp 𝓤) (run : Routine → Fun 𝓤) (κ κ' : Lft) (q q' : Share) (s : MutBor (List ℕ)) (strict : Bool) (b o : ℕ) (γ : GName) (ys : List ℕ) (zeros : ys ≡ replicate (length ys) 0) (many : pathAt ≤ length ys) where
+module _ {M : Type 1} {𝓤 : Ura M} (𝓛 : Logic 𝓤) (mem : Memory → SProp 𝓤) (run : Routine → Fun 𝓤) (κ κ' : Lft) (q q' : Share) (s : MutBor (List ℕ)) (strict : Bool) (b o : ℕ) (γ : GName) (ys : List ℕ) (zeros : ys ≡ replicate (length ys) 0) (many : path_at ≤ length ys) where
   -- the machine value that s has; the words under a name at a list, and theirs
   open 𝓛 use {H, A}
 
@@ -149,7 +149,7 @@ module _ {M : Type 1} {𝓤 : Ura M} (𝓛 : Logic 𝓤) (mem : Memory → SProp
 
   goes-start : ent 𝓤 (sem 𝓛 ftrue) ((Start 𝓛 mem run).pre to_start)
   goes-start =
-      qed 𝓛 (‵ ftrue ∷ []) ∵ nothing ! $ owned ! bool (Is bool) (bool_Makes 𝓛) strict _ refl $ fjoin ! $ move ! (1 ∷ 0 ∷ []) $ join ! $ frame ! $ done !
+      qed 𝓛 (‵ ftrue ∷ []) ∵ nothing ! $ owned ! bool (Is bool) (bool_makes 𝓛) strict _ refl $ fjoin ! $ move ! (1 ∷ 0 ∷ []) $ join ! $ frame ! $ done !
 
   start-said : (p : Progress) → ent 𝓤 (ensured 𝓛 start.ended (start.clauses 𝓛 mem run) tt (strict, tt) tt p) (fact 𝓤 (p ≡ unread strict))
   start-said p = ex_e 𝓤 _ (λ ws. snd∗ 𝓤 (sem 𝓛 (lasts start.ended tt (strict, tt) ws)) (fact 𝓤 (p ≡ unread strict)))
@@ -182,7 +182,7 @@ module _ {M : Type 1} {𝓤 : Ura M} (𝓛 : Logic 𝓤) (mem : Memory → SProp
   goes-line ν δ k ok r u zs pre =
       qed 𝓛 (‵ (Holder r u) ∷ Token ∷ (‵ (flft (ν ∷ []) full_share) ⊛ ‵ (Words (ν ∷ []) δ zs)) ∷ []) ∵ move ! (2 ∷ []) $ split ! $
       -- [ν's token; the words; the reader; the sheet's token]
-      nothing ! $ move ! (2 ∷ 0 ∷ []) $ fjoin ! $ owned ! u32 (Is u32) (uint_Makes 𝓛 w32) k _ (refl, ok) $ fjoin ! $ move ! (2 ∷ 0 ∷ []) $ fjoin ! $
+      nothing ! $ move ! (2 ∷ 0 ∷ []) $ fjoin ! $ owned ! u32 (Is u32) (uint_makes 𝓛 w32) k _ (refl, ok) $ fjoin ! $ move ! (2 ∷ 0 ∷ []) $ fjoin ! $
       -- [what `line` takes; ν's token; the sheet's]
       move ! (2 ∷ []) $ split ! $ move ! (3 ∷ 1 ∷ []) $ join ! $ move ! (1 ∷ 0 ∷ []) $ join ! $ by ! (asked-line ν δ k r u zs pre)
 
@@ -193,7 +193,7 @@ module _ {M : Type 1} {𝓤 : Ura M} (𝓛 : Logic 𝓤) (mem : Memory → SProp
       suffices ! _ (ends_at 𝓛 above.ended stayed (above.clauses 𝓛 mem run) (((κ, (κ', tt)), (q, (q', tt)), tt, (s, (strict, (x γ ys, tt))), at), tt) (EL.val E.the_type E'.the_laws p) p (tt, (tt, (zs, tt))) (tt, (tt, (l, tt)))) $ says ! e $
       split ! $ move ! (2 ∷ []) $ split ! $ move ! (1 ∷ 3 ∷ []) $ join ! $ move ! (2 ∷ 0 ∷ []) $ join ! $ frame ! $
       -- [the words; what s owns]
-      nothing ! $ move ! (1 ∷ 0 ∷ []) $ fjoin ! $ owned ! bool (Is bool) (bool_Makes 𝓛) strict _ refl $ fjoin ! $ move ! (1 ∷ 0 ∷ []) $ fjoin ! $ owned ! E.the_row (Is E.the_row) (EL.makes E.the_type E'.the_plain 𝓛) p _ i $ move ! (1 ∷ 0 ∷ []) $ frame ! $ done !
+      nothing ! $ move ! (1 ∷ 0 ∷ []) $ fjoin ! $ owned ! bool (Is bool) (bool_makes 𝓛) strict _ refl $ fjoin ! $ move ! (1 ∷ 0 ∷ []) $ fjoin ! $ owned ! E.the_row (Is E.the_row) (EL.makes E.the_type E'.the_plain 𝓛) p _ i $ move ! (1 ∷ 0 ∷ []) $ frame ! $ done !
 
   module _ (C : Calls 𝓤 H) (Λ : Loops 𝓤 H) (fm : FmC 𝓤 H 𝓛.laws C) (Known-start : Triple 𝓤 (C #nothing) (Start 𝓛 mem run)) (known-stand : Triple 𝓤 (C #stand) (Stand 𝓛 mem run)) (known-line : Triple 𝓤 (C #line) (Line 𝓛 mem run)) (room : Room u32 (length ys)) where
     -- the words are lent again, `line` is called, and they come back: the reader stands after the line
@@ -222,7 +222,7 @@ module _ {M : Type 1} {𝓤 : Ura M} (𝓛 : Logic 𝓤) (mem : Memory → SProp
     walk p =
         qed 𝓛 (raw (on_entry 𝓛 above.signature (κ, (κ', tt)) (q, (q', tt)) (s, (strict, (x γ ys, tt))) at) ∷ []) ∵ enter ! C Λ code.function (v ∷ vbool strict ∷ xv ∷ []) _ $
         alloc1 ! (λ l₀. alloc1 ! (λ l₁. alloc1 ! (λ l₂. alloc1 ! (λ l₃. alloc1 ! (λ l₄. alloc1 ! (λ l₅. alloc1 ! (λ l₆. alloc1 ! (λ l₇. alloc1 ! (λ l₈. alloc1 ! (λ l₉. alloc1 ! (λ l₁₀. alloc1 ! (λ l₁₁. alloc1 ! (λ l₁₂. alloc1 ! (λ l₁₃. alloc1 ! (λ l₁₄. alloc1 ! (λ l₁₅. alloc1 ! (λ l₁₆. alloc1 ! (λ l₁₇. alloc1 ! (λ l₁₈. alloc1 ! (λ l₁₉. alloc1 ! (λ l₂₀. alloc1 ! (λ l₂₁. alloc1 ! (λ l₂₂. alloc1 ! (λ l₂₃. alloc1 ! (λ l₂₄. alloc1 ! (λ l₂₅. alloc1 ! (λ l₂₆. alloc0 ! $ params1 ! $
-        pass1 ! (init ! 50 refl ((shr_slice_Lawful 𝓛 (named 0) κ u8).typed s (v ∷ []) p).0) $ pass1 ! (init ! 48 refl (tt, tt)) $ pass1 ! (init ! 46 refl (tt, (tt, (record { fits = room.0 }, tt)))) $ pass0 ! $
+        pass1 ! (init ! 50 refl ((shr_slice_lawful 𝓛 (named 0) κ u8).typed s (v ∷ []) p).0) $ pass1 ! (init ! 48 refl (tt, tt)) $ pass1 ! (init ! 46 refl (tt, (tt, (record { fits = room.0 }, tt)))) $ pass0 ! $
         move ! (54 ∷ []) $ use1 𝓛 (‵ Own ⊛ (‵ Own ⊛ (Token ⊛ Lent ys))) begins $ split ! $ move ! (1 ∷ []) $ split ! $ move ! (1 ∷ []) $ split ! $
         -- [the sheet's token; the words; what s owns; the same; room for _26; …; _3; …; _2; …; _1; …; room for _0; …]
         nothing ! $ use1 𝓛 (raw ((Start 𝓛 mem run).pre to_start)) goes-start $
@@ -278,14 +278,14 @@ module _ {M : Type 1} {𝓤 : Ura M} (𝓛 : Logic 𝓤) (mem : Memory → SProp
 
   above-walks : (C : Calls 𝓤 H) (Λ : Loops 𝓤 H) → FmC 𝓤 H 𝓛.laws C → Triple 𝓤 (C #nothing) (Start 𝓛 mem run) → Triple 𝓤 (C #stand) (Stand 𝓛 mem run) → Triple 𝓤 (C #line) (Line 𝓛 mem run)
       → Walks 𝓛 above.ended stayed (WpFn 𝓤 H C Λ code.function) (above.clauses 𝓛 mem run)
-  above-walks C Λ fm Known-start known-stand known-line = walked 𝓛 above.ended stayed (above.clauses 𝓛 mem run) (WpFn 𝓤 H C Λ code.function) (λ κs. (shr_slice_vals, (bool_vals, (mut_slice_vals, tt)))) (λ κs. (shr_slice_Tells (named 0) κs.0 u8, (bool_Tells, (mut_slice_Tells (named 1) κs.1.0 u32, tt))))
-      (λ κs qs bounds a g are. needs 𝓤 ((a.1.1.0.now ≡ replicate (length a.1.1.0.now) 0) × (pathAt ≤ length a.1.1.0.now)) _ (λ pre.
+  above-walks C Λ fm Known-start known-stand known-line = walked 𝓛 above.ended stayed (above.clauses 𝓛 mem run) (WpFn 𝓤 H C Λ code.function) (λ κs. (shr_slice_vals, (bool_vals, (mut_slice_vals, tt)))) (λ κs. (shr_slice_tells (named 0) κs.0 u8, (bool_tells, (mut_slice_tells (named 1) κs.1.0 u32, tt))))
+      (λ κs qs bounds a g are. needs 𝓤 ((a.1.1.0.now ≡ replicate (length a.1.1.0.now) 0) × (path_at ≤ length a.1.1.0.now)) _ (λ pre.
       walk 𝓛 mem run κs.0 κs.1.0 qs.0 qs.1.0 a.0 a.1.0 a.1.1.0.ref_ptr.0 a.1.1.0.ref_ptr.1 a.1.1.0.ghost_name a.1.1.0.now pre.0 pre.1 C Λ fm Known-start known-stand known-line are.1.1.0.0.1 are.0))
 
 above-meets : {M : Type 1} {𝓤 : Ura M} (𝓛 : Logic 𝓤) (mem : Memory → SProp 𝓤) (run : Routine → Fun 𝓤) (𝓣 : Tables 𝓤 𝓛.H)
     → Triple 𝓤 (𝓣.C #nothing) (Start 𝓛 mem run) → Triple 𝓤 (𝓣.C #stand) (Stand 𝓛 mem run) → Triple 𝓤 (𝓣.C #line) (Line 𝓛 mem run)
     → Meets 𝓛 above.signature (WpFn 𝓤 𝓛.H 𝓣.C 𝓣.Λ code.function) (above.spec 𝓛 mem run)
-above-meets {𝓤 = 𝓤} 𝓛 mem run 𝓣 Known-start known-stand known-line = walk_Meets 𝓛 above.ended stayed (Goes-none_slice 𝓛 2 (0 ∷ []) tt (plain (λ _. u8)) yes, (Goes-none 𝓛 2 (λ _. bool) yes (λ κs x f. refl), (Goes-slice 𝓛 2 1 tt (plain (λ _. u32)), tt))) (above.clauses 𝓛 mem run) (WpFn 𝓤 𝓛.H 𝓣.C 𝓣.Λ code.function) (WpFn-mono 𝓤 𝓛.H 𝓛.laws 𝓣 code.function)
+above-meets {𝓤 = 𝓤} 𝓛 mem run 𝓣 Known-start known-stand known-line = walk_meets 𝓛 above.ended stayed (Goes-none_slice 𝓛 2 (0 ∷ []) tt (plain (λ _. u8)) yes, (Goes-none 𝓛 2 (λ _. bool) yes (λ κs x f. refl), (Goes-slice 𝓛 2 1 tt (plain (λ _. u32)), tt))) (above.clauses 𝓛 mem run) (WpFn 𝓤 𝓛.H 𝓣.C 𝓣.Λ code.function) (WpFn-mono 𝓤 𝓛.H 𝓛.laws 𝓣 code.function)
     (above-walks 𝓛 mem run 𝓣.C 𝓣.Λ (fm_of 𝓤 𝓛.H 𝓛.laws 𝓣) Known-start known-stand known-line)
 
 pub all-lines-spec : {M : Type 1} → stated.statement M

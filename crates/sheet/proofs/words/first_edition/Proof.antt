@@ -1,89 +1,89 @@
 -- Each number is that of its word: antt computes and compares them. Assumes nothing.
 use borrow.Author.Tests.{ne_eqb}
-use Rattle.specification.specs.Words.{commonWords, olderDivision, own_words, words}
-use Rattle.sheet.specs.Codes.{tokenOf}
-use Rattle.sheet.specs.Packed.{packed, codeBy}
+use Rattle.specification.specs.Words.{common_words, older_division, own_words, words}
+use Rattle.sheet.specs.Codes.{token_of}
+use Rattle.sheet.specs.Packed.{packed, code_by}
 use Rattle.sheet.proofs.words.first_edition.Statement.{statement}
 use Rattle.sheet.proofs.words.first_edition.Tie as tie
 
 returns : tie.Need-returns
-unfolding codeBy commonWords olderDivision own_words words packed tokenOf
+unfolding code_by common_words older_division own_words words packed token_of
 returns c = rw c.match.keys1
 
 returns-2 : tie.Need-returns-2
-unfolding codeBy commonWords olderDivision own_words words packed tokenOf
+unfolding code_by common_words older_division own_words words packed token_of
 returns-2 c = rw c.match.keys2
 
 returns-3 : tie.Need-returns-3
-unfolding codeBy commonWords olderDivision own_words words packed tokenOf
+unfolding code_by common_words older_division own_words words packed token_of
 returns-3 c = rw c.match.keys3
 
 returns-4 : tie.Need-returns-4
-unfolding codeBy commonWords olderDivision own_words words packed tokenOf
+unfolding code_by common_words older_division own_words words packed token_of
 returns-4 c = rw c.match.keys4
 
 returns-5 : tie.Need-returns-5
-unfolding codeBy commonWords olderDivision own_words words packed tokenOf
+unfolding code_by common_words older_division own_words words packed token_of
 returns-5 c = rw c.match.keys5
 
 returns-6 : tie.Need-returns-6
-unfolding codeBy commonWords olderDivision own_words words packed tokenOf
+unfolding code_by common_words older_division own_words words packed token_of
 returns-6 c = rw c.match.keys6
 
 returns-7 : tie.Need-returns-7
-unfolding codeBy commonWords olderDivision own_words words packed tokenOf
+unfolding code_by common_words older_division own_words words packed token_of
 returns-7 c = rw c.match.keys7
 
 returns-8 : tie.Need-returns-8
-unfolding codeBy commonWords olderDivision own_words words packed tokenOf
+unfolding code_by common_words older_division own_words words packed token_of
 returns-8 c = rw c.match.keys8
 
 returns-9 : tie.Need-returns-9
-unfolding codeBy commonWords olderDivision own_words words packed tokenOf
+unfolding code_by common_words older_division own_words words packed token_of
 returns-9 c = rw c.match.keys9
 
 returns-10 : tie.Need-returns-10
-unfolding codeBy commonWords olderDivision own_words words packed tokenOf
+unfolding code_by common_words older_division own_words words packed token_of
 returns-10 c = rw c.match.keys10
 
 returns-11 : tie.Need-returns-11
-unfolding codeBy commonWords olderDivision own_words words packed tokenOf
+unfolding code_by common_words older_division own_words words packed token_of
 returns-11 c = rw c.match.keys11
 
 returns-12 : tie.Need-returns-12
-unfolding codeBy commonWords olderDivision own_words words packed tokenOf
+unfolding code_by common_words older_division own_words words packed token_of
 returns-12 c = rw c.match.keys12
 
 returns-13 : tie.Need-returns-13
-unfolding codeBy commonWords olderDivision own_words words packed tokenOf
+unfolding code_by common_words older_division own_words words packed token_of
 returns-13 c = rw c.match.keys13
 
 returns-14 : tie.Need-returns-14
-unfolding codeBy commonWords olderDivision own_words words packed tokenOf
+unfolding code_by common_words older_division own_words words packed token_of
 returns-14 c = rw c.match.keys14
 
 returns-15 : tie.Need-returns-15
-unfolding codeBy commonWords olderDivision own_words words packed tokenOf
+unfolding code_by common_words older_division own_words words packed token_of
 returns-15 c = rw c.match.keys15
 
 returns-16 : tie.Need-returns-16
-unfolding codeBy commonWords olderDivision own_words words packed tokenOf
+unfolding code_by common_words older_division own_words words packed token_of
 returns-16 c = rw c.match.keys16
 
 returns-17 : tie.Need-returns-17
-unfolding codeBy commonWords olderDivision own_words words packed tokenOf
+unfolding code_by common_words older_division own_words words packed token_of
 returns-17 c = rw c.match.keys17
 
 returns-18 : tie.Need-returns-18
-unfolding codeBy commonWords olderDivision own_words words packed tokenOf
+unfolding code_by common_words older_division own_words words packed token_of
 returns-18 c = rw c.match.keys18
 
 returns-19 : tie.Need-returns-19
-unfolding codeBy commonWords olderDivision own_words words packed tokenOf
+unfolding code_by common_words older_division own_words words packed token_of
 returns-19 c = rw c.match.keys19
 
 returns-20 : tie.Need-returns-20
-unfolding codeBy commonWords olderDivision own_words words packed tokenOf
+unfolding code_by common_words older_division own_words words packed token_of
 returns-20 c =
     let r = c.match.rest in
     simp (

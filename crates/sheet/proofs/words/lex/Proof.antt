@@ -1,7 +1,7 @@
 -- By the first byte: a constant, else a word of the set, else a name. Assumes nothing.
 use native.Mathlib.Omega.{arith}
 use mathlib.Core.Path.{◌∙◌, sym, ap}
-use Rattle.sheet.specs.Codes.{tokenOf}
+use Rattle.sheet.specs.Codes.{token_of}
 use Rattle.sheet.proofs.Lexed.{lex-none, lex-constant, lex-word, lex-name}
 use borrow.Author.Rules.{rules}
 use Rattle.sheet.proofs.words.lex.Statement.{statement}
@@ -23,7 +23,7 @@ returns-2 : tie.Need-returns-2
 returns-2 c =
     let mid = c.before.before in
     let start = mid.before.before.before.before in
-    c.constant.ensures ∙ ap tokenOf (sym (lex-constant start.args.edition start.args.t.now (omega arith) (sym mid.numeric.ensures ∙ c.before.if2.true)))
+    c.constant.ensures ∙ ap token_of (sym (lex-constant start.args.edition start.args.t.now (omega arith) (sym mid.numeric.ensures ∙ c.before.if2.true)))
 
 word-code-requires : tie.Need-word-code-requires
 word-code-requires c κs = search rules

@@ -3,8 +3,8 @@ use native.Mathlib.Omega.{arith}
 use mathlib.Core.Path.{◌∙◌, sym, ap}
 use borrow.Author.Tests.{not-true, not-false}
 use Rattle.specification.specs.Number.{natural}
-use Rattle.sheet.specs.Codes.{tokenOf}
-use Rattle.sheet.proofs.Lexed.{number-none, number-other, number-numeral, numeralToken, numeral-token}
+use Rattle.sheet.specs.Codes.{token_of}
+use Rattle.sheet.proofs.Lexed.{number-none, number-other, number-numeral, numeral_token, numeral-token}
 use borrow.Author.Rules.{rules}
 use Rattle.sheet.proofs.words.number.Statement.{statement}
 use Rattle.sheet.proofs.words.number.Tie as tie
@@ -37,16 +37,16 @@ returns-3 : tie.Need-returns-3
 returns-3 c =
     let mid = c.before.before.before.before.before in
     let t = mid.before.before.before.args.t.now in
-    ap numeralToken (sym c.enum_told.given.1 ∙ c.before.before.natural.ensures) ∙ numeral-token (natural t) ∙
-    ap tokenOf (sym (number-numeral t (omega arith) (sym c.before.before.before.before.numeric.ensures ∙ not-false _ c.before.before.before.if2.false)))
+    ap numeral_token (sym c.enum_told.given.1 ∙ c.before.before.natural.ensures) ∙ numeral-token (natural t) ∙
+    ap token_of (sym (number-numeral t (omega arith) (sym c.before.before.before.before.numeric.ensures ∙ not-false _ c.before.before.before.if2.false)))
 
 returns-4 : tie.Need-returns-4
 returns-4 c =
     let mid = c.before.before.before.before.before in
     let t = mid.before.before.before.before.before.args.t.now in
     rw c.index-IsWord.ensures
-    (ap numeralToken (sym c.before.before.n.given.1 ∙ c.before.before.before.before.natural.ensures) ∙ numeral-token (natural t) ∙
-    ap tokenOf (sym (number-numeral t (omega arith) (sym mid.before.numeric.ensures ∙ not-false _ c.before.before.before.before.before.if2.false))))
+    (ap numeral_token (sym c.before.before.n.given.1 ∙ c.before.before.before.before.natural.ensures) ∙ numeral-token (natural t) ∙
+    ap token_of (sym (number-numeral t (omega arith) (sym mid.before.numeric.ensures ∙ not-false _ c.before.before.before.before.before.if2.false))))
 
 pub number-spec : {M : Type 1} → statement M
 number-spec =

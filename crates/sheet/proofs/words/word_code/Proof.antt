@@ -1,18 +1,18 @@
 -- By the number of the bytes, in the set of the edition. Assumes nothing.
 use mathlib.Core.Path.{◌≡◌, ◌∙◌, sym, ap}
 use Rattle.specification.specs.Words.{words}
-use Rattle.sheet.specs.Packed.{codeBy, code_in}
+use Rattle.sheet.specs.Packed.{code_by, code_in}
 use Rattle.sheet.proofs.Packed.{code-long, code-packed, first-words, second-words, third-words}
 use borrow.Author.Rules.{rules}
 use Rattle.sheet.proofs.words.word_code.Statement.{statement}
 use Rattle.sheet.proofs.words.word_code.Tie as tie
 
 packed-code : (c : tie.After-pack) →
-    codeBy c.pack.result (words c.before.before.before.args.edition) ≡
+    code_by c.pack.result (words c.before.before.before.args.edition) ≡
     code_in c.before.before.before.args.t.now (words c.before.before.before.args.edition)
 packed-code c =
     let s = c.before.before.before in
-    ap (λ k. codeBy k (words s.args.edition)) c.pack.ensures ∙
+    ap (λ k. code_by k (words s.args.edition)) c.pack.ensures ∙
     sym (code-packed s.args.edition s.args.t.now (λ j. (c.before.before.shared-slice-known.given j).fits))
 
 returns : tie.Need-returns

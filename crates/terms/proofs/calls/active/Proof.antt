@@ -1,7 +1,7 @@
 -- `calls::active` meets its contract. The invariant: n calls are passed. The measure: how many more there can be. Assumes nothing.
 use Prim.Native.Nat.{◌-◌}
 use native.Mathlib.Omega.{arith}
-use Rattle.tables.specs.Layout.{maxProcs}
+use Rattle.tables.specs.Layout.{max_procs}
 use Rattle.terms.proofs.Laws.Chain.{Passing, passing-start, passing-asks, passing-few, passing-next, passing-end}
 use Rattle.terms.proofs.calls.active.Statement.{statement}
 use Rattle.terms.proofs.calls.active.Tie as tie
@@ -10,7 +10,7 @@ abbrev invariant-loop : tie.invariant-loop
 invariant-loop w p q₀ n₀ q n = Passing w p n q
 
 abbrev decreases-loop : tie.decreases-loop
-decreases-loop w p q₀ n₀ q n = maxProcs - n
+decreases-loop w p q₀ n₀ q n = max_procs - n
 
 loop-holds : tie.Need-loop-init invariant-loop decreases-loop
 loop-holds c = passing-start _ _

@@ -35,7 +35,7 @@ returns-3 : tie.Need-returns-3
 returns-3 c =
     let end = c.before.before in
     let first = end.before in
-    element-outside first.first_Cell.ensures end.first-cell2.ensures c.error2.ensures first.before.before.if1.false
+    element-outside first.first_cell.ensures end.first-cell2.ensures c.error2.ensures first.before.before.if1.false
     first.before.if2.false c.before.if3.true
 
 add-look : tie.Need-overflow-add-look
@@ -54,7 +54,7 @@ returns-4 : tie.Need-returns-4
 returns-4 c =
     let end = c.before.before in
     let first = end.before in
-    element-inside first.first_Cell.ensures end.first-cell2.ensures first.before.before.if1.false first.before.if2.false
+    element-inside first.first_cell.ensures end.first-cell2.ensures first.before.before.if1.false first.before.if2.false
     c.before.if3.false c.look.ensures
 
 pub element-spec : {M : Type 1} → statement M

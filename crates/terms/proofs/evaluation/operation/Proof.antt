@@ -3,8 +3,8 @@ use Prim.Native.Nat.{◌+◌, ◌-◌}
 use native.Mathlib.Omega.{arith}
 use mathlib.Core.Path.{◌≡◌}
 use lib.ListN.{get_or}
-use Rattle.terms.specs.Results.{valueTag}
-use Rattle.terms.specs.Machine.{resultWords}
+use Rattle.terms.specs.Results.{value_tag}
+use Rattle.terms.specs.Machine.{result_words}
 use Rattle.terms.proofs.Laws.Results.{operated-left, operated-right, operated-both}
 use Rattle.terms.proofs.Laws.Stack.{operation-made}
 use borrow.Author.Rules.{rules}
@@ -22,7 +22,7 @@ returns c =
     let test = c.before in
     let a = test.before.before.before.before.args in
     let w = a.w.now in
-    let at = a.s.at - resultWords in
+    let at = a.s.at - result_words in
     operation-made w a.code a.s _
     (operated-left a.code a.s.tag a.s.value (get_or w at 0) (get_or w (at + 1) 0) at (λ z. omega (arith, test.if1.true))
     c.raised.ensures)
@@ -51,8 +51,8 @@ returns-2 c =
     let left = right.before.before.before in
     let a = left.before.before.before.before.args in
     let w = a.w.now in
-    let at = a.s.at - resultWords in
-    let valued : a.s.tag ≡ valueTag = omega (arith, left.if1.false) in
+    let at = a.s.at - result_words in
+    let valued : a.s.tag ≡ value_tag = omega (arith, left.if1.false) in
     operation-made w a.code a.s _
     (operated-right a.code a.s.tag a.s.value (get_or w at 0) (get_or w (at + 1) 0) at valued right.if2.true
     c.raised2.ensures)
@@ -69,8 +69,8 @@ returns-3 c =
     let left = right.before.before.before in
     let a = left.before.before.before.before.args in
     let w = a.w.now in
-    let at = a.s.at - resultWords in
-    let valued : a.s.tag ≡ valueTag = omega (arith, left.if1.false) in
+    let at = a.s.at - result_words in
+    let valued : a.s.tag ≡ value_tag = omega (arith, left.if1.false) in
     operation-made w a.code a.s _
     (operated-both a.code a.s.tag a.s.value (get_or w at 0) (get_or w (at + 1) 0) at valued right.if2.false
     c.before.calculated.ensures c.found.ensures)

@@ -1,7 +1,7 @@
 -- `evaluation::step` meets its contract: each code goes to the function of its kind. Assumes nothing.
 use Prim.Native.Nat.{◌+◌, ◌<◌}
 use native.Mathlib.Omega.{arith}
-use Rattle.tables.specs.Layout.{cellsAt, localsAt, duesAt, cellSlot, localSlot}
+use Rattle.tables.specs.Layout.{cells_at, locals_at, dues_at, cell_slot, local_slot}
 use Rattle.terms.specs.Parts.{Room}
 use Rattle.terms.proofs.Laws.Step.{operation-asked, operation-stepped, array-asked, array-stepped, place-asked, place-stepped}
 use Rattle.terms.proofs.Laws.Step.{parameter-asked, parameter-stepped, constant-asked, constant-stepped}
@@ -13,19 +13,19 @@ use Rattle.terms.proofs.evaluation.step.Tie as tie
 at_local : (c : tie.After-operand) →
     let test = c.before.before.before in
     let s = test.before.before.before.before in
-    (localSlot c.operand.result + 1 < duesAt) × Room s.args.w.now duesAt s.args.s.at
+    (local_slot c.operand.result + 1 < dues_at) × Room s.args.w.now dues_at s.args.s.at
 at_local c =
     let test = c.before.before.before in
     let s = test.before.before.before.before in
     let a = s.args in
     let k = test.if1.true in
-    place-asked a.w.now a.s a.i a.env test.before.code.ensures c.operand.ensures localsAt (omega (arith, k)) s.requires
+    place-asked a.w.now a.s a.i a.env test.before.code.ensures c.operand.ensures locals_at (omega (arith, k)) s.requires
 
 at-scalar : (c : tie.After-place-arg) →
     let read = c.before.before.before in
     let code = read.before.before.before.before in
     let s = code.before.before.before in
-    (cellSlot read.operand2.result + 1 < duesAt) × Room s.args.w.now duesAt s.args.s.at
+    (cell_slot read.operand2.result + 1 < dues_at) × Room s.args.w.now dues_at s.args.s.at
 at-scalar c =
     let test = c.before in
     let read = test.before.before in
@@ -33,7 +33,7 @@ at-scalar c =
     let s = code.before.before.before in
     let a = s.args in
     let k = test.if4.true in
-    place-asked a.w.now a.s a.i a.env code.code.ensures read.operand2.ensures cellsAt (omega (arith, k)) s.requires
+    place-asked a.w.now a.s a.i a.env code.code.ensures read.operand2.ensures cells_at (omega (arith, k)) s.requires
 
 code-requires : tie.Need-code-requires
 code-requires c κs = search rules
@@ -60,7 +60,7 @@ returns c =
     let test = read.before.before.before in
     let a = test.before.before.before.before.args in
     let k = test.if1.true in
-    place-stepped a.w.now a.s a.i a.env test.before.code.ensures read.operand.ensures localsAt (omega (arith, k))
+    place-stepped a.w.now a.s a.i a.env test.before.code.ensures read.operand.ensures locals_at (omega (arith, k))
     done.place.ensures
 
 operation-requires : tie.Need-operation-requires
@@ -124,7 +124,7 @@ returns-4 c =
     let code = read.before.before.before.before in
     let a = code.before.before.before.args in
     let k = test.if4.true in
-    place-stepped a.w.now a.s a.i a.env code.code.ensures read.operand2.ensures cellsAt (omega (arith, k))
+    place-stepped a.w.now a.s a.i a.env code.code.ensures read.operand2.ensures cells_at (omega (arith, k))
     done.place2.ensures
 
 constant-requires : tie.Need-constant-requires

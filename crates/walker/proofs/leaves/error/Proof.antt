@@ -2,8 +2,8 @@
 use borrow.Author.Rules.{rules}
 use native.Mathlib.Omega.{arith}
 use mathlib.Core.Path.{◌∙◌, ap}
-use Rattle.search.specs.Registers.{leafGo}
-use Rattle.search.specs.States.{upMode}
+use Rattle.search.specs.Registers.{leaf_go}
+use Rattle.search.specs.States.{up_mode}
 use Rattle.search.proofs.Simple.{depth_small}
 use Rattle.search.proofs.LeafSteps.{inner-erred, errs}
 use Rattle.walker.proofs.Laws.Leaves.{visit-fits}
@@ -27,7 +27,7 @@ returns-2 c =
     let at-visited = c.before in
     let at-if1 = at-visited.before in
     let start = at-if1.before.before.before in
-    inner-erred start.requires at-if1.if1.false (c.leaf.ensures ∙ ap (leafGo start.args.g upMode 1) at-visited.visited.ensures)
+    inner-erred start.requires at-if1.if1.false (c.leaf.ensures ∙ ap (leaf_go start.args.g up_mode 1) at-visited.visited.ensures)
 
 pub error-spec : {M : Type 1} → statement M
 error-spec = tie.close (tie.spec out-requires returns visited-requires leaf-requires returns-2)

@@ -7,8 +7,8 @@ use lib.ListN.{length}
 use Rattle.specification.specs.Sheet.{Sheet}
 use Rattle.sheet.specs.Tables.{Words}
 use Rattle.walker.specs.Walked.{Prepared}
-use Rattle.walker.proofs.Laws.Started.{worldOf, world-set, start_small, start-going, Reached, reached-first}
-use Rattle.walker.proofs.Laws.Started.{reached-due, reached-onwards, reached-next, leavesLeft, leaves-fall, finished}
+use Rattle.walker.proofs.Laws.Started.{world_of, world-set, start_small, start-going, Reached, reached-first}
+use Rattle.walker.proofs.Laws.Started.{reached-due, reached-onwards, reached-next, leaves_left, leaves-fall, finished}
 use Rattle.walker.proofs.machine.walk.Statement.{statement}
 use Rattle.walker.proofs.machine.walk.Tie as tie
 
@@ -18,7 +18,7 @@ invariant-loop w₀ out₀ task s₀ w out s =
     × ((v : Words) (x : Sheet) → Prepared v task x → Reached v out₀ task x w₀ out₀ s₀ → Reached v out₀ task x w out s)
 
 abbrev decreases-loop : tie.decreases-loop
-decreases-loop w₀ out₀ task s₀ w out s = leavesLeft task.setting.budget s
+decreases-loop w₀ out₀ task s₀ w out s = leaves_left task.setting.budget s
 
 mul-start : tie.Need-overflow-mul-start invariant-loop decreases-loop
 mul-start c = let a = c.before.before.before.requires in omega (arith, start_small a.sheet a.prepared.ready)
@@ -36,7 +36,7 @@ advance-requires c κs =
     let a = start.requires in
     let h = start.args.out.now in
     record {
-      c = worldOf start.args.w.now h start.args.task a.sheet;
+      c = world_of start.args.w.now h start.args.task a.sheet;
       b = [];
       set = world-set h a.sheet a.prepared;
       going = start-going h a.sheet a.prepared (omega (arith, start.well-formed.1.1.0)) (omega arith) at-start.start.ensures c.before.limited.ensures;
@@ -81,8 +81,8 @@ onward-requires c κs =
 
 loop-less : tie.Need-loop-smaller invariant-loop decreases-loop
 loop-less c =
-    let at_Onward = c.before.before in
-    let at_block = at_Onward.before.before.before.before in
+    let at_onward = c.before.before in
+    let at_block = at_onward.before.before.before.before in
     let at-if1 = at_block.before.before.before in
     let at-loop = at-if1.before.before in
     let at-state = at-loop.before in
@@ -94,12 +94,12 @@ loop-less c =
     let h = start.args.out.now in
     let first = reached-first h a.sheet a.prepared (omega (arith, start.well-formed.1.1.0)) (omega arith) at-start.start.ensures at-limited.limited.ensures
     at-advance.advance.ensures at-state.state.ensures in
-    leaves-fall h a.sheet (at-loop.loop.invariant.2 _ a.sheet a.prepared first) at-if1.if1.true at_block.block.ensures at_Onward.onward.ensures
+    leaves-fall h a.sheet (at-loop.loop.invariant.2 _ a.sheet a.prepared first) at-if1.if1.true at_block.block.ensures at_onward.onward.ensures
 
 loop-again : tie.Need-loop-preserved invariant-loop decreases-loop
 loop-again c =
-    let at_Onward = c.before.before in
-    let at_block = at_Onward.before.before.before.before in
+    let at_onward = c.before.before in
+    let at_block = at_onward.before.before.before.before in
     let at-if1 = at_block.before.before.before in
     let at-loop = at-if1.before.before in
     let at-state = at-loop.before in
@@ -110,9 +110,9 @@ loop-again c =
     let a = start.requires in
     let h = start.args.out.now in
     let v = at-loop.loop.invariant in (
-      at_Onward.onward.auto.0 ∙ v.0,
+      at_onward.onward.auto.0 ∙ v.0,
       at_block.block.ensures.size ∙ v.1,
-      (λ y x p r. reached-next h x p (v.2 y x p r) at-if1.if1.true at_block.block.ensures at_Onward.onward.ensures),
+      (λ y x p r. reached-next h x p (v.2 y x p r) at-if1.if1.true at_block.block.ensures at_onward.onward.ensures),
     )
 
 same_length : tie.Need-same-length invariant-loop decreases-loop

@@ -3,7 +3,7 @@ use borrow.Author.Rules.{rules}
 use native.Mathlib.Omega.{arith}
 use Prim.Native.Nat.{◌+◌}
 use mathlib.Core.Path.{sym, ◌∙◌, ap}
-use Rattle.tables.specs.Layout.{localSlot, last_at}
+use Rattle.tables.specs.Layout.{local_slot, last_at}
 use Rattle.search.specs.Records.{at}
 use Rattle.search.proofs.Simple.{top-low, top-room, depth_small}
 use Rattle.search.proofs.Binders.{again-near, again-none, again-some}
@@ -80,7 +80,7 @@ returns c =
     let at-slot-of = at-word2.before.before in
     let at-word = at-slot-of.before in
     let start = at-word.before.before.before.before in
-    let es = at-slot-of.slot_of.ensures ∙ ap localSlot at-word.word.ensures in
+    let es = at-slot-of.slot_of.ensures ∙ ap local_slot at-word.word.ensures in
     let same = sym at-word2.word2.ensures ∙ at-if1.if1.true ∙ at_last.last.ensures ∙ ap (last_at start.args.w.now) at-word.word.ensures in
     again-none start.requires es same at_next.next.ensures c.down.ensures
 
@@ -122,7 +122,7 @@ add-set-slot c =
     let i = x.at.ins in
     let order = again-order x in
     let last-is = at_last.last.ensures ∙ ap (last_at start.args.w.now) at-word.word.ensures in
-    let slot_is = at-slot-of.slot_of.ensures ∙ ap localSlot at-word.word.ensures in
+    let slot_is = at-slot-of.slot_of.ensures ∙ ap local_slot at-word.word.ensures in
     let value-is = at-word2.word2.ensures ∙ ap (λ s. at start.args.w.now (s + 1)) slot_is in
     omega (arith, at-if1.if1.false, last-is, value-is)
 
@@ -163,7 +163,7 @@ returns-2 c =
     let at-slot-of = at-word2.before.before in
     let at-word = at-slot-of.before in
     let start = at-word.before.before.before.before in
-    let es = at-slot-of.slot_of.ensures ∙ ap localSlot at-word.word.ensures in
+    let es = at-slot-of.slot_of.ensures ∙ ap local_slot at-word.word.ensures in
     let last-is = at_last.last.ensures ∙ ap (last_at start.args.w.now) at-word.word.ensures in
     again-some start.requires es at-word2.word2.ensures (λ z. at-if1.if1.false (z ∙ sym last-is))
     at-push3.push3.ensures at-set-slot.set-slot.ensures at-next2.next2.ensures c.down2.ensures

@@ -2,7 +2,7 @@
 use borrow.Author.Rules.{rules}
 use native.Mathlib.Omega.{arith}
 use mathlib.Core.Path.{◌∙◌, ap}
-use Rattle.tables.specs.Layout.{localSlot}
+use Rattle.tables.specs.Layout.{local_slot}
 use Rattle.search.proofs.Simple.{top-low, top-room, depth_small}
 use Rattle.search.proofs.Binders.{ex-local, ex-near, ex-down}
 use Rattle.walker.proofs.Laws.Slots.{flag_small}
@@ -24,7 +24,7 @@ keep-requires c κs =
     let low = top-low i in
     let room = top-room i in
     let small = ex-local x in
-    let slot_is = c.before.slot_of.ensures ∙ ap localSlot c.before.before.local.ensures in
+    let slot_is = c.before.slot_of.ensures ∙ ap local_slot c.before.before.local.ensures in
     (omega arith, omega (arith, slot_is), rw slot_is (flag_small i _ small), omega arith)
 
 cast-set-slot : tie.Need-overflow-cast-set-slot
@@ -77,7 +77,7 @@ returns c =
     let at-slot-of = at-keep.before.before in
     let at_local = at-slot-of.before in
     let start = at_local.before.before.before in
-    ex-down start.requires (at-slot-of.slot_of.ensures ∙ ap localSlot at_local.local.ensures) at-keep.keep.ensures at-set-slot.set-slot.ensures c.down.ensures
+    ex-down start.requires (at-slot-of.slot_of.ensures ∙ ap local_slot at_local.local.ensures) at-keep.keep.ensures at-set-slot.set-slot.ensures c.down.ensures
 
 pub enter-ex-spec : {M : Type 1} → statement M
 enter-ex-spec =

@@ -2,7 +2,7 @@
 use borrow.Author.Rules.{rules}
 use native.Mathlib.Omega.{arith}
 use mathlib.Core.Path.{◌∙◌, ap}
-use Rattle.tables.specs.Layout.{localSlot}
+use Rattle.tables.specs.Layout.{local_slot}
 use Rattle.search.proofs.Simple.{top-low, top-room, depth_small}
 use Rattle.search.proofs.Ranges.{some_near, some-open}
 use Rattle.walker.proofs.quantifiers.open.Statement.{statement}
@@ -92,7 +92,7 @@ returns c =
     let start = at_local.before.before.before in
     let words = rw (at-word.word.ensures, at-word2.word2.ensures) at at-push5.push5.ensures in
     let regs = rw at_body.body.ensures at c.down.ensures in
-    some-open start.requires.0 start.requires.1 (at-slot-of.slot_of.ensures ∙ ap localSlot at_local.local.ensures) words at-set-slot.set-slot.ensures regs
+    some-open start.requires.0 start.requires.1 (at-slot-of.slot_of.ensures ∙ ap local_slot at_local.local.ensures) words at-set-slot.set-slot.ensures regs
 
 pub open_spec : {M : Type 1} → statement M
 open_spec =

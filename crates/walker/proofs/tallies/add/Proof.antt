@@ -26,9 +26,9 @@ use sound.WpLaws.{WpFn-mono}
 use denote.RattleType.{owns}
 use denote.Laws.{Is, shows}
 use denote.Memory.{cell_at, mem, pointee}
-use denote.Plain.{uint_vals, uint_Tells, uint_Makes}
+use denote.Plain.{uint_vals, uint_tells, uint_makes}
 use denote.Builtin.{u32}
-use denote.Ref.{MutBor, MutRef, mut_vals, mut_Tells}
+use denote.Ref.{MutBor, MutRef, mut_vals, mut_tells}
 use denote.Signature.{plain}
 use denote.Steps.{opens, closes, owned, peeks, nothing}
 use denote.Struct.Laws as LL
@@ -36,7 +36,7 @@ use denote.Struct.Steps.{spelt}
 use denote.Triple.Entry.{on_entry}
 use denote.Triple.Spec.{Meets, triple_of}
 use denote.Triple.Table.{entered}
-use denote.Triple.Walked.{says, needs, Stays, stay_ref, stay_none, walk_of, Goes-none, Goes-ref, Walks, ends_at, walked, walk_Meets}
+use denote.Triple.Walked.{says, needs, Stays, stay_ref, stay_none, walk_of, Goes-none, Goes-ref, Walks, ends_at, walked, walk_meets}
 use denote.Exit.{yes}
 use borrow.Author.Tests.{ne_eqb}
 use Rattle.specification.specs.declared.Tallies.{Tallies}
@@ -109,7 +109,7 @@ module _ {M : Type 1} {𝓤 : Ura M} (𝓛 : Logic 𝓤) (at_mem : Memory → SP
   exits z e =
       qed 𝓛 (‵ (fobs γ ((T.the_row).coded.code z)) ∷ ‵ (fbor κ (Body (mem T.the_row) b o γ)) ∷ ‵ (flft κ q) ∷ []) ∵
       suffices ! _ (ends_at 𝓛 add.ended stayed (add.clauses 𝓛 at_mem run) (((κ, tt), (q, tt), tt, x, at), tt) vunit tt (z, (tt, tt)) (tt, (tt, tt))) $ says ! e $ nothing ! $ move ! (3 ∷ 0 ∷ []) $ join ! $
-      frame ! $ feq_i ! (List Val) (vptr b o ∷ []) (vptr b o ∷ []) refl $ fjoin3 ! $ nothing ! $ owned ! u32 (Is u32) (uint_Makes 𝓛 w32) n _ (refl, n-fits) $ fjoin ! $ move ! (1 ∷ 0 ∷ []) $ fjoin ! $
+      frame ! $ feq_i ! (List Val) (vptr b o ∷ []) (vptr b o ∷ []) refl $ fjoin3 ! $ nothing ! $ owned ! u32 (Is u32) (uint_makes 𝓛 w32) n _ (refl, n-fits) $ fjoin ! $ move ! (1 ∷ 0 ∷ []) $ fjoin ! $
       feq_i ! (List Val) (vunit ∷ []) (vunit ∷ []) refl $ move ! (1 ∷ 0 ∷ []) $ done !
 
   module _ (C : Calls 𝓤 H) (Λ : Loops 𝓤 H) where
@@ -180,12 +180,12 @@ module _ {M : Type 1} {𝓤 : Ura M} (𝓛 : Logic 𝓤) (mem : Memory → SProp
   open 𝓛 use {H}
 
   add-walks : (C : Calls 𝓤 H) (Λ : Loops 𝓤 H) → Walks 𝓛 add.ended stayed (WpFn 𝓤 H C Λ code.function) (add.clauses 𝓛 mem run)
-  add-walks C Λ = walked 𝓛 add.ended stayed (add.clauses 𝓛 mem run) (WpFn 𝓤 H C Λ code.function) (λ κs. (mut_vals, (uint_vals w32, tt))) (λ κs. (mut_Tells (named 0) κs.0 T.the_row, (uint_Tells w32, tt)))
+  add-walks C Λ = walked 𝓛 add.ended stayed (add.clauses 𝓛 mem run) (WpFn 𝓤 H C Λ code.function) (λ κs. (mut_vals, (uint_vals w32, tt))) (λ κs. (mut_tells (named 0) κs.0 T.the_row, (uint_tells w32, tt)))
       (λ κs qs bounds a _ are. needs 𝓤 _ _ (λ below. walk 𝓛 mem run κs.0 qs.0 a.0.ref_ptr.0 a.0.ref_ptr.1 a.0.ghost_name a.0.now a.1.0 are.1.0.1 below C Λ))
 
 add_meets : {M : Type 1} {𝓤 : Ura M} (𝓛 : Logic 𝓤) → (mem : Memory → SProp 𝓤) (run : Routine → Fun 𝓤) (𝓣 : Tables 𝓤 𝓛.H)
     → Meets 𝓛 add.signature (WpFn 𝓤 𝓛.H 𝓣.C 𝓣.Λ code.function) (add.spec 𝓛 mem run)
-add_meets {𝓤 = 𝓤} 𝓛 mem run 𝓣 = walk_Meets 𝓛 add.ended stayed (Goes-ref 𝓛 1 0 tt (plain (λ _. T.the_row)), (Goes-none 𝓛 1 (λ _. u32) yes (λ κs x f. refl), tt)) (add.clauses 𝓛 mem run) (WpFn 𝓤 𝓛.H 𝓣.C 𝓣.Λ code.function) (WpFn-mono 𝓤 𝓛.H 𝓛.laws 𝓣 code.function) (add-walks 𝓛 mem run 𝓣.C 𝓣.Λ)
+add_meets {𝓤 = 𝓤} 𝓛 mem run 𝓣 = walk_meets 𝓛 add.ended stayed (Goes-ref 𝓛 1 0 tt (plain (λ _. T.the_row)), (Goes-none 𝓛 1 (λ _. u32) yes (λ κs x f. refl), tt)) (add.clauses 𝓛 mem run) (WpFn 𝓤 𝓛.H 𝓣.C 𝓣.Λ code.function) (WpFn-mono 𝓤 𝓛.H 𝓛.laws 𝓣 code.function) (add-walks 𝓛 mem run 𝓣.C 𝓣.Λ)
 
 pub add_spec : {M : Type 1} → stated.statement M
 unfolding code.routine tables_of

@@ -24,7 +24,7 @@ use sound.WpLaws.{FmC, fm_of, WpFn-mono}
 use denote.RattleType.{owns}
 use denote.Laws.{Is, shows}
 use denote.Memory.{part_at, mem}
-use denote.Plain.{uint_vals, uint_Tells, uint_Makes}
+use denote.Plain.{uint_vals, uint_tells, uint_makes}
 use denote.Builtin.{u32, unit}
 use denote.Ref.{MutBor, MutRef}
 use denote.Lend.{lends_ref, ref_back}
@@ -36,7 +36,7 @@ use denote.Triple.Clauses.{ensured, lasts}
 use denote.Triple.Entry.{on_entry}
 use denote.Triple.Spec.{Meets, triple_of}
 use denote.Triple.Table.{entered, cited}
-use denote.Triple.Walked.{says, needs, Stays, stay_none, walk_of, Goes-none, Walks, ends_at, walked, walk_Meets}
+use denote.Triple.Walked.{says, needs, Stays, stay_none, walk_of, Goes-none, Walks, ends_at, walked, walk_meets}
 use denote.Exit.{yes}
 use borrow.Table.OneValue.{part_in, part_out}
 use Rattle.specification.specs.declared.Tallies.{Tallies}
@@ -78,7 +78,7 @@ module _ {M : Type 1} {𝓤 : Ura M} (𝓛 : Logic 𝓤) (at_mem : Memory → SP
   exits z v e =
       qed 𝓛 (‵ ((T.the_row).own_val z (v ∷ [])) ∷ []) ∵
       suffices ! _ (ends_at 𝓛 counted'.ended stayed (counted'.clauses 𝓛 at_mem run) ((tt, tt, tt, a, vals), tt) v z (tt, (tt, tt)) (tt, (tt, tt))) $ says ! e $
-      nothing ! $ owned ! u32 (Is u32) (uint_Makes 𝓛 w32) n _ (refl, n-fits) $ fjoin ! $ owned ! T.the_row (Is T.the_row) (LL.makes T.the_type T'.the_plain 𝓛) t _ g $ fjoin ! $ nothing ! $ done !
+      nothing ! $ owned ! u32 (Is u32) (uint_makes 𝓛 w32) n _ (refl, n-fits) $ fjoin ! $ owned ! T.the_row (Is T.the_row) (LL.makes T.the_type T'.the_plain 𝓛) t _ g $ fjoin ! $ nothing ! $ done !
 
   -- the local at block l, lent under the name δ
   abbrev lent : ℕ → GName → MutBor Tallies
@@ -91,7 +91,7 @@ module _ {M : Type 1} {𝓤 : Ura M} (𝓛 : Logic 𝓤) (at_mem : Memory → SP
   goes : (ν l : ℕ) (δ : GName) → ent 𝓤 (sep 𝓤 (A.lft (ν ∷ []) full_share) (sem 𝓛 ((MutRef (named 0) (ν ∷ []) T.the_row).own_val (lent l δ) (vptr l 0 ∷ [])))) ((Add 𝓛 at_mem run).pre (to-add ν l δ))
   goes ν l δ =
       qed 𝓛 (‵ (flft (ν ∷ []) full_share) ∷ ‵ ((MutRef (named 0) (ν ∷ []) T.the_row).own_val (lent l δ) (vptr l 0 ∷ [])) ∷ []) ∵ says ! below $ nothing ! $ move ! (1 ∷ 0 ∷ []) $ join ! $ frame ! $
-      nothing ! $ owned ! u32 (Is u32) (uint_Makes 𝓛 w32) n _ (refl, n-fits) $ fjoin ! $ move ! (1 ∷ 0 ∷ []) $ fjoin ! $ done !
+      nothing ! $ owned ! u32 (Is u32) (uint_makes 𝓛 w32) n _ (refl, n-fits) $ fjoin ! $ move ! (1 ∷ 0 ∷ []) $ fjoin ! $ done !
 
   module _ (C : Calls 𝓤 H) (Λ : Loops 𝓤 H) (fm : FmC 𝓤 H 𝓛.laws C) (known : Triple 𝓤 (C #walker·tallies·add) (Add 𝓛 at_mem run)) where
     walk : Holds (has_ty T'.mir (T'.lowered t)) × WT (T'.lowered t) → ent 𝓤 (on_entry 𝓛 counted'.signature tt tt a vals) (WpFn 𝓤 H C Λ code.function (T'.lowered t ∷ vint w32 n ∷ []) Post)
@@ -129,12 +129,12 @@ module _ {M : Type 1} {𝓤 : Ura M} (𝓛 : Logic 𝓤) (at_mem : Memory → SP
 
   counted-walks : (C : Calls 𝓤 H) (Λ : Loops 𝓤 H) → FmC 𝓤 H 𝓛.laws C → Triple 𝓤 (C #walker·tallies·add) (Add 𝓛 at_mem run) → Walks 𝓛 counted'.ended stayed (WpFn 𝓤 H C Λ code.function) (counted'.clauses 𝓛 at_mem run)
   counted-walks C Λ fm known = walked 𝓛 counted'.ended stayed (counted'.clauses 𝓛 at_mem run) (WpFn 𝓤 H C Λ code.function)
-      (λ κs. (LL.vals T.the_type T'.the_laws, (uint_vals w32, tt))) (λ κs. (LL.tells T.the_type T'.the_laws, (uint_Tells w32, tt)))
+      (λ κs. (LL.vals T.the_type T'.the_laws, (uint_vals w32, tt))) (λ κs. (LL.tells T.the_type T'.the_laws, (uint_tells w32, tt)))
       (λ κs qs bounds a _ are. needs 𝓤 _ _ (λ below. walk 𝓛 at_mem run a.0 a.1.0 are.0 are.1.0.1 below C Λ fm known ((LL.lawful T.the_type T'.the_laws 𝓛).typed a.0 _ are.0).0))
 
 counted-meets : {M : Type 1} {𝓤 : Ura M} (𝓛 : Logic 𝓤) (at_mem : Memory → SProp 𝓤) (run : Routine → Fun 𝓤) (𝓣 : Tables 𝓤 𝓛.H)
     → Triple 𝓤 (𝓣.C #walker·tallies·add) (Add 𝓛 at_mem run) → Meets 𝓛 counted'.signature (WpFn 𝓤 𝓛.H 𝓣.C 𝓣.Λ code.function) (counted'.spec 𝓛 at_mem run)
-counted-meets {𝓤 = 𝓤} 𝓛 at_mem run 𝓣 known = walk_Meets 𝓛 counted'.ended stayed (Goes-none 𝓛 0 (λ _. T.the_row) yes (λ κs x f. refl), (Goes-none 𝓛 0 (λ _. u32) yes (λ κs x f. refl), tt)) (counted'.clauses 𝓛 at_mem run)
+counted-meets {𝓤 = 𝓤} 𝓛 at_mem run 𝓣 known = walk_meets 𝓛 counted'.ended stayed (Goes-none 𝓛 0 (λ _. T.the_row) yes (λ κs x f. refl), (Goes-none 𝓛 0 (λ _. u32) yes (λ κs x f. refl), tt)) (counted'.clauses 𝓛 at_mem run)
     (WpFn 𝓤 𝓛.H 𝓣.C 𝓣.Λ code.function) (WpFn-mono 𝓤 𝓛.H 𝓛.laws 𝓣 code.function) (counted-walks 𝓛 at_mem run 𝓣.C 𝓣.Λ (fm_of 𝓤 𝓛.H 𝓛.laws 𝓣) known)
 
 pub counted_spec : {M : Type 1} → stated.statement M

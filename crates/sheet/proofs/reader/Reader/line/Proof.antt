@@ -22,11 +22,11 @@ use types.Run.{look, init, forget, stop, hop, fld, from, load, addr, of_opd, and
 use sound.WpLaws.{FmC, fm_of, WpFn-mono}
 use denote.RattleType.{RattleType, owns}
 use denote.Laws.{Is, shows}
-use denote.Plain.{uint_vals, uint_Tells, uint_Makes}
+use denote.Plain.{uint_vals, uint_tells, uint_makes}
 use denote.Builtin.{u8, u32}
 use denote.Ref.{Bor}
 use denote.Signature.{plain, named_lft}
-use denote.Slice.{slice_val, ShrSlice, MutSlice, Room, finally, mut_slice_vals, mut_slice_Tells}
+use denote.Slice.{slice_val, ShrSlice, MutSlice, Room, finally, mut_slice_vals, mut_slice_tells}
 use denote.Steps.{only, owned, peeks, heard, nothing}
 use denote.Enum.Laws as EL
 use denote.Struct.Declared.{Declared}
@@ -38,7 +38,7 @@ use denote.Triple.Call.{calls_at}
 use denote.Triple.Entry.{Vals, on_entry}
 use denote.Triple.Spec.{Meets, triple_of}
 use denote.Triple.Table.{entered, cited}
-use denote.Triple.Walked.{says, needs, Stays, stay_none, gave_slice, walk_of, Goes-none, Goes-gave_slice, Walks, ends_at, walked, walk_Meets}
+use denote.Triple.Walked.{says, needs, Stays, stay_none, gave_slice, walk_of, Goes-none, Goes-gave_slice, Walks, ends_at, walked, walk_meets}
 use denote.Exit.{yes}
 use denote.Triple.Clauses.{ensured, lasts}
 use Rattle.sheet.specs.Whole.{Leads}
@@ -154,7 +154,7 @@ module _ {M : Type 1} {𝓤 : Ura M} (𝓛 : Logic 𝓤) (mem : Memory → SProp
       suffices ! _ (ends_at 𝓛 thin.ended stayed (thin.clauses 𝓛 mem run) (((κ, (κ', tt)), (q, (q', tt)), tt, (d, (k, (x, tt))), at), tt) (put (EL.val E.the_type E'.the_laws p)) (made p) (tt, (tt, (zs, tt))) (tt, (tt, (l, tt)))) $ says ! (refl, e) $
       frame ! $ move ! (1 ∷ []) $ use1 𝓛 (‵ Own ⊛ ‵ Own) twice $ split ! $
       -- [what the struct owns; the same; the last list]
-      nothing ! $ move ! (3 ∷ 0 ∷ []) $ fjoin ! $ owned ! u32 (Is u32) (uint_Makes 𝓛 w32) k _ (refl, ok) $ fjoin ! $ move ! (1 ∷ 0 ∷ []) $ fjoin ! $ frame ! $
+      nothing ! $ move ! (3 ∷ 0 ∷ []) $ fjoin ! $ owned ! u32 (Is u32) (uint_makes 𝓛 w32) k _ (refl, ok) $ fjoin ! $ move ! (1 ∷ 0 ∷ []) $ fjoin ! $ frame ! $
       -- [what the struct owns]: the answer's facts take the place of those of how far it was read
       owned ! E.the_row (Is E.the_row) (EL.makes E.the_type E'.the_plain 𝓛) p _ i $ move ! (1 ∷ 0 ∷ []) $ by ! (own_put 𝓛 D L 1 vd p mach)
 
@@ -192,14 +192,14 @@ module _ {M : Type 1} {𝓤 : Ura M} (𝓛 : Logic 𝓤) (mem : Memory → SProp
   thin-walks : (C : Calls 𝓤 H) (Λ : Loops 𝓤 H) → FmC 𝓤 H 𝓛.laws C → Triple 𝓤 (C #line-at) (Work 𝓛 mem run)
       → Walks 𝓛 thin.ended stayed (WpFn 𝓤 H C Λ code.function) (thin.clauses 𝓛 mem run)
   thin-walks C Λ fm known = walked 𝓛 thin.ended stayed (thin.clauses 𝓛 mem run) (WpFn 𝓤 H C Λ code.function)
-      (λ κs. (LL.vals (T.the_type (named_lft 2 0 tt κs)) (T'.the_laws (named_lft 2 0 tt κs)), (uint_vals w32, (mut_slice_vals, tt)))) (λ κs. (LL.tells (T.the_type (named_lft 2 0 tt κs)) (T'.the_laws (named_lft 2 0 tt κs)), (uint_Tells w32, (mut_slice_Tells (named 1) κs.1.0 u32, tt))))
+      (λ κs. (LL.vals (T.the_type (named_lft 2 0 tt κs)) (T'.the_laws (named_lft 2 0 tt κs)), (uint_vals w32, (mut_slice_vals, tt)))) (λ κs. (LL.tells (T.the_type (named_lft 2 0 tt κs)) (T'.the_laws (named_lft 2 0 tt κs)), (uint_tells w32, (mut_slice_tells (named 1) κs.1.0 u32, tt))))
       (λ κs qs bounds a g are. needs 𝓤 (Needs a.1.0 a.0 a.1.1.0.now) _ (λ pre.
       walk 𝓛 mem run κs.0 κs.1.0 qs.0 qs.1.0 a.0 a.1.0 are.1.0.1 a.1.1.0.ref_ptr.0 a.1.1.0.ref_ptr.1 a.1.1.0.ghost_name a.1.1.0.now pre C Λ fm known are.0 are.1.1.0.0.1))
 
 thin-meets : {M : Type 1} {𝓤 : Ura M} (𝓛 : Logic 𝓤) (mem : Memory → SProp 𝓤) (run : Routine → Fun 𝓤) (𝓣 : Tables 𝓤 𝓛.H)
     → Triple 𝓤 (𝓣.C #line-at) (Work 𝓛 mem run)
     → Meets 𝓛 thin.signature (WpFn 𝓤 𝓛.H 𝓣.C 𝓣.Λ code.function) (thin.spec 𝓛 mem run)
-thin-meets {𝓤 = 𝓤} 𝓛 mem run 𝓣 known = walk_Meets 𝓛 thin.ended stayed (Goes-none 𝓛 2 B yes (λ κs x f. refl), (Goes-none 𝓛 2 (λ _. u32) yes (λ κs x f. refl), (Goes-gave_slice 𝓛 2 1 tt (plain (λ _. u32)), tt))) (thin.clauses 𝓛 mem run) (WpFn 𝓤 𝓛.H 𝓣.C 𝓣.Λ code.function) (WpFn-mono 𝓤 𝓛.H 𝓛.laws 𝓣 code.function)
+thin-meets {𝓤 = 𝓤} 𝓛 mem run 𝓣 known = walk_meets 𝓛 thin.ended stayed (Goes-none 𝓛 2 B yes (λ κs x f. refl), (Goes-none 𝓛 2 (λ _. u32) yes (λ κs x f. refl), (Goes-gave_slice 𝓛 2 1 tt (plain (λ _. u32)), tt))) (thin.clauses 𝓛 mem run) (WpFn 𝓤 𝓛.H 𝓣.C 𝓣.Λ code.function) (WpFn-mono 𝓤 𝓛.H 𝓛.laws 𝓣 code.function)
     (thin-walks 𝓛 mem run 𝓣.C 𝓣.Λ (fm_of 𝓤 𝓛.H 𝓛.laws 𝓣) known)
 
 pub line-spec : {M : Type 1} → stated.statement M
