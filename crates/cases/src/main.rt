@@ -4,6 +4,8 @@
 // A case is a line `case PATH BUDGET SKIP OUTPUT WORDS LENGTH`, all decimals, then LENGTH bytes of sheet, then a line feed. PATH, BUDGET
 // and SKIP are the setting; OUTPUT bytes and WORDS work words are lent, filled with rubbish. After the call the work words must all be
 // zero and the output beyond the bytes written must hold its rubbish; else `dirty` is printed.
+#![tactic(auto)]
+
 mod header;
 
 ghost use Rattle.std.specs.Prelude.{◌≡◌, ◌<◌, length};

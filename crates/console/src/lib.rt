@@ -1,5 +1,7 @@
 // Standard input and output for the programs. Nothing here holds a buffer: the box has 64 KB in all. A read or a write that fails, or
 // that a signal interrupts before it moves a byte, ends what it stands in, and nothing is written after a byte that was lost.
+#![tactic(auto)]
+
 ghost use Rattle.std.specs.Prelude.{◌+◌, ◌≤◌, length};
 ghost use Rattle.io.specs.Counts.{IsPrefixLen};
 ghost use Rattle.console.specs.Went.{Went};

@@ -1,5 +1,7 @@
 // One block of the listing, written into the rest of the output if all of it fits. A block is counted and written by the same
 // functions: bytes beyond the lent memory's end are counted and not kept.
+#![tactic(auto)]
+
 ghost use Rattle.std.specs.Prelude.{◌≡◌, ◌≤◌, length};
 ghost use Rattle.tables.specs.Layout.{max_cells};
 ghost use Rattle.listing.specs.Put.{Put};

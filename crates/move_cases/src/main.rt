@@ -6,6 +6,8 @@
 //
 // Printed are `moved=`, the length of the moved sheet and then its bytes, or `refused=` and `at=`. Then `kept`, if all work words are zero and
 // the output beyond the moved sheet holds its rubbish; else `lost`.
+#![tactic(auto)]
+
 mod decimal;
 
 ghost use Rattle.std.specs.Prelude.{◌≡◌, ◌≤◌, ◌<◌, length};

@@ -1,5 +1,7 @@
 // A sheet's bytes moved to another edition, or tidied in their own: the sheet was read before, so its lines are as they should be, and the
 // table of its tokens stands in the work words.
+#![tactic(auto)]
+
 ghost use Rattle.std.specs.Prelude.{◌≡◌, ◌++◌, suc, ◌≤◌, length};
 ghost use Rattle.specification.specs.Bytes.{bytes};
 ghost use Rattle.specification.specs.Moves.{unless, fitted};

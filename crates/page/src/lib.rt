@@ -1,4 +1,6 @@
 // What the box prints, in lent memory: the lines after a listing, and a sheet's whole page. To print it is left to the programs.
+#![tactic(auto)]
+
 ghost use Rattle.std.specs.Prelude.{◌≡◌, ◌≤◌};
 ghost use Rattle.specification.specs.Printed.{end_line, tally_lines, refusal_lines};
 ghost use Rattle.vodlasim.specs.Lent.{lent};

@@ -1,4 +1,6 @@
 // The box: it reads a sheet on standard input, runs it and prints its page (document 01, "The walk and the listing").
+#![tactic(auto)]
+
 use page::{CLOSING, INPUT, OUTPUT, WORDS};
 
 // All the memory that a run has.

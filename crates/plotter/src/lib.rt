@@ -1,5 +1,7 @@
 // The plotter's port (document 02, Four): the step by which the box sends a listing, byte by byte, and a function for each event from
 // outside. Nothing here holds a listing: a step is lent what is still unsent. Bits that have no name here stay what they are.
+#![tactic(auto)]
+
 ghost use Rattle.std.specs.Prelude.{◌≡◌, ◌+◌, ◌%◌};
 ghost use Rattle.plotter.specs.Port.{takes, acknowledged, send, Steps, occur, ready_again, out_of_paper, paper_in, interrupts_on, interrupts_off};
 

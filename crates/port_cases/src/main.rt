@@ -7,6 +7,8 @@
 //
 // Printed are the registers before the first action, after a `=`, then those after each action, after its letter, and at the end of each
 // line how many bytes went out; last `left` and how many bytes are unsent.
+#![tactic(auto)]
+
 mod hex;
 
 ghost use Rattle.std.specs.Prelude.{◌≡◌, ◌≤◌, ◌<◌, length};

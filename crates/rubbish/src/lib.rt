@@ -1,4 +1,6 @@
 // For the test programs: what stands in lent memory before a case, and what must stand there after it.
+#![tactic(auto)]
+
 const WORD: u32 = 0xDEADBEEF;
 
 const BYTE: u8 = 0xA5;

@@ -2,6 +2,8 @@
 // formula, of an `all`'s local where the `all` comes first again, of a procedure's frame where its formula has ended, or of no formula
 // (tables::leaves). A node that has something to do later, or to take back, leaves a record on the path; the others leave nothing. What
 // registers and words mean is in specs/, the laws of every step in proofs/; the code is the crate `walker`.
+#![tactic(auto)]
+
 use specification::Tallies;
 
 // `mode`: what is to be done next (specs/States.antt); `due`: what is visited next; `depth`: how many nodes the path has; `stop`: the depth at

@@ -1,4 +1,6 @@
 // The reader: from the sheet's bytes to tables in the lent work words.
+#![tactic(auto)]
+
 ghost use Rattle.std.specs.Prelude.{◌≡◌, ◌≤◌, ◌<◌, length, replicate};
 ghost use Rattle.specification.specs.Sheet.{read_with};
 ghost use Rattle.specification.specs.Moves.{read_only};

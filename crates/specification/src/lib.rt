@@ -1,5 +1,6 @@
 // The types that the definitions in specs/ share with the code. No function stands here: the crate is what a reader must
 // believe, and its laws are under proofs/.
+#![tactic(auto)]
 
 // A run's setting beside the lent memory: path limit, node budget, and how many blocks are skipped.
 #[derive(Drop)]

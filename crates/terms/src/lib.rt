@@ -1,4 +1,6 @@
 // Terms over the tables in the work words: the values of terms, by one loop over their tokens, and the arguments of calls; nothing recurses.
+#![tactic(auto)]
+
 pub mod arguments;
 pub mod calls;
 pub mod evaluation;

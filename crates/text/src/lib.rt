@@ -1,4 +1,6 @@
 // The leaves of the sheet's reader: parts and keys, classes of bytes, runs of bytes, and decimal numbers.
+#![tactic(auto)]
+
 ghost use Rattle.std.specs.Prelude.{◌≡◌, ◌+◌, ◌*◌, ◌≤◌, length, drop};
 ghost use Rattle.specification.specs.Bytes.{class_of, class_number, run, begins};
 ghost use Rattle.specification.specs.Number.{natural, integer};

@@ -1,5 +1,7 @@
 // Signed 32-bit integers as words, and the seven operations on them. The word w stands for w - 2^31 (specs/Word.antt), so that
 // words compare, count and step as their values do. An operation is exact on 64 bits and then held to 32.
+#![tactic(auto)]
+
 ghost use Rattle.std.specs.Prelude.{◌≡◌, pos, ◌+ℤ◌, ◌-ℤ◌, ◌*ℤ◌};
 ghost use Rattle.std.specs.Int.Signed.{quot_z};
 ghost use Rattle.specification.specs.Arithmetic.{fit, divided, floor_z, remains};

@@ -1,4 +1,6 @@
 // The public calls: a sheet is run, or moved to another edition, or tidied.
+#![tactic(auto)]
+
 ghost use Rattle.std.specs.Prelude.{◌≡◌, ◌&&◌, ◌+◌, ◌*◌, ◌<◌, leb, length};
 ghost use Rattle.specification.specs.Bytes.{between};
 ghost use Rattle.specification.specs.Outcome.{longest_path, words_for};

@@ -1,4 +1,6 @@
 // The public calls and the plotter's port (port.rt) for C and Rust hosts, over numbers and slices.
+#![tactic(auto)]
+
 mod port;
 
 ghost use Rattle.std.specs.Prelude.{◌≡◌};

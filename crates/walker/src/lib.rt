@@ -1,5 +1,7 @@
 // The walk of a computation tree over the tables of a sheet: what happens at each node, with records of the path in the work words and registers by
 // value. What registers and words mean, and the laws of each step, are in the crate `search`.
+#![tactic(auto)]
+
 use search::Go;
 use specification::Setting;
 

@@ -128,13 +128,13 @@ module _ (D : Declared) (Ps : List Procedure)
   numbered-like S (neg tok F) n o = negs (numbered-like S F _ o)
   numbered-like S (eq tok s t) n o = eqs
   numbered-like S (compare tok r s t) n o = compares
-  numbered-like S (ex l F) n o = exs (numbered-like _ F _ o.2)
+  numbered-like S (ex l F) n o = exs (numbered-like (enter S l) F _ o.2)
   numbered-like S (some tok l a b F) n o =
       either-like (some tok l a b F) (falsehood tok) (some tok l a b (dropped F)) n (empty_range a b)
-      (λ e. no-some-like (empty-none a b e) n tok l F) (somes (numbered-like _ F _ o.4))
+      (λ e. no-some-like (empty-none a b e) n tok l F) (somes (numbered-like (enter S l) F _ o.4))
   numbered-like S (all tok l a b F) n o =
       either-like (all tok l a b F) truth (all tok l a b (dropped F)) n (empty_range a b)
-      (λ e. no-all-like (empty-none a b e) n tok l F) (alls (numbered-like _ F _ o.4))
+      (λ e. no-all-like (empty-none a b e) n tok l F) (alls (numbered-like (enter S l) F _ o.4))
   numbered-like S (call K ts F) n o =
       let P : Procedure = get_or Ps K nothing in
       calls (subst (λ G. Like G (fill ts P.formula)) (sym o.0.filled) (like-fill ts (procedures K)))

@@ -34,12 +34,12 @@ AllUnrounded s = EachUnrounded s.declared.procedures × Unrounded (formula_words
 unrounded-at : (p : ℕ) (ws : List Word) → Unrounded ws → rounding_at p ws ≡ none
 unfolding rounding_at Each
 unrounded-at p [] h = refl
-unrounded-at p (w ∷ ws) h = rw h.0 (unrounded-at _ ws h.1)
+unrounded-at p (w ∷ ws) h = rw h.0 (unrounded-at (p + length (word_text newer w) + 1) ws h.1)
 
 at-unrounded : (p : ℕ) (ws : List Word) → rounding_at p ws ≡ none → Unrounded ws
 unfolding rounding_at Each
 at-unrounded p [] e = tt
-at-unrounded p (w ∷ ws) e = go (is_rounding w) refl e (λ f. at-unrounded _ ws f)
+at-unrounded p (w ∷ ws) e = go (is_rounding w) refl e (λ f. at-unrounded (p + length (word_text newer w) + 1) ws f)
   where
     later : Option ℕ
     later = rounding_at (p + length (word_text newer w) + 1) ws
@@ -55,7 +55,7 @@ else-none (just p) q e = contradiction cc
 unrounded-from : (p : ℕ) (Ps : List Procedure) (F : Formula) → EachUnrounded Ps → Unrounded (formula_words F) → rounding_from p Ps F ≡ none
 unfolding rounding_from Each
 unrounded-from p [] F h k = unrounded-at _ (formula_words F) k
-unrounded-from p (P ∷ Ps) F h k = rw (unrounded-at (p + length (procedure_key P)) (formula_words P.formula) h.0) (unrounded-from _ Ps F h.1 k)
+unrounded-from p (P ∷ Ps) F h k = rw (unrounded-at (p + length (procedure_key P)) (formula_words P.formula) h.0) (unrounded-from (p + length (procedure_text newer P)) Ps F h.1 k)
 
 from-unrounded : (p : ℕ) (Ps : List Procedure) (F : Formula) → rounding_from p Ps F ≡ none → EachUnrounded Ps × Unrounded (formula_words F)
 unfolding rounding_from Each
