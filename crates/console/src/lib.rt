@@ -11,7 +11,7 @@ const INPUT: i32 = 0;
 const OUTPUT: i32 = 1;
 
 // How many bytes went out, from the first on, and whether these are all that were to be written.
-#[derive(Drop)]
+#[derive(Clone, Copy)]
 pub struct Sent {
     pub count: usize,
     pub whole: bool,

@@ -12,14 +12,14 @@ mod cells;
 pub mod put;
 
 // What a block begins with: its number; of an error the kind and the token too.
-#[derive(Drop)]
+#[derive(Clone, Copy)]
 pub enum Head {
     Answer { number: u32 },
     Error { number: u32, kind: u32, token: u32 },
 }
 
 // The bytes of a block that was written, or that it did not fit.
-#[derive(Drop)]
+#[derive(Clone, Copy)]
 pub enum Written {
     Full,
     Bytes(usize),

@@ -19,14 +19,14 @@ mod ranges;
 mod words;
 
 // A place of the sheet, if there is one.
-#[derive(Drop)]
+#[derive(Clone, Copy)]
 pub(crate) enum Place {
     Nowhere,
     At(usize),
 }
 
 // From edition 2 to edition 3 with full ranges, within edition 3, and from edition 3 to edition 2; to edition 3 without empty ranges.
-#[derive(Drop)]
+#[derive(Clone, Copy)]
 pub enum Way {
     Up,
     Tidy,

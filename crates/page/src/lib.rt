@@ -27,7 +27,7 @@ const BUDGET: u32 = 1_000_000;
 const SKIP: u32 = 0;
 
 // How long a page's two parts are: the listing in the output, and the lines after it.
-#[derive(Drop)]
+#[derive(Clone, Copy)]
 pub struct Page {
     pub listing: usize,
     pub closing: usize,

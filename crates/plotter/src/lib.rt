@@ -7,7 +7,7 @@ ghost use Rattle.plotter.specs.Port.{takes, acknowledged, send, Steps, occur, re
 
 // The four registers: of status bit 0 is ready, bit 1 paper out and bit 2 interrupt pending; of control bit 0 lets interrupts through; data has
 // the byte sent last, and to sum every byte sent is added.
-#[derive(Drop)]
+#[derive(Clone, Copy)]
 pub struct Port {
     pub status: u8,
     pub control: u8,
@@ -16,7 +16,7 @@ pub struct Port {
 }
 
 // What a step leaves: the registers, and how many of the unsent bytes went out, 0 or 1.
-#[derive(Drop)]
+#[derive(Clone, Copy)]
 pub struct Stepped {
     pub port: Port,
     pub sent: usize,

@@ -9,7 +9,7 @@ use specification::Tallies;
 // `mode`: what is to be done next (specs/States.antt); `due`: what is visited next; `depth`: how many nodes the path has; `stop`: the depth at
 // which a limit is reached; `top`: where the records end; `from`: the depth since which the tallies lack the visits; `inner`: the present tree
 // and what it has given to places outside; `bad`: whether it has had an error leaf; the tallies as of the last leaf.
-#[derive(Drop)]
+#[derive(Clone, Copy)]
 pub struct Go {
     pub mode: u32,
     pub due: u32,

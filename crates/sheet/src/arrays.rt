@@ -9,7 +9,7 @@ ghost use Rattle.sheet.specs.Firsts.{laid_on, tabled, arrays_value, arrays_read,
 use crate::lines::Count;
 use crate::{lines, refusals};
 
-#[derive(Drop)]
+#[derive(Clone, Copy)]
 pub(crate) enum Arrays {
     // a refusal's number and place
     Refused(u32, usize),

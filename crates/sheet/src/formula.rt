@@ -17,7 +17,7 @@ use tables::codes;
 
 // Whether reading is strict, and what is declared where a formula stands: the edition, how many scalars, locals and arrays there are, how many
 // procedures stand in the lines before, and how many parameters the line has.
-#[derive(Drop)]
+#[derive(Clone, Copy)]
 pub(crate) struct Limits {
     pub strict: bool,
     pub edition: u32,
@@ -30,7 +30,7 @@ pub(crate) struct Limits {
 
 // Where a line begins: the first token of the line before it, how many tokens stand in the table, the locals that have a binder, and the
 // place.
-#[derive(Drop)]
+#[derive(Clone, Copy)]
 pub(crate) struct Reached {
     pub first: u32,
     pub tokens: u32,
@@ -39,7 +39,7 @@ pub(crate) struct Reached {
 }
 
 // The formula's line: a refusal's number and place, or how many tokens stand in the table.
-#[derive(Drop)]
+#[derive(Clone, Copy)]
 pub(crate) enum Parsed {
     Refused(u32, usize),
     Read(u32),
@@ -47,7 +47,7 @@ pub(crate) enum Parsed {
 
 // A formula's tokens: a refusal's number and place, or how many stand in the table, the place after what was read, and the locals that have a
 // binder.
-#[derive(Drop)]
+#[derive(Clone, Copy)]
 pub(crate) enum Scanned {
     Refused(u32, usize),
     Read(u32, usize, u32),

@@ -9,7 +9,7 @@ ghost use Rattle.sheet.specs.Items.{held_names, element_after, name_read, scalar
 use crate::lines::{Index, Integer};
 use crate::{lines, refusals};
 
-#[derive(Drop)]
+#[derive(Clone, Copy)]
 pub(crate) enum Given {
     // a refusal's number and place
     Refused(u32, usize),
@@ -18,7 +18,7 @@ pub(crate) enum Given {
 }
 
 // A cell's name, and the place after it; an index is held at 2^32 - 1.
-#[derive(Drop)]
+#[derive(Clone, Copy)]
 enum Name {
     Refused(u32, usize),
     Scalar(u32, usize),
@@ -26,14 +26,14 @@ enum Name {
 }
 
 // The number of a cell.
-#[derive(Drop)]
+#[derive(Clone, Copy)]
 enum Cell {
     Undeclared,
     Is(u32),
 }
 
 // An item: its cell, its value's word, and the place after it.
-#[derive(Drop)]
+#[derive(Clone, Copy)]
 enum Entry {
     Refused(u32, usize),
     Is(u32, u32, usize),

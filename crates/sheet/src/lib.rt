@@ -25,14 +25,14 @@ use crate::lines::Count;
 use crate::whole::Progress;
 
 // A token: its code and operand (a constant's word, or the number of a scalar, local, array, parameter or procedure).
-#[derive(Drop)]
+#[derive(Clone, Copy)]
 pub struct Token {
     pub code: u32,
     pub operand: u32,
 }
 
 // A sheet as it was read: a refusal's number and place, or how many scalars, arrays and tokens there are, and the formula's first token.
-#[derive(Drop)]
+#[derive(Clone, Copy)]
 pub enum Reading {
     Refused {
         number: u32,

@@ -11,21 +11,21 @@ use text::{Decimal, Word};
 // ---- numbers: a refusal's number and place; or what was read, and the place after it
 
 // A number without a minus, held at 2^32 - 1 where it is more.
-#[derive(Drop)]
+#[derive(Clone, Copy)]
 pub(crate) enum Index {
     Refused(u32, usize),
     Is(u32, usize),
 }
 
 // A value's word.
-#[derive(Drop)]
+#[derive(Clone, Copy)]
 pub(crate) enum Integer {
     Refused(u32, usize),
     Is(u32, usize),
 }
 
 // A number within its limits.
-#[derive(Drop)]
+#[derive(Clone, Copy)]
 pub(crate) enum Count {
     Refused(u32, usize),
     Is(u32, usize),

@@ -13,7 +13,7 @@ ghost use Rattle.sheet.specs.RangeLine.{up_to, range_read, led_range, first_in, 
 use crate::lines::Integer;
 use crate::{lines, refusals};
 
-#[derive(Drop)]
+#[derive(Clone, Copy)]
 pub(crate) enum Ranges {
     // a refusal's number and place
     Refused(u32, usize),
@@ -22,7 +22,7 @@ pub(crate) enum Ranges {
 }
 
 // A range: the words of its lowest and its highest value, and the place after it.
-#[derive(Drop)]
+#[derive(Clone, Copy)]
 enum Range {
     Refused(u32, usize),
     Is(u32, u32, usize),

@@ -6,7 +6,7 @@ ghost use Rattle.sheet.specs.Whole.{Goes, Leads};
 use crate::whole;
 use crate::whole::Progress;
 
-#[derive(Drop)]
+#[derive(Clone, Copy)]
 pub(crate) struct Reader<'a> {
     pub sheet: &'a [u8],
     pub read: Progress,

@@ -22,7 +22,7 @@ pub(crate) const EX_LOCAL: u32 = 5;
 pub(crate) const RANGE_LOCAL: u32 = 6;
 
 // The operands of a word's code, all of one sort. A binder has its local, and a call its procedure's number: the others become due when that is read.
-#[derive(Drop)]
+#[derive(Clone, Copy)]
 pub(crate) struct Operands {
     pub sort: u32,
     pub count: u32,

@@ -9,7 +9,7 @@ use crate::{Token, sorts};
 use tables::codes;
 
 // What is due: its sort, how much deeper nesting may go, and the locals in scope.
-#[derive(Drop)]
+#[derive(Clone, Copy)]
 pub(crate) struct Entry {
     pub sort: u32,
     pub room: u32,

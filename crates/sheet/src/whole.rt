@@ -14,7 +14,7 @@ use crate::ranges::Ranges;
 use crate::{arrays, formula, given, lines, procedures, ranges, reader, words};
 
 // How far a sheet was read: a refusal's number and place; or what is declared, and where the next line begins.
-#[derive(Drop)]
+#[derive(Clone, Copy)]
 pub(crate) enum Progress {
     Refused(u32, usize),
     Read(Limits, Reached),

@@ -3,7 +3,7 @@
 #![tactic(auto)]
 
 // A run's setting beside the lent memory: path limit, node budget, and how many blocks are skipped.
-#[derive(Drop)]
+#[derive(Clone, Copy)]
 pub struct Setting {
     pub path: u32,
     pub budget: u32,
@@ -11,7 +11,7 @@ pub struct Setting {
 }
 
 // The way a run ended.
-#[derive(Drop)]
+#[derive(Clone, Copy)]
 pub enum End {
     Done,
     Spent,
@@ -20,7 +20,7 @@ pub enum End {
 }
 
 // The four tallies: visits, and the answer, error and failure leaves of the main tree.
-#[derive(Drop)]
+#[derive(Clone, Copy)]
 pub struct Tallies {
     pub nodes: u32,
     pub answers: u32,
@@ -29,7 +29,7 @@ pub struct Tallies {
 }
 
 // What a call returns: a refusal's number and byte place, or how the run ended and the bytes written.
-#[derive(Drop)]
+#[derive(Clone, Copy)]
 pub enum Outcome {
     Refused {
         number: u32,
@@ -43,7 +43,7 @@ pub enum Outcome {
 }
 
 // What a call returns that moves a sheet to another edition or tidies it: a refusal's number and byte place, or how many bytes it wrote.
-#[derive(Drop)]
+#[derive(Clone, Copy)]
 pub enum Move {
     Refused { number: u32, place: usize },
     Moved { written: usize },

@@ -8,7 +8,7 @@ pub mod kinds;
 pub mod tags;
 
 // What two terms are: of each a tag (tags.rt) and a word.
-#[derive(Drop)]
+#[derive(Clone, Copy)]
 pub struct Sides {
     pub ltag: u32,
     pub rtag: u32,
@@ -17,7 +17,7 @@ pub struct Sides {
 }
 
 // The results that are not used yet: the last one's tag and word, and where in the words the others end.
-#[derive(Drop)]
+#[derive(Clone, Copy)]
 pub(crate) struct Stack {
     pub tag: u32,
     pub value: u32,

@@ -146,7 +146,7 @@ pub fn run_end(s: &[u8], at: usize, kind: bool) -> usize
 const CAP: u64 = 4294967296;
 
 // A number without a minus: of a bad form, or its value, held at 2^32 where it is more.
-#[derive(Drop)]
+#[derive(Clone, Copy)]
 pub enum Decimal {
     Malformed,
     Is(u64),
@@ -205,7 +205,7 @@ pub fn natural(n: &[u8]) -> Decimal
 }
 
 // A number in 32 bits as its word, which is 2^31 more: of a bad form or out of range, or the word.
-#[derive(Drop)]
+#[derive(Clone, Copy)]
 pub enum Word {
     Bad,
     Is(u32),

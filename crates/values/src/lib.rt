@@ -27,7 +27,7 @@ const OUTSIDE: u32 = 2;
 const ZERO_DIVISOR: u32 = 3;
 
 // The word of a value, or an error kind.
-#[derive(Drop)]
+#[derive(Clone, Copy)]
 pub enum Computed {
     Value(u32),
     Fault(u32),
@@ -105,7 +105,7 @@ fn opposite(x: i64, y: i64) -> bool
 }
 
 // A quotient rounded down, and what it leaves.
-#[derive(Drop)]
+#[derive(Clone, Copy)]
 struct Divided {
     quotient: i64,
     rest: i64,

@@ -22,7 +22,7 @@ mod tallies;
 mod unvalued;
 mod words;
 // What a walk is about: its setting, how many scalars and arrays the tables in the work words have, and the token that its formula begins at.
-#[derive(Drop)]
+#[derive(Clone, Copy)]
 pub struct Task {
     pub setting: Setting,
     pub scalars: u32,
@@ -30,7 +30,7 @@ pub struct Task {
     pub formula: u32,
 }
 // The registers of the search, and the bytes written.
-#[derive(Drop)]
+#[derive(Clone, Copy)]
 pub(crate) struct State {
     pub go: Go,
     pub written: usize,
