@@ -1,0 +1,24 @@
+-- `listing::answer` meets its contract. Assumes nothing.
+use mathlib.Core.List.{[], ◌∷◌}
+use Rattle.specification.specs.Bytes.{bytes}
+use Rattle.specification.specs.Printed.{field_text}
+use Rattle.listing.specs.Model.{head_text}
+use Rattle.listing.specs.declared.Head.TheVariants.{Answer}
+use Rattle.listing.proofs.Laws.Put.{Left, pieces-left, last-left, room-left}
+use Rattle.listing.proofs.Laws.Pieces.{answer-pieces}
+use Rattle.listing.proofs.Laws.Bound.{answer-room, answer-headed}
+use Rattle.listing.proofs.answer.Goals as goal
+
+-- the one line
+parted : (c : goal.Start) →
+    let a = c.args in
+    Left a.out-1.now 0 (head_text (Answer a.number)) a.out-1.now 0 (field_text (bytes "answer=") a.number ∷ [])
+parted c = pieces-left _ _ _ (answer-pieces c.args.number)
+
+pub field-requires : goal.field-requires
+field-requires c = let s = c.before.before.before in room-left (parted s) (answer-room s.args.number s.ranges.number.fits)
+
+pub returns : goal.returns
+returns c =
+    let start = c.before.before.before.before.before.before in
+    answer-headed start.args.number start.ranges.number.fits (last-left (parted start) c.field.ensures)

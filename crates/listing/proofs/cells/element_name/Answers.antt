@@ -1,0 +1,48 @@
+-- `listing::cells::element_name` meets its contract. Assumes nothing.
+use mathlib.Core.List.{[], ◌∷◌}
+use Rattle.specification.specs.Lines.{element}
+use Rattle.specification.specs.Number.{printℕ}
+use Rattle.specification.specs.Listing.{cell_label, label_text}
+use Rattle.listing.proofs.Laws.Put.{Left, pieces-left, less-left, last-left, room-left}
+use Rattle.listing.proofs.Laws.Pieces.{element-pieces}
+use Rattle.listing.proofs.cells.element_name.Goals as goal
+
+-- the name's pieces
+parted : (c : goal.Start) →
+    let a = c.args in
+    Left a.out-1.now a.at (label_text (cell_label (element a.a a.e))) a.out-1.now a.at
+    ((97 ∷ []) ∷ printℕ a.a ∷ (46 ∷ []) ∷ printℕ a.e ∷ [])
+parted c = pieces-left _ _ _ (element-pieces c.args.a c.args.e)
+
+-- what is left after the array's number
+numbered : (c : goal.After-number-q) →
+    let at_byte = c.before.before.before.before in
+    let a = at_byte.args in
+    Left a.out-1.now a.at (label_text (cell_label (element a.a a.e))) c.number-q.new.0 c.number-q.result
+    ((46 ∷ []) ∷ printℕ a.e ∷ [])
+numbered c =
+    let at_byte = c.before.before.before.before in
+    less-left (less-left (parted at_byte.before.before.before) at_byte.byte-p.ensures) c.number-q.ensures
+
+pub byte-p-requires : goal.byte-p-requires
+byte-p-requires c = room-left (parted c.before.before) c.requires
+
+pub number-q-requires : goal.number-q-requires
+number-q-requires c =
+    let start = c.before.before.before.before.before.before in
+    room-left (less-left (parted start) c.byte-p.ensures) start.requires
+
+pub byte-s-requires : goal.byte-s-requires
+byte-s-requires c =
+    let at-number = c.before.before.before in
+    room-left (numbered at-number) at-number.requires
+
+pub number-requires : goal.number-requires
+number-requires c =
+    let at-number = c.before.before.before.before.before.before.before in
+    room-left (less-left (numbered at-number) c.byte-s.ensures) at-number.requires
+
+pub returns : goal.returns
+returns c =
+    let at-number = c.before.before.before.before.before.before.before.before.before.before in
+    last-left (less-left (numbered at-number) c.byte-s.ensures) c.number.ensures

@@ -1,0 +1,27 @@
+-- `listing::cells::scalar_name` meets its contract. Assumes nothing.
+use mathlib.Core.List.{[], ◌∷◌}
+use Rattle.specification.specs.Lines.{scalar}
+use Rattle.specification.specs.Number.{printℕ}
+use Rattle.specification.specs.Listing.{cell_label, label_text}
+use Rattle.listing.proofs.Laws.Put.{Left, pieces-left, less-left, last-left, room-left}
+use Rattle.listing.proofs.Laws.Pieces.{scalar-pieces}
+use Rattle.listing.proofs.cells.scalar_name.Goals as goal
+
+-- the name's pieces
+parted : (c : goal.Start) →
+    let a = c.args in
+    Left a.out-1.now a.at (label_text (cell_label (scalar a.n))) a.out-1.now a.at ((118 ∷ []) ∷ printℕ a.n ∷ [])
+parted c = pieces-left _ _ _ (scalar-pieces c.args.n)
+
+pub byte-p-requires : goal.byte-p-requires
+byte-p-requires c = room-left (parted c.before.before) c.requires
+
+pub number-requires : goal.number-requires
+number-requires c =
+    let start = c.before.before.before.before.before.before in
+    room-left (less-left (parted start) c.byte-p.ensures) start.requires
+
+pub returns : goal.returns
+returns c =
+    let start = c.before.before.before.before.before.before.before.before.before in
+    last-left (less-left (parted start) c.byte-p.ensures) c.number.ensures

@@ -1,0 +1,32 @@
+-- `listing::put::ending` meets its contract. Assumes nothing.
+use mathlib.Core.Path.{refl}
+use mathlib.Core.List.{[], ◌∷◌}
+use Rattle.specification.specs.Number.{printℤ}
+use Rattle.values.specs.Word.{signed}
+use Rattle.listing.specs.Put.{end_text}
+use Rattle.listing.proofs.Laws.Put.{Left, pieces-left, less-left, last-left, room-left}
+use Rattle.listing.proofs.put.ending.Goals as goal
+
+-- the three pieces
+parted : (c : goal.Start) →
+    let a = c.args in
+    Left a.out-1.now a.at (end_text a.word) a.out-1.now a.at ((61 ∷ []) ∷ printℤ (signed a.word) ∷ (10 ∷ []) ∷ [])
+parted c = pieces-left _ _ _ refl
+
+pub byte-p-requires : goal.byte-p-requires
+byte-p-requires c = room-left (parted c.before.before) c.requires
+
+pub value-q-requires : goal.value-q-requires
+value-q-requires c =
+    let start = c.before.before.before.before.before.before in
+    room-left (less-left (parted start) c.byte-p.ensures) start.requires
+
+pub byte-requires : goal.byte-requires
+byte-requires c =
+    let start = c.before.before.before.before.before.before.before.before.before.before in
+    room-left (less-left (less-left (parted start) c.byte-p.ensures) c.value-q.ensures) start.requires
+
+pub returns : goal.returns
+returns c =
+    let start = c.before.before.before.before.before.before.before.before.before.before.before.before.before in
+    last-left (less-left (less-left (parted start) c.byte-p.ensures) c.value-q.ensures) c.byte.ensures

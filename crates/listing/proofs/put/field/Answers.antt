@@ -1,0 +1,31 @@
+-- `listing::put::field` meets its contract. Assumes nothing.
+use mathlib.Core.Path.{refl}
+use mathlib.Core.List.{[], ◌∷◌}
+use Rattle.specification.specs.Number.{printℕ}
+use Rattle.specification.specs.Printed.{field_text}
+use Rattle.listing.proofs.Laws.Put.{Left, pieces-left, less-left, last-left, room-left}
+use Rattle.listing.proofs.put.field.Goals as goal
+
+-- the three pieces
+parted : (c : goal.Start) →
+    let a = c.args in
+    Left a.out-1.now a.at (field_text a.key.now a.n) a.out-1.now a.at (a.key.now ∷ printℕ a.n ∷ (10 ∷ []) ∷ [])
+parted c = pieces-left _ _ _ refl
+
+pub text-p-requires : goal.text-p-requires
+text-p-requires c = room-left (parted c.before.before.before) c.requires
+
+pub number-q-requires : goal.number-q-requires
+number-q-requires c =
+    let start = c.before.before.before.before.before.before.before in
+    room-left (less-left (parted start) c.text-p.ensures) start.requires
+
+pub byte-requires : goal.byte-requires
+byte-requires c =
+    let start = c.before.before.before.before.before.before.before.before.before.before.before in
+    room-left (less-left (less-left (parted start) c.text-p.ensures) c.number-q.ensures) start.requires
+
+pub returns : goal.returns
+returns c =
+    let start = c.before.before.before.before.before.before.before.before.before.before.before.before.before.before in
+    last-left (less-left (less-left (parted start) c.text-p.ensures) c.number-q.ensures) c.byte.ensures

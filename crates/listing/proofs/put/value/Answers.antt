@@ -1,0 +1,38 @@
+-- `listing::put::value` meets its contract. Assumes nothing.
+use Rattle.specification.specs.Number.{printℤ}
+use Rattle.values.specs.Word.{signed}
+use Rattle.listing.proofs.Laws.Put.{Left, pieces-left, less-left, last-left, room-left}
+use Rattle.listing.proofs.Laws.Digits.{low_pieces, value_low, high_pieces, value-high}
+use Rattle.listing.proofs.put.value.Goals as goal
+
+-- the pieces of a value from 0 up, and below 0
+high : (c : goal.Then-word-ge-ZERO) →
+    let a = c.args in
+    Left a.out-1.now a.at (printℤ (signed a.word)) a.out-1.now a.at (high_pieces a.word)
+high c = pieces-left _ _ _ (value-high c.args.word c.if-word-ge-ZERO.true)
+
+low : (c : goal.Else-word-ge-ZERO) →
+    let a = c.args in
+    Left a.out-1.now a.at (printℤ (signed a.word)) a.out-1.now a.at (low_pieces a.word)
+low c = pieces-left _ _ _ (value_low c.args.word c.if-word-ge-ZERO.false)
+
+pub number-requires : goal.number-requires
+number-requires c = room-left (high c.before) c.requires
+
+pub returns-then-word-ge-ZERO : goal.returns-then-word-ge-ZERO
+returns-then-word-ge-ZERO c =
+    let at-if1 = c.before.before.before.before in
+    last-left (high at-if1) c.number.ensures
+
+pub byte-p-requires : goal.byte-p-requires
+byte-p-requires c = room-left (low c.before) c.requires
+
+pub number-requires-2 : goal.number-requires-2
+number-requires-2 c =
+    let at-if1 = c.before.before.before.before.before in
+    room-left (less-left (low at-if1) c.byte-p.ensures) at-if1.requires
+
+pub returns : goal.returns
+returns c =
+    let at-if1 = c.before.before.before.before.before.before.before.before in
+    last-left (less-left (low at-if1) c.byte-p.ensures) c.number-2.ensures

@@ -1,0 +1,16 @@
+-- `move_cases::print_field` is safe: the line has room for the digits of every number.
+use Prim.Native.Nat.{◌≤◌}
+use native.Mathlib.Omega.{arith}
+use lib.ListN.{length}
+use Rattle.specification.specs.Printed.{field_text}
+use Rattle.listing.proofs.Laws.Bound.{field_bound}
+use Rattle.move_cases.proofs.print_field.Goals as goal
+
+bound : (c : goal.Start) → length (field_text c.args.key.now c.args.n) ≤ 29
+bound c = omega (arith, field_bound c.args.key.now 19 c.args.n (omega (arith, c.ranges.n.fits)), c.requires)
+
+pub field-count-requires : goal.field-count-requires
+field-count-requires c = omega (arith, bound c.before.before)
+
+pub slice_bounds-line-end : goal.slice_bounds-line-end
+slice_bounds-line-end c = omega (arith, bound c.before.before.before.before, c.field-count.ensures.end)

@@ -1,0 +1,30 @@
+-- By whether a range is narrower. Assumes nothing.
+use native.Mathlib.Omega.{arith}
+use mathlib.Core.Path.{sym, ap, ◌∙◌}
+use Rattle.specification.specs.Moves.{unless, fitted}
+use Rattle.mover.specs.Model.{head_lines, down_text, narrow_of, rounding_of, down_result}
+use Rattle.mover.specs.Steps.{placed}
+use Rattle.mover.proofs.Laws.Lines.{lines_length-≤}
+use Rattle.mover.proofs.Laws.Texts.{narrow-of, done-some, done_none}
+use Rattle.mover.proofs.down.Goals as goal
+
+pub overflow_add-lines_end : goal.overflow_add-lines_end
+overflow_add-lines_end c =
+    omega (arith, c.lines_end.ensures, lines_length-≤ head_lines c.args.s.now, c.requires.0.short)
+
+pub returns-in-At : goal.returns-in-At
+unfolding down_result
+returns-in-At c =
+    let a = c.args in
+    let s = a.s.now in
+    done-some a.out-1.now 15 _ (narrow_of a.ranges s) (unless 16 (rounding_of s) (fitted (down_text a.w.now s)))
+    (narrow-of s a.ranges _ _ c.lines_end.ensures (ap placed (sym c.in-At.is) ∙ c.narrow.ensures))
+
+pub returns-in-Nowhere : goal.returns-in-Nowhere
+unfolding down_result
+returns-in-Nowhere c =
+    let a = c.args in
+    let s = a.s.now in
+    done_none a.out-1.now _ 15 (narrow_of a.ranges s) (unless 16 (rounding_of s) (fitted (down_text a.w.now s))) _
+    (narrow-of s a.ranges _ _ c.lines_end.ensures (ap placed (sym c.in-Nowhere.is) ∙ c.narrow.ensures))
+    c.down_full.ensures

@@ -1,0 +1,43 @@
+-- Two pieces. Assumes nothing.
+use native.Mathlib.Omega.{arith}
+use mathlib.Core.List.{[], ◌∷◌, ◌++◌}
+use lib.ListN.{length-append}
+use Rattle.listing.specs.Put.{Room}
+use Rattle.listing.proofs.Laws.Put.{Left, pieces-left, less-left, last-left, room-left}
+use Rattle.mover.specs.Model.{head_lines, head_rest}
+use Rattle.mover.proofs.Laws.Lines.{lines_length-≤}
+use Rattle.mover.proofs.Laws.Chunks.{part}
+use Rattle.mover.proofs.Laws.Texts.{head-pieces, head-short}
+use Rattle.mover.proofs.head.Goals as goal
+
+abbrev start : goal.After-lines_end-h → goal.Start
+start c = c.before.before.before.before
+
+parted : (c : goal.After-lines_end-h) →
+    let a = (start c).args in
+    Left a.out-1.now 0 (a.edition.now ++ head_rest a.s.now) a.out-1.now 0
+    (a.edition.now ∷ part 10 c.lines_end-h.result a.s.now ∷ [])
+parted c =
+    let s = start c in
+    pieces-left _ _ _ (head-pieces s.args.s.now s.pre.1 s.args.edition.now c.lines_end-h.result c.lines_end-h.ensures)
+
+room : (c : goal.Start) → Room 0 (c.args.edition.now ++ head_rest c.args.s.now)
+room c =
+    let e = c.args.edition.now in
+    let s = c.args.s.now in
+    omega (arith, length-append e (head_rest s), head-short s, c.requires.0, c.requires.2)
+
+pub slice_bounds-text-end : goal.slice_bounds-text-end
+slice_bounds-text-end c =
+    let at-lines = c.before.before.before.before.before in
+    let s = start at-lines in
+    omega (arith, at-lines.lines_end-h.ensures, lines_length-≤ head_lines s.args.s.now)
+
+pub text-requires : goal.text-requires
+text-requires c =
+    let at-lines = c.before.before.before.before.before.before in
+    room-left (less-left (parted at-lines) c.text-p.ensures) (room (start at-lines))
+
+pub returns : goal.returns
+returns c =
+    last-left (less-left (parted c.before.before.before.before.before.before.before.before.before) c.text-p.ensures) c.text.ensures

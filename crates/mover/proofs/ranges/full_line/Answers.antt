@@ -1,0 +1,36 @@
+-- The key, and the ranges if there are any. Assumes nothing.
+use mathlib.Core.List.{[], ◌∷◌}
+use Rattle.specification.specs.Bytes.{bytes}
+use Rattle.listing.proofs.Laws.Put.{Left, pieces-left, less-left, last-left, room-left}
+use Rattle.mover.specs.Model.{full_ranges, full_line}
+use Rattle.mover.proofs.Laws.Ranges.{line-none, line-some}
+use Rattle.mover.proofs.ranges.full_line.Goals as goal
+
+whole : (c : goal.Then-n-eq0) →
+    let a = c.args in
+    Left a.out-1.now a.at (full_line a.n) a.out-1.now a.at (bytes "ranges=\n" ∷ [])
+whole c = pieces-left _ _ _ (line-none c.args.n c.if-n-eq0.taken)
+
+parted : (c : goal.Else-n-eq0) →
+    let a = c.args in
+    Left a.out-1.now a.at (full_line a.n) a.out-1.now a.at (bytes "ranges=" ∷ full_ranges a.n ∷ [])
+parted c = pieces-left _ _ _ (line-some c.args.n c.if-n-eq0.left)
+
+pub text-requires : goal.text-requires
+text-requires c = room-left (whole c.before.before) c.pre
+
+pub returns-then-n-eq0 : goal.returns-then-n-eq0
+returns-then-n-eq0 c = last-left (whole c.before.before.before.before.before) c.text.ensures
+
+pub text-p-requires : goal.text-p-requires
+text-p-requires c = room-left (parted c.before.before) c.pre
+
+pub full_ranges-requires : goal.full_ranges-requires
+full_ranges-requires c =
+    let at-if1 = c.before.before.before.before.before.before in
+    room-left (less-left (parted at-if1) c.text-p.ensures) at-if1.pre
+
+pub returns : goal.returns
+returns c =
+    let at-if1 = c.before.before.before.before.before.before.before.before.before in
+    last-left (less-left (parted at-if1) c.text-p.ensures) c.full_ranges.ensures

@@ -1,0 +1,11 @@
+-- Up to the place that is reached every range is full. Assumes nothing.
+use mathlib.Core.Path.{◌≡◌}
+use lib.ListN.{drop}
+use Rattle.mover.specs.Model.{narrow_place}
+use Rattle.mover.proofs.ranges.narrow.Given as goal
+
+abbrev pub invariant-loop-left : goal.invariant-loop-left
+invariant-loop-left l = narrow_place l.at l.n (drop l.at l.s) ≡ narrow_place l.p l.left (drop l.p l.s)
+
+abbrev pub decreases-loop-left : goal.decreases-loop-left
+decreases-loop-left l = l.left

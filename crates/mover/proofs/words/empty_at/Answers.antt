@@ -1,0 +1,69 @@
+-- By what each code is. Assumes nothing.
+use Prim.Native.Nat.{◌+◌, ◌≤◌}
+use native.Mathlib.Omega.{arith}
+use mathlib.Core.Path.{◌≡◌, sym, ◌∙◌}
+use Rattle.tables.specs.Codes.{some_code, all_code, constant_code}
+use Rattle.mover.specs.Model.{token_code}
+use Rattle.mover.proofs.Laws.Words.{inside, empty-low, empty-high, lower-other, upper-other, empty-bounds}
+use Rattle.mover.proofs.words.empty_at.Goals as goal
+
+abbrev start : goal.Else-c-gt-ALL → goal.Start
+start c = c.before.before.before.before
+
+quantifier : (c : goal.Else-c-gt-ALL) →
+    let a = (start c).args in
+    (some_code ≤ token_code a.w.now a.i) × (token_code a.w.now a.i ≤ all_code)
+quantifier c =
+    (omega (arith, c.code-c.ensures, c.if-c-lt-SOME.false), omega (arith, c.code-c.ensures, c.if-c-gt-ALL.false))
+
+lower : (c : goal.Else-code-ne-CONSTANT) → let a = (start c.before.before).args in token_code a.w.now (a.i + 2) ≡ constant_code
+lower c = sym c.code.ensures ∙ c.if-code-ne-CONSTANT.false
+
+upper : (c : goal.Else-code-ne-CONSTANT-2) → let a = (start c.before.before.before.before).args in token_code a.w.now (a.i + 3) ≡ constant_code
+upper c = sym c.code-2.ensures ∙ c.if-code-ne-CONSTANT-2.false
+
+pub returns-then-c-lt-SOME : goal.returns-then-c-lt-SOME
+returns-then-c-lt-SOME c =
+    let a = c.args in
+    sym (empty-low a.w.now a.i (omega (arith, c.code-c.ensures, c.if-c-lt-SOME.true)))
+
+pub returns-then-c-gt-ALL : goal.returns-then-c-gt-ALL
+returns-then-c-gt-ALL c =
+    let a = c.args in
+    let e = c.code-c.ensures in
+    sym (empty-high a.w.now a.i (omega (arith, e, c.if-c-lt-SOME.false)) (omega (arith, e, c.if-c-gt-ALL.true)))
+
+pub returns-then-code-ne-CONSTANT : goal.returns-then-code-ne-CONSTANT
+returns-then-code-ne-CONSTANT c =
+    let a = (start c.before.before).args in
+    let q = quantifier c.before.before in
+    sym (lower-other a.w.now a.i q.0 q.1 (λ e. c.if-code-ne-CONSTANT.true (c.code.ensures ∙ e)))
+
+pub returns-then-code-ne-CONSTANT-2 : goal.returns-then-code-ne-CONSTANT-2
+returns-then-code-ne-CONSTANT-2 c =
+    let at-if3 = c.before.before in
+    let at-if2 = at-if3.before.before in
+    let a = (start at-if2).args in
+    let q = quantifier at-if2 in
+    sym (upper-other a.w.now a.i q.0 q.1 (lower at-if3) (λ e. c.if-code-ne-CONSTANT-2.true (c.code-2.ensures ∙ e)))
+
+pub operand-requires : goal.operand-requires
+operand-requires c =
+    let s = start c.before.before.before.before in
+    omega (arith, inside s.args.w.now (s.args.i + 3) (omega (arith, upper c)), s.pre.0)
+
+pub operand-requires-2 : goal.operand-requires-2
+operand-requires-2 c =
+    let at-if3 = c.before.before.before in
+    let s = start at-if3.before.before in
+    omega (arith, inside s.args.w.now (s.args.i + 2) (omega (arith, lower at-if3)), s.pre.0)
+
+pub returns : goal.returns
+returns c =
+    let at-if4 = c.before.before in
+    let at-if3 = at-if4.before.before in
+    let at-if2 = at-if3.before.before in
+    let a = (start at-if2).args in
+    let q = quantifier at-if2 in
+    sym (empty-bounds a.w.now a.i q.0 q.1 (lower at-if3) (upper at-if4)
+    ∙ rw (← c.operand.ensures, ← c.operand-2.ensures))

@@ -1,0 +1,39 @@
+-- `page::refusal_lines` meets its contract. Assumes nothing.
+use Prim.Native.Nat.{◌≤◌}
+use native.Mathlib.Omega.{arith}
+use mathlib.Core.Path.{refl}
+use mathlib.Core.List.{[], ◌∷◌}
+use lib.ListN.{length}
+use Rattle.specification.specs.Bytes.{bytes}
+use Rattle.specification.specs.Printed.{field_text, refusal_lines}
+use Rattle.listing.specs.Put.{Room}
+use Rattle.listing.proofs.Laws.Put.{Left, pieces-left, less-left, last-left, room-left}
+use Rattle.page.proofs.Lines.{refusal-bound}
+use Rattle.page.proofs.refusal_lines.Goals as goal
+
+-- the two lines
+parted : (c : goal.Start) →
+    let a = c.args in
+    Left a.lines-1.now 0 (refusal_lines a.number a.place) a.lines-1.now 0
+    (field_text (bytes "refused=") a.number ∷ field_text (bytes "at=") a.place ∷ [])
+parted c = pieces-left _ _ _ refl
+
+bound : (c : goal.Start) → length (refusal_lines c.args.number c.args.place) ≤ 43
+bound c = refusal-bound c.args.number c.args.place c.ranges.number.fits c.ranges.place.fits
+
+room : (c : goal.Start) → Room 0 (refusal_lines c.args.number c.args.place)
+room c = omega (arith, bound c)
+
+pub field-p-requires : goal.field-p-requires
+field-p-requires c = room-left (parted c.before.before.before) (room c.before.before.before)
+
+pub field-requires : goal.field-requires
+field-requires c =
+    let start = c.before.before.before.before.before.before.before.before in
+    room-left (less-left (parted start) c.field-p.ensures) (room start)
+
+pub returns : goal.returns
+returns c =
+    let start = c.before.before.before.before.before.before.before.before.before.before.before in
+    let p = last-left (less-left (parted start) c.field-p.ensures) c.field.ensures in
+    record { text = p; short = omega (arith, p.end, bound start) }

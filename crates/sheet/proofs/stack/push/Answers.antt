@@ -1,0 +1,72 @@
+-- By the sort that was due. Assumes nothing.
+use Prim.Native.Nat.{◌<◌}
+use native.Mathlib.Omega.{arith}
+use Rattle.sheet.specs.Sorts.{procedure_sort}
+use Rattle.sheet.proofs.Opened.{opened-ex, opened-range}
+use Rattle.sheet.proofs.stack.push.Goals as goal
+
+abbrev start : goal.Else-e-le-UPPER → goal.Start
+start c = c.before.before.before
+
+abbrev past-terms : goal.Else-e-eq-BOUNDS → goal.Else-e-le-UPPER
+past-terms c = c.before.before
+
+abbrev past-bounds : goal.Else-e-eq-PROCEDURE → goal.Else-e-eq-BOUNDS
+past-bounds c = c.before.before
+
+abbrev binder : goal.After-put → goal.Else-e-eq-PROCEDURE
+binder c = c.before.before.before
+
+abbrev first : goal.Else-e-eq-PROCEDURE → goal.Start
+first c = start (past-terms (past-bounds c))
+
+-- the local of a binder is due
+is-local : (c : goal.Else-e-eq-PROCEDURE) → procedure_sort < (first c).args.e.sort
+is-local c = let q = past-bounds c in omega (arith, (past-terms q).if1.left, q.if-e-eq-BOUNDS.left, c.if-e-eq-PROCEDURE.false)
+
+pub push_operands-requires : goal.push_operands-requires
+push_operands-requires c =
+    let h = c.requires in
+    let few = c.if-e-le-UPPER.true in
+    (h.4 (omega arith), h.1, h.2, few, h.5.word (omega arith))
+
+pub returns-then-e-le-UPPER : goal.returns-then-e-le-UPPER
+returns-then-e-le-UPPER c = c.push_operands.ensures
+
+pub push_bounds-requires : goal.push_bounds-requires
+push_bounds-requires c =
+    let h = (start c.before.before.before).requires in
+    let is = c.if-e-eq-BOUNDS.true in
+    (h.0, h.1, h.2, is, h.5.word (omega arith))
+
+pub returns-then-e-eq-BOUNDS : goal.returns-then-e-eq-BOUNDS
+returns-then-e-eq-BOUNDS c = c.push_bounds.ensures
+
+pub push_arguments-requires : goal.push_arguments-requires
+push_arguments-requires c =
+    let h = (start (past-terms c.before.before.before)).requires in
+    let is = c.if-e-eq-PROCEDURE.true in
+    (h.4 (omega arith), h.1, is, h.5.number is)
+
+pub returns-then-e-eq-PROCEDURE : goal.returns-then-e-eq-PROCEDURE
+returns-then-e-eq-PROCEDURE c = c.push_arguments.ensures
+
+pub with-requires : goal.with-requires
+with-requires c = (first c).requires.3 (is-local c)
+
+pub returns-then-e-eq-EX_LOCAL : goal.returns-then-e-eq-EX_LOCAL
+returns-then-e-eq-EX_LOCAL c =
+    let put = c.before.before.before.before in
+    let bound = put.with in
+    let h = first (binder put) in
+    let a = h.args in
+    rw put.put.ensures (opened-ex a.w-1.now a.n a.e a.t h.pre.0 h.pre.1 bound.result bound.ensures c.if-e-eq-EX_LOCAL.true)
+
+pub returns : goal.returns
+returns c =
+    let put = c.before.before.before.before.before.before.before.before in
+    let bound = put.with in
+    let h = first (binder put) in
+    let a = h.args in
+    rw (c.put-2.ensures, put.put.ensures)
+    (opened-range a.w-1.now a.n a.e a.t h.pre.0 h.pre.1 bound.result bound.ensures (is-local (binder put)) c.if-e-eq-EX_LOCAL.false)

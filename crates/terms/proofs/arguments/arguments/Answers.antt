@@ -1,0 +1,51 @@
+-- `arguments::arguments` meets its contract. The invariant: the arguments passed have their slots. The measure: the tokens left. Assumes nothing.
+use Prim.Native.Nat.{◌-◌}
+use native.Mathlib.Omega.{arith}
+use native.Mathlib.Numerals.{add-one}
+use Rattle.terms.proofs.Laws.Filling.{filling-start, filling-few, filling-token, filling-argues, filling-next, filling-end}
+use Rattle.terms.proofs.Laws.Filling.{arrives-inside}
+use Rattle.terms.proofs.arguments.arguments.Goals as goal
+
+pub overflow_add-number : goal.overflow_add-number
+overflow_add-number c = omega (arith, arrives-inside c.requires)
+
+pub end-to-requires : goal.end-to-requires
+end-to-requires c = omega (arith, arrives-inside c.requires)
+
+pub overflow_add-i : goal.overflow_add-i
+overflow_add-i c = omega (arith, arrives-inside c.requires)
+
+pub loop-i-init : goal.loop-i-init
+loop-i-init c = rw (add-one, add-one) (filling-start _ _ _ _ _ (rw add-one at c.end-to.ensures))
+
+pub end-e-requires : goal.end-e-requires
+end-e-requires c =
+    omega (arith, (filling-token c.loop-i.invariant c.loop-i-test.true c.requires).0, c.loop-i.invariant.size, arrives-inside c.requires)
+
+pub argument-requires : goal.argument-requires
+argument-requires c =
+    omega (arith, filling-few c.loop-i.invariant c.loop-i-test.true c.requires, arrives-inside c.requires)
+
+pub argue-is-requires : goal.argue-is-requires
+argue-is-requires c =
+    filling-argues c.loop-i.invariant c.loop-i-test.true c.requires c.end-e.ensures c.argument.ensures
+
+pub note-set-requires : goal.note-set-requires
+note-set-requires c =
+    filling-few c.loop-i.invariant c.loop-i-test.true c.requires
+
+pub overflow_add-n : goal.overflow_add-n
+overflow_add-n c =
+    omega (arith, filling-few c.loop-i.invariant c.loop-i-test.true c.requires)
+
+pub loop-i-smaller : goal.loop-i-smaller
+loop-i-smaller c =
+    omega (arith, (filling-token c.loop-i.invariant c.loop-i-test.true c.requires).1, c.end-e.ensures, c.loop-i-test.true)
+
+pub loop-i-preserved : goal.loop-i-preserved
+loop-i-preserved c =
+    filling-next c.loop-i.invariant c.loop-i-test.true c.requires c.end-e.ensures c.argument.ensures
+    c.argue-is.ensures c.note-set.ensures
+
+pub returns : goal.returns
+returns c = filling-end c.loop-i.invariant c.loop-i-test.false

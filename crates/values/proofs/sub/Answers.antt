@@ -1,0 +1,18 @@
+-- `values::sub` meets its contract: 64 bits hold the difference exactly. Assumes nothing.
+use mathlib.Core.Path.{◌∙◌, ap}
+use lib.IntN.{ℤ, ◌-ℤ◌}
+use Rattle.specification.specs.Arithmetic.{fit}
+use Rattle.values.specs.Packed.{packed}
+use Rattle.values.proofs.Laws.Exact.{Operands, result_fits, result-read, exact-difference}
+use Rattle.values.proofs.sub.Goals as goal
+
+operands : (c : goal.After-widen-2) → Operands c.args.x c.args.y c.widen.result c.widen-2.result
+operands c =
+    record { left_word = c.ranges.x.fits; right_word = c.ranges.y.fits; left = c.widen.ensures; right = c.widen-2.ensures }
+
+pub overflow_sub-widen : goal.overflow_sub-widen
+overflow_sub-widen c = result_fits (operands c) ◌-ℤ◌ exact-difference
+
+pub returns : goal.returns
+returns c =
+    c.pack.ensures ∙ ap (λ (z : ℤ). packed (fit z)) (result-read (operands c.before) ◌-ℤ◌ exact-difference)

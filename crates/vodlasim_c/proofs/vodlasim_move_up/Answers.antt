@@ -1,0 +1,10 @@
+-- `vodlasim_c::vodlasim_move_up` meets its contract: `vodlasim::move_up` says all of it but the numbers, which `move_numbers` makes of what it
+-- returns.
+use mathlib.Core.Path.{ap, ◌∙◌}
+use Rattle.specification.specs.Report.{move_report}
+use Rattle.vodlasim_c.proofs.vodlasim_move_up.Goals as goal
+
+pub returns : goal.returns
+returns c =
+    let answered = c.move_up-moved.ensures in
+    record { report = c.move_numbers.ensures ∙ ap move_report answered.result; output = answered.output-1; work = answered.work-1 }

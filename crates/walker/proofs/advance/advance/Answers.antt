@@ -1,0 +1,40 @@
+-- `advance::advance` meets its contract: a visit is due, or the loop is left.
+use native.Mathlib.Omega.{arith}
+use mathlib.Core.Path.{refl, ◌∙◌}
+use Rattle.walker.proofs.Laws.Loops.{going-due, going-sim, going-up, going_next, turns-fall}
+use Rattle.walker.proofs.advance.advance.Goals as goal
+
+pub loop-q-init : goal.loop-q-init
+loop-q-init c = (refl, omega arith, λ x b s i. i)
+
+pub turn-q-requires : goal.turn-q-requires
+turn-q-requires c =
+    let a = c.requires in
+    let m = c.loop-q-test.true in
+    record { c = a.c; b = a.b; set = a.set; mode = m; due = going-due (c.loop-q.invariant.2 a.c a.b a.set a.going) m }
+
+pub loop-q-smaller : goal.loop-q-smaller
+loop-q-smaller c = turns-fall c.loop-q-test.true c.turn-q.ensures
+
+pub loop-q-preserved : goal.loop-q-preserved
+loop-q-preserved c =
+    let v = c.loop-q.invariant in (
+      c.turn-q.auto.0 ∙ v.0,
+      omega (arith, v.1, c.turn-q.ensures.least),
+      λ x b s i. going_next s c.turn-q.ensures (going-due (v.2 x b s i) c.loop-q-test.true),
+    )
+
+pub shape_of-w : goal.shape_of-w
+shape_of-w c = c.loop-q.invariant.0
+
+pub returns : goal.returns
+returns c =
+    let a = c.requires in
+    let v = c.loop-q.invariant in
+    let over = c.loop-q-test.false in
+    record {
+      sim = λ x b s i. going-sim (v.2 x b s i) over;
+      over = over;
+      stops = going-up (v.2 a.c a.b a.set a.going);
+      least = v.1;
+    }

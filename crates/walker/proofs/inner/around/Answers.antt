@@ -1,0 +1,21 @@
+-- `inner::around` meets its contract.
+use native.Mathlib.Omega.{arith}
+use Rattle.walker.proofs.Laws.Back.{around-is, around_depth}
+use Rattle.walker.proofs.Laws.Reach.{asks-lies}
+use Rattle.walker.proofs.inner.around.Goals as goal
+
+pub at-inner-requires : goal.at-inner-requires
+at-inner-requires c = let r = (asks-lies (c.requires).asks).reach in omega (arith, r.low, r.high)
+
+pub at-bad-requires : goal.at-bad-requires
+at-bad-requires c = let r = (asks-lies (c.requires).asks).reach in omega (arith, r.low, r.high)
+
+pub at-depth-requires : goal.at-depth-requires
+at-depth-requires c = let r = (asks-lies (c.requires).asks).reach in omega (arith, r.low, r.high)
+
+pub resumed-requires : goal.resumed-requires
+resumed-requires c = (around_depth c.requires c.at-depth.ensures, (c.requires).visits)
+
+pub returns : goal.returns
+returns c =
+    around-is c.args.w.now c.args.g c.args.path c.args.budget (c.requires).high c.at-inner.ensures c.at-bad.ensures c.at-depth.ensures c.resumed.ensures

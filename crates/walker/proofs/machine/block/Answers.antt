@@ -1,0 +1,63 @@
+-- `machine::block` meets its contract: skipped, written or without room.
+use native.Mathlib.Omega.{arith}
+use Rattle.walker.proofs.Laws.Blocks.{ leaf-due, head-due, listing-ready, start-inside, blocked-skipped, blocked-written, blocked-full, written-inside, told,
+use Rattle.walker.proofs.machine.block.Goals as goal
+
+}
+use Rattle.walker.proofs.machine.block.Statement.{statement}
+use Rattle.walker.proofs.machine.block.Tie as tie
+
+pub overflow_add-t : goal.overflow_add-t
+overflow_add-t c =
+    omega (arith, (leaf-due c.requires).leaves)
+
+pub passed-requires : goal.passed-requires
+passed-requires c =
+    leaf-due c.requires
+
+pub returns-then-t-task : goal.returns-then-t-task
+returns-then-t-task c =
+    blocked-skipped c.requires c.passed.ensures c.state.ensures.0 c.state.ensures.1 c.if-t-task.true
+
+pub head-h-requires : goal.head-h-requires
+head-h-requires c =
+    head-due c.requires
+
+pub slice_bounds-rest-count : goal.slice_bounds-rest-count
+slice_bounds-rest-count c =
+    omega (arith, start-inside c.requires)
+
+pub slice_bounds-rest-start : goal.slice_bounds-rest-start
+slice_bounds-rest-start c =
+    omega (arith, start-inside c.requires)
+
+pub slice_bounds-rest-end : goal.slice_bounds-rest-end
+slice_bounds-rest-end c =
+    omega (arith, start-inside c.requires)
+
+pub write-requires : goal.write-requires
+write-requires c =
+    listing-ready c.requires
+
+pub full-requires : goal.full-requires
+full-requires c =
+    (leaf-due c.requires).visits
+
+pub passed-requires-in-Bytes : goal.passed-requires-in-Bytes
+passed-requires-in-Bytes c =
+    leaf-due c.requires
+
+pub overflow_add-written : goal.overflow_add-written
+overflow_add-written c =
+    let listed = told _ _ _ _ c.head-h.ensures c.in-Bytes.is c.write.ensures in
+    omega (arith, written-inside c.requires c.n-1.given.0.0 listed, c.well_formed.1.0.0)
+
+pub returns-in-Full : goal.returns-in-Full
+returns-in-Full c =
+    let listed = told _ _ _ _ c.head-h.ensures c.in-Full.is c.write.ensures in
+    blocked-full c.requires c.if-t-task.false c.full.ensures c.state-in-Full.ensures.0 c.state-in-Full.ensures.1 listed
+
+pub returns-in-Bytes : goal.returns-in-Bytes
+returns-in-Bytes c =
+    let listed = told _ _ _ _ c.head-h.ensures c.in-Bytes.is c.write.ensures in
+    blocked-written c.requires c.if-t-task.false c.n-1.given.0.0 c.passed-in-Bytes.ensures c.state-in-Bytes.ensures.0 c.state-in-Bytes.ensures.1 listed
