@@ -4,9 +4,10 @@ use borrow.Author.Tests.{not-true, not-false}
 use Rattle.console.specs.Went.{Went}
 use Rattle.console.proofs.Went.{part-went, cut-first, whole-first}
 use Rattle.console.proofs.write_page.Goals as goal
+use Rattle.console.proofs.write_page.Goals.{After-write-first}
 
 -- what is known of the two writes
-listing-went : (c : goal.After-write-first) → let start = c.before.before.before.before in Went start.args.listing c.write-first.result
+listing-went : (c : After-write-first) → let start = c.before.before.before.before in Went start.args.listing c.write-first.result
 listing-went c =
     let start = c.before.before.before.before in
     part-went start.args.listing start.args.output.now start.requires.0 c.write-first.ensures
@@ -20,7 +21,7 @@ closing-went c =
     part-went start.args.closing start.args.lines.now start.requires.1 c.write-second.ensures
 
 pub returns-then-not-first : goal.returns-then-not-first
-returns-then-not-first c = cut-first _ (listing-went c.before.before) (not-true _ c.if-not-first.true)
+returns-then-not-first c = cut-first _ (listing-went (goal.at.returns-then-not-first c).After-write-first) (c.if-not-first.true)
 
 pub overflow_add-result : goal.overflow_add-result
 overflow_add-result c =
@@ -32,4 +33,4 @@ pub returns : goal.returns
 returns c =
     let at-write2 = c.before.before in
     let at-write = at-write2.before.before.before.before in
-    whole-first (listing-went at-write) (not-false _ at-write2.if-not-first.false) (closing-went at-write2)
+    whole-first (listing-went at-write) (at-write2.if-not-first.false) (closing-went at-write2)

@@ -9,11 +9,12 @@ use Rattle.mover.proofs.Laws.Lines.{lines_length-≤}
 use Rattle.mover.proofs.Laws.Chunks.{part}
 use Rattle.mover.proofs.Laws.Texts.{head-pieces, head-short}
 use Rattle.mover.proofs.head.Goals as goal
+use Rattle.mover.proofs.head.Goals.{After-lines_end-h}
 
 abbrev start : goal.After-lines_end-h → goal.Start
 start c = c.before.before.before.before
 
-parted : (c : goal.After-lines_end-h) →
+parted : (c : After-lines_end-h) →
     let a = (start c).args in
     Left a.out-1.now 0 (a.edition.now ++ head_rest a.s.now) a.out-1.now 0
     (a.edition.now ∷ part 10 c.lines_end-h.result a.s.now ∷ [])
@@ -40,4 +41,4 @@ text-requires c =
 
 pub returns : goal.returns
 returns c =
-    last-left (less-left (parted c.before.before.before.before.before.before.before.before.before) c.text-p.ensures) c.text.ensures
+    last-left (less-left (parted (goal.at.returns c).After-lines_end-h) c.text-p.ensures) c.text.ensures

@@ -9,11 +9,12 @@ use Rattle.listing.proofs.Laws.Put.{Left, pieces-left, less-left, last-left, roo
 use Rattle.mover.specs.Model.{head_lines, rest_text, tidy_text}
 use Rattle.mover.proofs.Laws.Texts.{tidy-pieces, tidy-short}
 use Rattle.mover.proofs.tidy_text.Goals as goal
+use Rattle.mover.proofs.tidy_text.Goals.{After-lines_end-k}
 
 abbrev start : goal.After-lines_end-k → goal.Start
 start c = c.before.before.before.before
 
-parted : (c : goal.After-lines_end-k) →
+parted : (c : After-lines_end-k) →
     let a = (start c).args in
     let s = a.s.now in
     Left a.out-1.now 0 (tidy_text a.w.now s) a.out-1.now 0
@@ -36,4 +37,4 @@ rest-requires c =
 
 pub returns : goal.returns
 returns c =
-    last-left (less-left (parted c.before.before.before.before.before.before.before.before.before) c.text-p.ensures) c.rest.ensures
+    last-left (less-left (parted (goal.at.returns c).After-lines_end-k) c.text-p.ensures) c.rest.ensures

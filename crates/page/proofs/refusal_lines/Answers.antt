@@ -10,22 +10,23 @@ use Rattle.listing.specs.Put.{Room}
 use Rattle.listing.proofs.Laws.Put.{Left, pieces-left, less-left, last-left, room-left}
 use Rattle.page.proofs.Lines.{refusal-bound}
 use Rattle.page.proofs.refusal_lines.Goals as goal
+use Rattle.page.proofs.refusal_lines.Goals.{Start}
 
 -- the two lines
-parted : (c : goal.Start) →
+parted : (c : Start) →
     let a = c.args in
     Left a.lines-1.now 0 (refusal_lines a.number a.place) a.lines-1.now 0
     (field_text (bytes "refused=") a.number ∷ field_text (bytes "at=") a.place ∷ [])
 parted c = pieces-left _ _ _ refl
 
-bound : (c : goal.Start) → length (refusal_lines c.args.number c.args.place) ≤ 43
+bound : (c : Start) → length (refusal_lines c.args.number c.args.place) ≤ 43
 bound c = refusal-bound c.args.number c.args.place c.ranges.number.fits c.ranges.place.fits
 
-room : (c : goal.Start) → Room 0 (refusal_lines c.args.number c.args.place)
+room : (c : Start) → Room 0 (refusal_lines c.args.number c.args.place)
 room c = omega (arith, bound c)
 
 pub field-p-requires : goal.field-p-requires
-field-p-requires c = room-left (parted c.before.before.before) (room c.before.before.before)
+field-p-requires c = room-left (parted (goal.at.field-p-requires c).Start) (room (goal.at.field-p-requires c).Start)
 
 pub field-requires : goal.field-requires
 field-requires c =

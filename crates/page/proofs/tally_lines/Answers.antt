@@ -8,9 +8,10 @@ use Rattle.listing.specs.Put.{Room}
 use Rattle.listing.proofs.Laws.Put.{Left, pieces-left, less-left, last-left, room-left}
 use Rattle.page.proofs.Lines.{tally_pieces, tally-bound}
 use Rattle.page.proofs.tally_lines.Goals as goal
+use Rattle.page.proofs.tally_lines.Goals.{Start}
 
 -- the four lines
-parted : (c : goal.Start) →
+parted : (c : Start) →
     let a = c.args in
     Left a.lines-1.now a.at (tally_lines a.t) a.lines-1.now a.at (tally_pieces a.t)
 parted c = pieces-left _ _ _ refl
@@ -34,7 +35,7 @@ abbrev third : goal.After-field → goal.After-field-s
 third c = c.before.before.before.before.before.before
 
 pub field-p-requires : goal.field-p-requires
-field-p-requires c = room-left (parted c.before.before.before.before) (room c)
+field-p-requires c = room-left (parted (goal.at.field-p-requires c).Start) (room c)
 
 pub field-q-requires : goal.field-q-requires
 field-q-requires c =

@@ -8,7 +8,7 @@ pub returns-then-unsent-gt0 : goal.returns-then-unsent-gt0
 returns-then-unsent-gt0 c =
     let p = c.args.port in
     let u = c.args.unsent.now in
-    let taken = sym c.takes.ensures ∙ c.if1.true in
+    let taken = sym c.takes.ensures ∙ c.if-takes.true in
     let case = step-sends p u taken (ltb-true 0 (length u) c.if-unsent-gt0.true) in
     steps_of p u _ _ case (c.send.ensures ∙ rw c.acknowledge-seen.ensures) refl refl
 
@@ -20,5 +20,5 @@ returns c =
     ⊎_elim
     (λ h. step-empty p u (omega (arith, ltb-false 0 (length u) h.1.left)))
     (λ h. step-idle p u (sym c.takes.ensures ∙ h.left))
-    c.if1.branch in
+    c.else-takes.either in
     steps_of p u (idle p u) _ nothing c.acknowledge-seen.ensures refl refl

@@ -10,6 +10,7 @@ use Rattle.text.specs.Decimal.{capped, read_on}
 use Rattle.text.proofs.Laws.Class.{in-yes, in-no}
 use Rattle.text.proofs.Laws.Decimal.{digit-more, digit-none, digit-out}
 use Rattle.text.proofs.digits.Goals as goal
+use Rattle.text.proofs.digits.Goals.{Else-class-ne-DIGIT}
 
 pub returns-then-class-ne-DIGIT : goal.returns-then-class-ne-DIGIT
 unfolding class_number
@@ -18,7 +19,7 @@ returns-then-class-ne-DIGIT c =
 
 -- what `class` said of the byte
 is_digit :
-    (c : goal.Else-class-ne-DIGIT) → is_in digit (get_or c.args.s.now c.loop-i.i 0) ≡ true
+    (c : Else-class-ne-DIGIT) → is_in digit (get_or c.args.s.now c.loop-i.i 0) ≡ true
 unfolding class_number
 is_digit c = in-yes digit _ _ c.class.ensures c.if-class-ne-DIGIT.false
 
@@ -31,7 +32,7 @@ loop-i-preserved c =
     let i = c.loop-i.i in
     let n = c.loop-i.n in (
       omega arith,
-      c.loop-i.invariant.1 ∙ digit-more s i n c.loop-i-test.true (is_digit c.before)
+      c.loop-i.invariant.1 ∙ digit-more s i n c.loop-i-test.true (is_digit (goal.at.loop-i-preserved c).Else-class-ne-DIGIT)
           ∙ ap (λ (k : ℕ). capped (read_on k (drop (i + 1) s))) (sym c.grown-n.ensures),
     )
 

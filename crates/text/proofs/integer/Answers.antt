@@ -9,9 +9,10 @@ use Rattle.text.specs.Decimal.{plain_word, minus_word, worded}
 use Rattle.text.proofs.Laws.Class.{class-inside}
 use Rattle.text.proofs.Laws.Decimal.{integer-minus, integer-plain, worded-plain, worded-minus}
 use Rattle.text.proofs.integer.Goals as goal
+use Rattle.text.proofs.integer.Goals.{Then-class_at-eq-MINUS}
 
 -- what `class_at` said of the first byte
-is-minus : (c : goal.Then-class_at-eq-MINUS) → class_at c.args.n.now 0 ≡ class_number minus
+is-minus : (c : Then-class_at-eq-MINUS) → class_at c.args.n.now 0 ≡ class_number minus
 unfolding class_number
 is-minus c = sym c.class_at.ensures ∙ c.if-class_at-eq-MINUS.true
 
@@ -23,10 +24,9 @@ slice_bounds-natural-start c = class-inside _ 0 minus (is-minus c)
 
 pub returns-then-class_at-eq-MINUS : goal.returns-then-class_at-eq-MINUS
 returns-then-class_at-eq-MINUS c =
-    let led = c.before.before.before in
-    let s = led.args.n.now in
+    let s = c.args.n.now in
     c.minus_word.ensures ∙ ap minus_word c.natural.ensures ∙ sym (worded-minus (natural (take (length s - 1) (drop 1 s))))
-    ∙ ap worded (sym (integer-minus s (is-minus led)))
+    ∙ ap worded (sym (integer-minus s (is-minus (goal.at.returns-then-class_at-eq-MINUS c).Then-class_at-eq-MINUS)))
 
 pub returns : goal.returns
 unfolding class_number

@@ -6,9 +6,9 @@ use Rattle.text.proofs.Laws.Decimal.{natural-unheaded, natural-headed}
 use Rattle.text.proofs.natural.Goals as goal
 
 pub returns-then-not-headed : goal.returns-then-not-headed
-returns-then-not-headed c = ap capped (sym (natural-unheaded _ (sym c.headed.ensures ∙ not-true _ c.if-not-headed.true)))
+returns-then-not-headed c = ap capped (sym (natural-unheaded _ (sym c.headed.ensures ∙ c.if-not-headed.true)))
 
 pub returns : goal.returns
 returns c =
-    let led = sym c.headed.ensures ∙ not-false _ c.if-not-headed.false in
+    let led = sym c.headed.ensures ∙ c.if-not-headed.false in
     c.digits.ensures ∙ ap capped (sym (natural-headed _ led))

@@ -6,8 +6,9 @@ use Rattle.values.proofs.Laws.Packed.{divided-zero, divided-other}
 use Rattle.values.proofs.Laws.Exact.{Operands}
 use Rattle.values.proofs.Laws.Floor.{narrow, modulus-read}
 use Rattle.values.proofs.modulus.Goals as goal
+use Rattle.values.proofs.modulus.Goals.{After-widen-2}
 
-operands : (c : goal.After-widen-2) → Operands c.args.x c.args.y c.widen.result c.widen-2.result
+operands : (c : After-widen-2) → Operands c.args.x c.args.y c.widen.result c.widen-2.result
 operands c =
     record { left_word = c.ranges.x.fits; right_word = c.ranges.y.fits; left = c.widen.ensures; right = c.widen-2.ensures }
 
@@ -19,5 +20,5 @@ rounded-requires c = narrow (operands c) c.if-y-eq-ZERO.false
 
 pub returns : goal.returns
 returns c =
-    let read = modulus-read (operands c.before.before.before) c.if-y-eq-ZERO.false c.rounded.result c.rounded.ensures in
+    let read = modulus-read (operands (goal.at.returns c).After-widen-2) c.if-y-eq-ZERO.false c.rounded.result c.rounded.ensures in
     c.pack.ensures ∙ ap packed (ap fit read ∙ sym (divided-other c.args.y _ c.if-y-eq-ZERO.false))

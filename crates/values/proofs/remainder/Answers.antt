@@ -8,8 +8,9 @@ use Rattle.values.specs.Packed.{packed}
 use Rattle.values.proofs.Laws.Packed.{divided-zero, divided-other}
 use Rattle.values.proofs.Laws.Exact.{Operands, result_fits, result-read, divisor-nonzero, exact-quotient, exact-remainder}
 use Rattle.values.proofs.remainder.Goals as goal
+use Rattle.values.proofs.remainder.Goals.{After-widen-2}
 
-operands : (c : goal.After-widen-2) → Operands c.args.x c.args.y c.widen.result c.widen-2.result
+operands : (c : After-widen-2) → Operands c.args.x c.args.y c.widen.result c.widen-2.result
 operands c =
     record { left_word = c.ranges.x.fits; right_word = c.ranges.y.fits; left = c.widen.ensures; right = c.widen-2.ensures }
 
@@ -22,5 +23,5 @@ nonzero_rem-widen c = (divisor-nonzero (operands c) c.if-y-eq-ZERO.false, result
 pub returns : goal.returns
 returns c =
     let left = remainder_is (signed c.args.x) (signed c.args.y) in
-    let read = result-read (operands c.before) rem_z exact-remainder ∙ sym left in
+    let read = result-read (operands (goal.at.returns c).After-widen-2) rem_z exact-remainder ∙ sym left in
     c.pack.ensures ∙ ap packed (ap fit read ∙ sym (divided-other c.args.y _ c.if-y-eq-ZERO.false))

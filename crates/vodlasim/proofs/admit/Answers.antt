@@ -9,27 +9,27 @@ use Rattle.vodlasim.proofs.admit.Goals as goal
 pub returns-then-not-room : goal.returns-then-not-room
 returns-then-not-room c =
     let a = c.args in
-    let none = sym c.room.ensures ∙ not-true _ c.if-not-room.true in
+    let none = sym c.room.ensures ∙ c.if-not-room.true in
     let e = first-refused a.strict a.edition a.sheet.now (length a.work-1.now) a.size none in
     (sym (ap reading_of e), c.clear.ensures ∙ sym (ap (words_of (length a.work-1.now)) e))
 
 pub returns-then-sheet-gt-LONGEST_SHEET : goal.returns-then-sheet-gt-LONGEST_SHEET
 returns-then-sheet-gt-LONGEST_SHEET c =
     let a = c.args in
-    let enough = sym c.room.ensures ∙ not-false _ c.if-not-room.false in
+    let enough = sym c.room.ensures ∙ c.if-not-room.false in
     let long = lt-leb (length a.sheet.now) 4096 c.if-sheet-gt-LONGEST_SHEET.true in
     let e = second-refused a.strict a.edition a.sheet.now (length a.work-1.now) a.size enough long in
     (sym (ap reading_of e), c.clear-then-sheet-gt-LONGEST_SHEET.ensures ∙ sym (ap (words_of (length a.work-1.now)) e))
 
 pub read_only-requires : goal.read_only-requires
 read_only-requires c =
-    let enough = sym c.room.ensures ∙ not-false _ c.if-not-room.false in
+    let enough = sym c.room.ensures ∙ c.if-not-room.false in
     (c.requires, words-enough (length c.args.work.now) c.args.size enough)
 
 pub returns : goal.returns
 returns c =
     let a = c.args in
-    let enough = sym c.room.ensures ∙ not-false _ c.if-not-room.false in
+    let enough = sym c.room.ensures ∙ c.if-not-room.false in
     let short = le-leb (length a.sheet.now) 4096 c.if-sheet-gt-LONGEST_SHEET.false in
     let e = reads_only a.strict a.edition a.sheet.now (length a.work-1.now) a.size enough short in
     (c.read_only.ensures.0 ∙ sym (ap reading_of e), c.read_only.ensures.1 ∙ sym (ap (words_of (length a.work-1.now)) e))

@@ -9,27 +9,27 @@ use Rattle.vodlasim.proofs.run.Goals as goal
 pub returns-then-not-enough : goal.returns-then-not-enough
 returns-then-not-enough c =
     let a = c.args in
-    let enough = sym c.enough.ensures ∙ not-true _ c.if-not-enough.true in
+    let enough = sym c.enough.ensures ∙ c.if-not-enough.true in
     refused-answers a.sheet.now a.setting a.work-1.now _ a.output-1.now 1 0
     (first-refused a.sheet.now a.setting (length a.work-1.now) (length a.output-1.now) enough) c.clear.ensures
 
 pub returns-then-sheet-gt-LONGEST_SHEET : goal.returns-then-sheet-gt-LONGEST_SHEET
 returns-then-sheet-gt-LONGEST_SHEET c =
     let a = c.args in
-    let enough = sym c.enough.ensures ∙ not-false _ c.if-not-enough.false in
+    let enough = sym c.enough.ensures ∙ c.if-not-enough.false in
     refused-answers a.sheet.now a.setting a.work-1.now _ a.output-1.now 2 4096
     (second-refused a.sheet.now a.setting (length a.work-1.now) (length a.output-1.now) enough
     (lt-leb (length a.sheet.now) 4096 c.if-sheet-gt-LONGEST_SHEET.true)) c.clear-then-sheet-gt-LONGEST_SHEET.ensures
 
 pub read_sheet-requires : goal.read_sheet-requires
 read_sheet-requires c =
-    let (limit, size) = memory-of c.args.setting.path (length c.args.work.now) (sym c.enough.ensures ∙ not-false _ c.if-not-enough.false) in
+    let (limit, size) = memory-of c.args.setting.path (length c.args.work.now) (sym c.enough.ensures ∙ c.if-not-enough.false) in
     omega (arith, size)
 
 pub walk_tables-outcome-requires : goal.walk_tables-outcome-requires
 walk_tables-outcome-requires c =
     let a = c.args in
-    let enough = sym c.enough.ensures ∙ not-false _ c.if-not-enough.false in
+    let enough = sym c.enough.ensures ∙ c.if-not-enough.false in
     let read = c.read_sheet.ensures in
     let (limit, size) = memory-of a.setting.path (length a.work-1.now) enough in
     readied a.sheet.now a.setting (length a.work-1.now) limit size _ _ _ _ _ (sym c.in-Read.is ∙ read.0) read.1
@@ -37,7 +37,7 @@ walk_tables-outcome-requires c =
 pub returns-in-Refused : goal.returns-in-Refused
 returns-in-Refused c =
     let a = c.args in
-    let enough = sym c.enough.ensures ∙ not-false _ c.if-not-enough.false in
+    let enough = sym c.enough.ensures ∙ c.if-not-enough.false in
     let read = c.read_sheet.ensures in
     unread-answers a.sheet.now a.setting a.work-1.now _ a.output-1.now enough
     (le-leb (length a.sheet.now) 4096 c.if-sheet-gt-LONGEST_SHEET.false) _ _
@@ -46,7 +46,7 @@ returns-in-Refused c =
 pub returns-in-Read : goal.returns-in-Read
 returns-in-Read c =
     let a = c.args in
-    let enough = sym c.enough.ensures ∙ not-false _ c.if-not-enough.false in
+    let enough = sym c.enough.ensures ∙ c.if-not-enough.false in
     let read = c.read_sheet.ensures in
     walk-answers a.sheet.now a.setting a.work-1.now _ a.output-1.now enough
     (le-leb (length a.sheet.now) 4096 c.if-sheet-gt-LONGEST_SHEET.false) _ _ _ _ _ _ _ _

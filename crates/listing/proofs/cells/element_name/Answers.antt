@@ -6,9 +6,10 @@ use Rattle.specification.specs.Listing.{cell_label, label_text}
 use Rattle.listing.proofs.Laws.Put.{Left, pieces-left, less-left, last-left, room-left}
 use Rattle.listing.proofs.Laws.Pieces.{element-pieces}
 use Rattle.listing.proofs.cells.element_name.Goals as goal
+use Rattle.listing.proofs.cells.element_name.Goals.{Start}
 
 -- the name's pieces
-parted : (c : goal.Start) →
+parted : (c : Start) →
     let a = c.args in
     Left a.out-1.now a.at (label_text (cell_label (element a.a a.e))) a.out-1.now a.at
     ((97 ∷ []) ∷ printℕ a.a ∷ (46 ∷ []) ∷ printℕ a.e ∷ [])
@@ -25,7 +26,7 @@ numbered c =
     less-left (less-left (parted at_byte.before.before.before) at_byte.byte-p.ensures) c.number-q.ensures
 
 pub byte-p-requires : goal.byte-p-requires
-byte-p-requires c = room-left (parted c.before.before) c.requires
+byte-p-requires c = room-left (parted (goal.at.byte-p-requires c).Start) c.requires
 
 pub number-q-requires : goal.number-q-requires
 number-q-requires c =

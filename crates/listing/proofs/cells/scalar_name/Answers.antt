@@ -6,15 +6,16 @@ use Rattle.specification.specs.Listing.{cell_label, label_text}
 use Rattle.listing.proofs.Laws.Put.{Left, pieces-left, less-left, last-left, room-left}
 use Rattle.listing.proofs.Laws.Pieces.{scalar-pieces}
 use Rattle.listing.proofs.cells.scalar_name.Goals as goal
+use Rattle.listing.proofs.cells.scalar_name.Goals.{Start}
 
 -- the name's pieces
-parted : (c : goal.Start) →
+parted : (c : Start) →
     let a = c.args in
     Left a.out-1.now a.at (label_text (cell_label (scalar a.n))) a.out-1.now a.at ((118 ∷ []) ∷ printℕ a.n ∷ [])
 parted c = pieces-left _ _ _ (scalar-pieces c.args.n)
 
 pub byte-p-requires : goal.byte-p-requires
-byte-p-requires c = room-left (parted c.before.before) c.requires
+byte-p-requires c = room-left (parted (goal.at.byte-p-requires c).Start) c.requires
 
 pub number-requires : goal.number-requires
 number-requires c =

@@ -6,15 +6,16 @@ use Rattle.values.specs.Word.{signed}
 use Rattle.listing.specs.Put.{end_text}
 use Rattle.listing.proofs.Laws.Put.{Left, pieces-left, less-left, last-left, room-left}
 use Rattle.listing.proofs.put.ending.Goals as goal
+use Rattle.listing.proofs.put.ending.Goals.{Start}
 
 -- the three pieces
-parted : (c : goal.Start) →
+parted : (c : Start) →
     let a = c.args in
     Left a.out-1.now a.at (end_text a.word) a.out-1.now a.at ((61 ∷ []) ∷ printℤ (signed a.word) ∷ (10 ∷ []) ∷ [])
 parted c = pieces-left _ _ _ refl
 
 pub byte-p-requires : goal.byte-p-requires
-byte-p-requires c = room-left (parted c.before.before) c.requires
+byte-p-requires c = room-left (parted (goal.at.byte-p-requires c).Start) c.requires
 
 pub value-q-requires : goal.value-q-requires
 value-q-requires c =

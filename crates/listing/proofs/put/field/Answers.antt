@@ -5,15 +5,16 @@ use Rattle.specification.specs.Number.{printℕ}
 use Rattle.specification.specs.Printed.{field_text}
 use Rattle.listing.proofs.Laws.Put.{Left, pieces-left, less-left, last-left, room-left}
 use Rattle.listing.proofs.put.field.Goals as goal
+use Rattle.listing.proofs.put.field.Goals.{Start}
 
 -- the three pieces
-parted : (c : goal.Start) →
+parted : (c : Start) →
     let a = c.args in
     Left a.out-1.now a.at (field_text a.key.now a.n) a.out-1.now a.at (a.key.now ∷ printℕ a.n ∷ (10 ∷ []) ∷ [])
 parted c = pieces-left _ _ _ refl
 
 pub text-p-requires : goal.text-p-requires
-text-p-requires c = room-left (parted c.before.before.before) c.requires
+text-p-requires c = room-left (parted (goal.at.text-p-requires c).Start) c.requires
 
 pub number-q-requires : goal.number-q-requires
 number-q-requires c =

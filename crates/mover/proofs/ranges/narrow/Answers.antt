@@ -16,12 +16,12 @@ pub returns-then-not-full_at : goal.returns-then-not-full_at
 returns-then-not-full_at c =
     let l = c.loop-left in
     sym (l.invariant ∙ narrow-here c.args.s.now l.p l.left (l.left - 1) (omega arith)
-    (sym c.full_at.ensures ∙ not-true _ c.if-not-full_at.true))
+    (sym c.full_at.ensures ∙ c.if-not-full_at.true))
 
 pub overflow_add-p : goal.overflow_add-p
 overflow_add-p c =
     let l = c.loop-left in
-    omega (arith, narrow-fits c.args.s.now l.p (l.left - 1) (sym c.full_at.ensures ∙ not-false _ c.if-not-full_at.false))
+    omega (arith, narrow-fits c.args.s.now l.p (l.left - 1) (sym c.full_at.ensures ∙ c.if-not-full_at.false))
 
 pub loop-left-smaller : goal.loop-left-smaller
 loop-left-smaller c = omega arith
@@ -30,7 +30,7 @@ pub loop-left-preserved : goal.loop-left-preserved
 loop-left-preserved c =
     let l = c.loop-left in
     l.invariant ∙ narrow-later c.args.s.now l.p l.left (l.left - 1) (omega arith)
-    (sym c.full_at.ensures ∙ not-false _ c.if-not-full_at.false)
+    (sym c.full_at.ensures ∙ c.if-not-full_at.false)
 
 pub returns : goal.returns
 returns c =

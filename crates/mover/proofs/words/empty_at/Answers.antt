@@ -6,11 +6,12 @@ use Rattle.tables.specs.Codes.{some_code, all_code, constant_code}
 use Rattle.mover.specs.Model.{token_code}
 use Rattle.mover.proofs.Laws.Words.{inside, empty-low, empty-high, lower-other, upper-other, empty-bounds}
 use Rattle.mover.proofs.words.empty_at.Goals as goal
+use Rattle.mover.proofs.words.empty_at.Goals.{Else-c-gt-ALL}
 
 abbrev start : goal.Else-c-gt-ALL → goal.Start
 start c = c.before.before.before.before
 
-quantifier : (c : goal.Else-c-gt-ALL) →
+quantifier : (c : Else-c-gt-ALL) →
     let a = (start c).args in
     (some_code ≤ token_code a.w.now a.i) × (token_code a.w.now a.i ≤ all_code)
 quantifier c =
@@ -36,7 +37,7 @@ returns-then-c-gt-ALL c =
 pub returns-then-code-ne-CONSTANT : goal.returns-then-code-ne-CONSTANT
 returns-then-code-ne-CONSTANT c =
     let a = (start c.before.before).args in
-    let q = quantifier c.before.before in
+    let q = quantifier (goal.at.returns-then-code-ne-CONSTANT c).Else-c-gt-ALL in
     sym (lower-other a.w.now a.i q.0 q.1 (λ e. c.if-code-ne-CONSTANT.true (c.code.ensures ∙ e)))
 
 pub returns-then-code-ne-CONSTANT-2 : goal.returns-then-code-ne-CONSTANT-2

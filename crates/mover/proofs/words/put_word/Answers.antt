@@ -3,11 +3,12 @@ use mathlib.Core.Path.{◌≡◌, sym, ◌∙◌}
 use Rattle.mover.specs.Model.{stand_in, spelling, word_piece}
 use Rattle.mover.proofs.Laws.Words.{room_as, put_as, put-none, word-dropped, word-empty, word-spelt}
 use Rattle.mover.proofs.words.put_word.Goals as goal
+use Rattle.mover.proofs.words.put_word.Goals.{After-code, Then-empty_at}
 
 abbrev start_of : goal.After-empty_at → goal.Start
 start_of c = c.before.before.before.before.before
 
-empty : (c : goal.Then-empty_at) →
+empty : (c : Then-empty_at) →
     let a = (start_of c.before).args in
     word_piece a.w.now a.newer a.i a.until a.letters.now ≡ stand_in a.w.now a.i
 empty c =
@@ -16,7 +17,7 @@ empty c =
     word-empty a.w.now a.i a.until a.newer a.letters.now at-empty.if-i-until.false
     (sym at-empty.empty_at.ensures ∙ c.if-empty_at.true)
 
-spelt : (c : goal.After-code) →
+spelt : (c : After-code) →
     let a = (start_of c.before.before.before).args in
     word_piece a.w.now a.newer a.i a.until a.letters.now ≡ spelling a.newer c.code.result a.letters.now
 spelt c =
@@ -38,7 +39,7 @@ stand_in-requires c =
 
 pub returns-then-empty_at : goal.returns-then-empty_at
 returns-then-empty_at c =
-    put_as (empty c.before.before.before.before) c.stand_in.ensures
+    put_as (empty (goal.at.returns-then-empty_at c).Then-empty_at) c.stand_in.ensures
 
 pub put_spelling-requires : goal.put_spelling-requires
 put_spelling-requires c =
@@ -47,4 +48,4 @@ put_spelling-requires c =
 
 pub returns : goal.returns
 returns c =
-    put_as (spelt c.before.before.before) c.put_spelling.ensures
+    put_as (spelt (goal.at.returns c).After-code) c.put_spelling.ensures

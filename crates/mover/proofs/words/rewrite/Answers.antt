@@ -39,7 +39,7 @@ next c = (marked c).mark-end.result
 at : (c : Chunked) → ChunkAt (sheet c) (here c) (end c) (next c)
 at c =
     let m = marked c in
-    record { inside = m.loop-i-test.taken; word = m.word_end-e.ensures; mark = m.mark_end-next.ensures }
+    record { inside = m.loop-i-test.true; word = m.word_end-e.ensures; mark = m.mark_end-next.ensures }
 
 is-key : (c : Chunked) → is_key (chunk (part (here c) (end c) (sheet c)) (part (end c) (next c) (sheet c))) ≡ c.either_at.result
 is-key c = key-at (at c) ∙ sym c.either_at.ensures

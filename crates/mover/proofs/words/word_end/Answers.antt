@@ -9,13 +9,13 @@ use Rattle.mover.proofs.words.word_end.Goals as goal
 pub returns-then-not-in_word : goal.returns-then-not-in_word
 returns-then-not-in_word c =
     let args = c.args in
-    let stops = sym c.in_word.ensures ∙ not-true _ c.if-not-in_word.true in
+    let stops = sym c.in_word.ensures ∙ c.if-not-in_word.true in
     sym (c.loop-i.invariant ∙ run-stop in_word args.s.now _ c.loop-i-test.true stops)
 
 pub loop-i-preserved : goal.loop-i-preserved
 loop-i-preserved c =
     let args = c.args in
-    let passes = sym c.in_word.ensures ∙ not-false _ c.if-not-in_word.false in
+    let passes = sym c.in_word.ensures ∙ c.if-not-in_word.false in
     c.loop-i.invariant ∙ run_more in_word args.s.now _ c.loop-i-test.true passes
 
 pub returns : goal.returns

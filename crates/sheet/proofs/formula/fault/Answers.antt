@@ -17,7 +17,7 @@ returns-then-not-suits c =
     λ d B m b.
     rw (
       ne_eqb _ bad_constant_code c.if-t-eq-BAD_CONSTANT.false,
-      sym (c.suits.ensures d m.sort) ∙ not-true _ c.if-not-suits.true,
+      sym (c.suits.ensures d m.sort) ∙ c.if-not-suits.true,
     )
 
 pub returns-then-not-is_declared : goal.returns-then-not-is_declared
@@ -26,8 +26,8 @@ returns-then-not-is_declared c =
     λ d B m b.
     rw (
       ne_eqb _ bad_constant_code c.if-t-eq-BAD_CONSTANT.false,
-      sym (c.suits.ensures d m.sort) ∙ not-false _ c.if-not-suits.false,
-      sym c.is_declared.ensures ∙ not-true _ c.if-not-is_declared.true,
+      sym (c.suits.ensures d m.sort) ∙ c.if-not-suits.false,
+      sym c.is_declared.ensures ∙ c.if-not-is_declared.true,
     )
     c.undeclared.ensures
 
@@ -37,14 +37,14 @@ returns-then-t-ne-LOCAL c =
     λ d B m b.
     rw (
       ne_eqb _ bad_constant_code c.if-t-eq-BAD_CONSTANT.false,
-      sym (c.suits.ensures d m.sort) ∙ not-false _ c.if-not-suits.false,
-      sym c.is_declared.ensures ∙ not-false _ c.if-not-is_declared.false,
+      sym (c.suits.ensures d m.sort) ∙ c.if-not-suits.false,
+      sym c.is_declared.ensures ∙ c.if-not-is_declared.false,
       ne_eqb _ local_code c.if-t-ne-LOCAL.true,
     )
 
 pub in_place-requires : goal.in_place-requires
 in_place-requires c =
-    omega (arith, declared-local c.args.d c.args.t c.if-t-ne-LOCAL.false (sym c.is_declared.ensures ∙ not-false _ c.if-not-is_declared.false))
+    omega (arith, declared-local c.args.d c.args.t c.if-t-ne-LOCAL.false (sym c.is_declared.ensures ∙ c.if-not-is_declared.false))
 
 pub returns-then-in_place : goal.returns-then-in_place
 unfolding fault_of
@@ -52,8 +52,8 @@ returns-then-in_place c =
     λ d B m b.
     rw (
       ne_eqb _ bad_constant_code c.if-t-eq-BAD_CONSTANT.false,
-      sym (c.suits.ensures d m.sort) ∙ not-false _ c.if-not-suits.false,
-      sym c.is_declared.ensures ∙ not-false _ c.if-not-is_declared.false,
+      sym (c.suits.ensures d m.sort) ∙ c.if-not-suits.false,
+      sym c.is_declared.ensures ∙ c.if-not-is_declared.false,
       eq-eqb _ local_code c.if-t-ne-LOCAL.false,
       sym (c.in_place.ensures d B m b) ∙ c.if-in_place.true,
     )
@@ -64,8 +64,8 @@ returns c =
     λ d B m b.
     rw (
       ne_eqb _ bad_constant_code c.if-t-eq-BAD_CONSTANT.false,
-      sym (c.suits.ensures d m.sort) ∙ not-false _ c.if-not-suits.false,
-      sym c.is_declared.ensures ∙ not-false _ c.if-not-is_declared.false,
+      sym (c.suits.ensures d m.sort) ∙ c.if-not-suits.false,
+      sym c.is_declared.ensures ∙ c.if-not-is_declared.false,
       eq-eqb _ local_code c.if-t-ne-LOCAL.false,
       sym (c.in_place.ensures d B m b) ∙ c.if-in_place.false,
     )

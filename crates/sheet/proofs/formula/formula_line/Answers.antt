@@ -27,7 +27,7 @@ abbrev beginning : goal.Else-not-begins → Locals → Begin
 beginning c B = let a = (start c).args in begin a.s.now a.d a.x.at a.x.tokens B
 
 key_here : (c : goal.Else-not-begins) → begins (bytes "formula=") (drop (start c).args.x.at (start c).args.s.now) ≡ true
-key_here c = sym c.begins.ensures ∙ not-false _ c.if-not-begins.false
+key_here c = sym c.begins.ensures ∙ c.if-not-begins.false
 
 at-formula : (c : goal.Else-not-begins) → (start c).args.x.at + 8 ≤ length (start c).args.s.now
 at-formula c =
@@ -47,7 +47,7 @@ closed-here c B b D g =
 pub returns-then-not-begins : goal.returns-then-not-begins
 returns-then-not-begins c =
     let a = c.args in
-    λ B b D g. (rest-no-key (begin a.s.now a.d a.x.at a.x.tokens B) D (sym c.begins.ensures ∙ not-true _ c.if-not-begins.true), refl)
+    λ B b D g. (rest-no-key (begin a.s.now a.d a.x.at a.x.tokens B) D (sym c.begins.ensures ∙ c.if-not-begins.true), refl)
 
 pub overflow_add-x : goal.overflow_add-x
 overflow_add-x c = let k = c.before in omega (arith, at-formula k, (start k).well-formed.0.1)

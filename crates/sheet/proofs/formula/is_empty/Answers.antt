@@ -21,22 +21,22 @@ pub returns-then-not-refusing : goal.returns-then-not-refusing
 returns-then-not-refusing c =
     let u = c.before in
     let a = (start u).args in
-    λ d p m h. empties-off a.refusing a.w.now a.count p a.t d (sym m.sort ∙ u.if-e-ne-UPPER.false) h (not-true _ c.if-not-refusing.true)
+    λ d p m h. empties-off a.refusing a.w.now a.count p a.t d (sym m.sort ∙ u.if-e-ne-UPPER.false) h (c.if-not-refusing.true)
 
 pub returns-then-t-ne-CONSTANT : goal.returns-then-t-ne-CONSTANT
 returns-then-t-ne-CONSTANT c =
     let u = is-upper c.before.before in
     let a = (start u).args in
-    λ d p m h. empties-word a.refusing a.w.now a.count p a.t d (sym m.sort ∙ u.if-e-ne-UPPER.left) h c.if-t-ne-CONSTANT.true
+    λ d p m h. empties-word a.refusing a.w.now a.count p a.t d (sym m.sort ∙ u.if-e-ne-UPPER.false) h c.if-t-ne-CONSTANT.true
 
 pub overflow_sub-count : goal.overflow_sub-count
-overflow_sub-count c = let u = is-upper (is-refused c) in (start u).pre.2 u.if-e-ne-UPPER.left
+overflow_sub-count c = let u = is-upper (is-refused c) in (start u).pre.2 u.if-e-ne-UPPER.false
 
 pub operand-requires : goal.operand-requires
 operand-requires c =
     let u = is-upper (is-refused c) in
     let h = (start u).pre in
-    omega (arith, h.0, h.1, h.2 u.if-e-ne-UPPER.left)
+    omega (arith, h.0, h.1, h.2 u.if-e-ne-UPPER.false)
 
 pub returns : goal.returns
 returns c =
@@ -45,6 +45,6 @@ returns c =
     let u = is-upper on in
     let a = (start u).args in
     λ d p m h.
-    empties-constant a.refusing a.w.now a.count p a.t d (sym m.sort ∙ u.if-e-ne-UPPER.left) h (not-false _ on.if-not-refusing.left)
+    empties-constant a.refusing a.w.now a.count p a.t d (sym m.sort ∙ u.if-e-ne-UPPER.false) h (not-false _ on.if-not-refusing.false)
     constant.if-t-ne-CONSTANT.false _
     c.operand.ensures

@@ -15,6 +15,7 @@ use Rattle.sheet.proofs.Bits.{locals_in, bits_in}
 use Rattle.sheet.proofs.Loop.{Reading, Taken, reading-start, taken-last, taken-stops, taken_next, known_start, sized-start, through-start}
 use Rattle.sheet.proofs.Scan.{sized-here, May, turn-stops, may, turn-empties, turn-stands}
 use Rattle.sheet.proofs.formula.scan.Goals as goal
+use Rattle.sheet.proofs.formula.scan.Goals.{After-is_empty, After-slice_known-in-loop-d-2-1, At-loop-d, Else-k-ne0}
 
 abbrev begun : goal.At-loop-d → goal.After-begin
 begun c = c.before.before.before.before
@@ -53,11 +54,11 @@ binders c = (start c).args.binders
 abbrev some : goal.At-loop-d → Locals
 some c = locals_in (binders c) max_locals
 
-reading : (c : goal.At-loop-d) →
+reading : (c : At-loop-d) →
     Reading (beginning c (some c)) (begun c).begin.new.0 c.loop-d.w c.loop-d.n c.loop-d.count c.loop-d.bound c.loop-d.at c.loop-d.word
 reading c = c.loop-d.invariant.0 (some c) (bits_in (binders c))
 
-may_here : (c : goal.Else-k-ne0) →
+may_here : (c : Else-k-ne0) →
     May (got c.before).get.result c.spelt-t.result (head c.before).loop.n (head c.before).loop.count
 may_here c =
     let h = head c.before in
@@ -65,12 +66,12 @@ may_here c =
     _ c.run_end-e.ensures _ (got c.before).get.ensures _ c.spelt-t.ensures _ c.refusal-k.ensures c.if-k-ne0.false
 
 -- whether it makes a range empty
-tells-here : (c : goal.After-is_empty) → let h = head (stood c).before in
+tells-here : (c : After-is_empty) → let h = head (stood c).before in
     (d : Due) (p : ℕ) → Means (got (stood c).before).get.result d → Kept h.loop-d.w h.loop-d.count p d →
     c.is_empty.result ≡ empties (refuses_in (start h).args.d) d (stood c).before.before.spelt.result
 tells-here c = rw (head (stood c).before).before.refuses.ensures at c.is_empty.ensures
 
-taken_here : (c : goal.After-slice_known-in-loop-d-2-1) (B : Locals) → Bits (binders (behind c)) B →
+taken_here : (c : After-slice_known-in-loop-d-2-1) (B : Locals) → Bits (binders (behind c)) B →
     Taken (beginning (behind c) B) (begun (behind c)).begin.last.0 c.push-n.new.0 c.push-n.result
     ((behind c).loop.count + 1)
     c.bound_after-bound.result
@@ -81,13 +82,13 @@ taken_here c B b =
     let empty = (full (marked c)).before in
     let q = stood empty in
     turn-stands (h.loop-d.inv.0 B b) (start h).pre.1 h.loop-d.inv.1
-    _ q.run_end-e.ensures _ (got q.before).get.ensures _ q.spelt-t.ensures _ q.refusal-k.ensures q.if-k-ne0.left
+    _ q.run_end-e.ensures _ (got q.before).get.ensures _ q.spelt-t.ensures _ q.refusal-k.ensures q.if-k-ne0.false
     _ (tells-here empty) (full (marked c)).if2.left
     _ _ _ _ _ (marked c).before.before.set-token.ensures c.push-n.ensures
     c.bound_after-bound.ensures
     (worded (marked c)).word_after.ensures
 
-taken-some : (c : goal.After-slice_known-in-loop-d-2-1) →
+taken-some : (c : After-slice_known-in-loop-d-2-1) →
     Taken (beginning (behind c) (some (behind c))) (begun (behind c)).begin.last.0 c.push-n.new.0
     c.push-n.result ((behind c).loop.count + 1)
     c.bound_after-bound.result
@@ -96,7 +97,7 @@ taken-some : (c : goal.After-slice_known-in-loop-d-2-1) →
 taken-some c = taken_here c (some (behind c)) (bits_in (binders (behind c)))
 
 -- the words are as many as before
-long-here : (c : goal.After-slice_known-in-loop-d-2-1) → length c.push-n.new.0 ≡ length (start (behind c)).args.w.now
+long-here : (c : After-slice_known-in-loop-d-2-1) → length c.push-n.new.0 ≡ length (start (behind c)).args.w.now
 long-here c = (taken-some c).long ∙ (begun (behind c)).begin.kept.0
 
 pub loop-d-init : goal.loop-d-init
@@ -109,11 +110,11 @@ loop-d-init c =
     )
 
 pub overflow_sub-n : goal.overflow_sub-n
-overflow_sub-n c = omega (arith, (reading c.before).depth)
+overflow_sub-n c = omega (arith, (reading (goal.at.overflow_sub-n c).At-loop-d).depth)
 
 pub get-due-requires : goal.get-due-requires
 get-due-requires c =
-    let i = reading c.before in
+    let i = reading (goal.at.get-due-requires c).At-loop-d in
     (omega (arith, i.depth, i.low), omega (arith, i.long, c.loop-d.invariant.1))
 
 pub slice_bounds-spelt-count : goal.slice_bounds-spelt-count
@@ -152,7 +153,7 @@ returns-then-k-ne0 c =
 pub is_empty-requires : goal.is_empty-requires
 is_empty-requires c =
     let h = head c.before.before in
-    let m = may_here c.before in
+    let m = may_here (goal.at.is_empty-requires c).Else-k-ne0 in
     (omega (arith, m.number), omega (arith, (reading h).long, h.loop-d.inv.1), m.before)
 
 pub shape_of-w-then-is_empty : goal.shape_of-w-then-is_empty
@@ -166,8 +167,8 @@ returns-then-is_empty c =
       (reading h).long ∙ (begun h).begin.kept.0,
       λ D g. turn-empties (h.loop-d.inv.0 B b) (start h).pre.1 h.loop-d.inv.1
           _ q.run_end-e.ensures _ (got q.before).get.ensures _ q.spelt-t.ensures _
-          q.refusal-k.ensures q.if-k-ne0.left
-          _ (tells-here c.before) c.if-is_empty.true D (known_start (start h).args.w.now _ (begun h).begin.ensures g),
+          q.refusal-k.ensures q.if-k-ne0.false
+          _ (tells-here (goal.at.returns-then-is_empty c).After-is_empty) c.if-is_empty.true D (known_start (start h).args.w.now _ (begun h).begin.ensures g),
     )
 
 pub set_token-requires : goal.set_token-requires
@@ -193,7 +194,7 @@ push-n-requires c =
     (m.low, omega (arith, c.set_token.auto.0, (reading h).long, h.loop-d.inv.1), m.room, m.index, m.operands, m.coded)
 
 pub shape_of-w-then-n-eq0 : goal.shape_of-w-then-n-eq0
-shape_of-w-then-n-eq0 c = long-here c.before
+shape_of-w-then-n-eq0 c = long-here (goal.at.shape_of-w-then-n-eq0 c).After-slice_known-in-loop-d-2-1
 
 pub returns-then-n-eq0 : goal.returns-then-n-eq0
 returns-then-n-eq0 c =
@@ -201,7 +202,7 @@ returns-then-n-eq0 c =
     λ B b. through-start (begun h).begin.ensures (start h).pre.2 (taken-last (taken_here c.before B b) c.if-n-eq0.true)
 
 pub shape_of-w-then-class_at-ne-SPACE : goal.shape_of-w-then-class_at-ne-SPACE
-shape_of-w-then-class_at-ne-SPACE c = long-here c.before.before.before
+shape_of-w-then-class_at-ne-SPACE c = long-here (goal.at.shape_of-w-then-class_at-ne-SPACE c).After-slice_known-in-loop-d-2-1
 
 pub returns-then-class_at-ne-SPACE : goal.returns-then-class_at-ne-SPACE
 returns-then-class_at-ne-SPACE c =

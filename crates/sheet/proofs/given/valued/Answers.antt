@@ -33,7 +33,7 @@ mark-requires c =
 pub returns-then-not-allows : goal.returns-then-not-allows
 unfolding class_number
 returns-then-not-allows c =
-    valued-outside _ _ _ _ _ _ (sym c.class_at.ensures ∙ c.if-class_at-ne-COLON.false) _ c.integer_at.ensures _ _ c.in-Is.is _ c.in-Is-c.is c.if-n-floor.false (rw c.mark.ensures at (sym c.allows.ensures ∙ not-true _ c.if-not-allows.true))
+    valued-outside _ _ _ _ _ _ (sym c.class_at.ensures ∙ c.if-class_at-ne-COLON.false) _ c.integer_at.ensures _ _ c.in-Is.is _ c.in-Is-c.is c.if-n-floor.false (rw c.mark.ensures at (sym c.allows.ensures ∙ c.if-not-allows.true))
 
 pub returns-in-Refused : goal.returns-in-Refused
 unfolding class_number
@@ -42,4 +42,4 @@ returns-in-Refused c = valued-refused _ _ _ _ _ _ (sym c.class_at.ensures ∙ c.
 pub returns-else-not-allows : goal.returns-else-not-allows
 unfolding class_number
 returns-else-not-allows c =
-    valued_found _ _ _ _ _ _ (sym c.class_at.ensures ∙ c.if-class_at-ne-COLON.false) _ c.integer_at.ensures _ _ c.in-Is.is _ c.in-Is-c.is c.if-n-floor.false (rw c.mark.ensures at (sym c.allows.ensures ∙ not-false _ c.if-not-allows.false))
+    valued_found _ _ _ _ _ _ (sym c.class_at.ensures ∙ c.if-class_at-ne-COLON.false) _ c.integer_at.ensures _ _ c.in-Is.is _ c.in-Is-c.is c.if-n-floor.false (rw c.mark.ensures at (sym c.allows.ensures ∙ c.if-not-allows.false))

@@ -4,7 +4,7 @@ use Rattle.sheet.proofs.RangeLine.{end-scalar, end-array}
 use Rattle.sheet.proofs.ranges.end_of.Goals as goal
 
 pub returns-then-k-scalars : goal.returns-then-k-scalars
-returns-then-k-scalars c = end-scalar _ _ _ c.if-k-scalars.taken
+returns-then-k-scalars c = end-scalar _ _ _ c.if-k-scalars.true
 
 pub returns : goal.returns
-returns c = c.first_cell.ensures ∙ end-array _ _ _ c.if-k-scalars.left
+returns c = c.first_cell.ensures ∙ end-array _ _ _ c.if-k-scalars.false

@@ -22,7 +22,7 @@ first c = start (past-terms (past-bounds c))
 
 -- the local of a binder is due
 is-local : (c : goal.Else-e-eq-PROCEDURE) → procedure_sort < (first c).args.e.sort
-is-local c = let q = past-bounds c in omega (arith, (past-terms q).if1.left, q.if-e-eq-BOUNDS.left, c.if-e-eq-PROCEDURE.false)
+is-local c = let q = past-bounds c in omega (arith, (past-terms q).if1.left, q.if-e-eq-BOUNDS.false, c.if-e-eq-PROCEDURE.false)
 
 pub push_operands-requires : goal.push_operands-requires
 push_operands-requires c =

@@ -9,6 +9,7 @@ use Rattle.sheet.specs.Whole.{Stage, Went, Leads}
 use Rattle.sheet.proofs.FirstLines.{number_step}
 use Rattle.sheet.proofs.AllLines.{as_line, still-refused, leads-on, at-line}
 use Rattle.sheet.proofs.whole.line_at.Goals as goal
+use Rattle.sheet.proofs.whole.line_at.Goals.{Else-k-eq-PROCEDURES}
 
 abbrev start : goal.In-Read-2 → goal.Start
 start p = p.before.before.before.before
@@ -41,7 +42,7 @@ follows p j r w q h =
     leads-on a.s.now n (a.k + 1) a.p-1 _ _ p.in-Read.is r w (as_line _ a.s.now n r w q h)
 
 -- the formula's line is the last
-last_line : (c : goal.Else-k-eq-PROCEDURES) → (start (past-procedures c)).args.k ≡ 6
+last_line : (c : Else-k-eq-PROCEDURES) → (start (past-procedures c)).args.k ≡ 6
 last_line c =
     omega (arith, c.if-k-le-LOCALS.false, c.if-k-eq-ARRAYS.false, c.if-k-eq-GIVEN.false, c.if-k-eq-PROCEDURES.false, (start (past-procedures c)).requires.0)
 
@@ -77,7 +78,7 @@ returns-then-k-eq-PROCEDURES c =
     follows (past-given c.before.before.before.before.before) 6 told.result _ (ap (λ (m : ℕ). m + 1) (sym c.if-k-eq-PROCEDURES.true)) told.ensures
 
 pub after_formula-requires : goal.after_formula-requires
-after_formula-requires c = known (past-procedures c.before) 6 (last_line c.before)
+after_formula-requires c = known (past-procedures c.before) 6 (last_line (goal.at.after_formula-requires c).Else-k-eq-PROCEDURES)
 
 pub returns-in-Refused : goal.returns-in-Refused
 returns-in-Refused c =

@@ -4,8 +4,9 @@ use Rattle.specification.specs.Words.{words}
 use Rattle.sheet.specs.Packed.{code_by, code_in}
 use Rattle.sheet.proofs.Packed.{code-long, code-packed, first-words, second-words, third-words}
 use Rattle.sheet.proofs.words.word_code.Goals as goal
+use Rattle.sheet.proofs.words.word_code.Goals.{After-pack-word}
 
-packed-code : (c : goal.After-pack-word) →
+packed-code : (c : After-pack-word) →
     code_by c.pack-word.result (words c.args.edition) ≡
     code_in c.args.t.now (words c.args.edition)
 packed-code c =
@@ -16,12 +17,12 @@ pub returns-then-t-gt4 : goal.returns-then-t-gt4
 returns-then-t-gt4 c = sym (code-long c.args.edition _ c.if-t-gt4.true)
 
 pub returns-then-edition-eq-FIRST_EDITION : goal.returns-then-edition-eq-FIRST_EDITION
-returns-then-edition-eq-FIRST_EDITION c = c.first_edition.ensures ∙ first-words _ _ c.if-edition-eq-FIRST_EDITION.true ∙ packed-code c.before.before
+returns-then-edition-eq-FIRST_EDITION c = c.first_edition.ensures ∙ first-words _ _ c.if-edition-eq-FIRST_EDITION.true ∙ packed-code (goal.at.returns-then-edition-eq-FIRST_EDITION c).After-pack-word
 
 pub returns-then-edition-lt-FIRST_ROUNDING : goal.returns-then-edition-lt-FIRST_ROUNDING
 returns-then-edition-lt-FIRST_ROUNDING c =
-    c.second_edition.ensures ∙ second-words _ _ c.if-edition-eq-FIRST_EDITION.false c.if-edition-lt-FIRST_ROUNDING.true ∙ packed-code c.before.before.before
+    c.second_edition.ensures ∙ second-words _ _ c.if-edition-eq-FIRST_EDITION.false c.if-edition-lt-FIRST_ROUNDING.true ∙ packed-code (goal.at.returns-then-edition-lt-FIRST_ROUNDING c).After-pack-word
 
 pub returns : goal.returns
 returns c =
-    c.third_edition.ensures ∙ third-words _ _ c.if-edition-eq-FIRST_EDITION.false c.if-edition-lt-FIRST_ROUNDING.false ∙ packed-code c.before.before.before
+    c.third_edition.ensures ∙ third-words _ _ c.if-edition-eq-FIRST_EDITION.false c.if-edition-lt-FIRST_ROUNDING.false ∙ packed-code (goal.at.returns c).After-pack-word

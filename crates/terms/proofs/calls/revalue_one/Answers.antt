@@ -10,7 +10,7 @@ is_open-requires c =
 
 pub returns-then-not-is_open : goal.returns-then-not-is_open
 returns-then-not-is_open c =
-    one-closed c.args.w.now _ _ _ _ _ (sym c.is_open.ensures ∙ not-true _ c.if-not-is_open.true)
+    one-closed c.args.w.now _ _ _ _ _ (sym c.is_open.ensures ∙ c.if-not-is_open.true)
 
 pub returns : goal.returns
 returns c =

@@ -18,7 +18,7 @@ allows-requires c =
 
 pub fail-requires : goal.fail-requires
 fail-requires c =
-    assign-fails c.requires (rw c.word-mark.ensures at (sym c.allows.ensures ∙ not-true _ c.if-not-allows.true))
+    assign-fails c.requires (rw c.word-mark.ensures at (sym c.allows.ensures ∙ c.if-not-allows.true))
 
 pub next-next-requires : goal.next-next-requires
 next-next-requires c =
@@ -43,5 +43,5 @@ down-requires c =
 pub returns : goal.returns
 returns c =
     let mark = c.word-mark.ensures in
-    assign-down c.requires (rw mark at (sym c.allows.ensures ∙ not-false _ c.if-not-allows.false)) (rw mark at c.push3.ensures)
+    assign-down c.requires (rw mark at (sym c.allows.ensures ∙ c.if-not-allows.false)) (rw mark at c.push3.ensures)
     c.set_slot.ensures (rw mark at c.after_given.ensures) (rw c.next-next.ensures at c.down.ensures)
