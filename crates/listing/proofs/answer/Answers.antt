@@ -8,17 +8,17 @@ use Rattle.listing.proofs.Laws.Put.{Left, pieces-left, last-left, room-left}
 use Rattle.listing.proofs.Laws.Pieces.{answer-pieces}
 use Rattle.listing.proofs.Laws.Bound.{answer-room, answer-headed}
 use Rattle.listing.proofs.answer.Goals as goal
+use Rattle.listing.proofs.answer.Goals.{Start}
 
 -- the one line
-parted : (c : goal.Start) →
+parted : (c : Start) →
     let a = c.args in
     Left a.out-1.now 0 (head_text (Answer a.number)) a.out-1.now 0 (field_text (bytes "answer=") a.number ∷ [])
 parted c = pieces-left _ _ _ (answer-pieces c.args.number)
 
 pub field-requires : goal.field-requires
-field-requires c = let s = c.before.before.before in room-left (parted s) (answer-room s.args.number s.ranges.number.fits)
+field-requires c = room-left (parted (goal.at.field-requires c).Start) (answer-room c.args.number c.ranges.number.fits)
 
 pub returns : goal.returns
 returns c =
-    let start = c.before.before.before.before.before.before in
-    answer-headed start.args.number start.ranges.number.fits (last-left (parted start) c.field.ensures)
+    answer-headed c.args.number c.ranges.number.fits (last-left (parted (goal.at.returns c).Start) c.field.ensures)

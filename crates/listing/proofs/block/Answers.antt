@@ -6,9 +6,10 @@ use Rattle.listing.specs.Model.{each_line, scalar_line, array_lines, head_text, 
 use Rattle.listing.proofs.Laws.Put.{Left, pieces-left, less-left, last-left}
 use Rattle.listing.proofs.Laws.Bound.{scalars-room, arrays-room}
 use Rattle.listing.proofs.block.Goals as goal
+use Rattle.listing.proofs.block.Goals.{Start}
 
 -- head, scalars, arrays
-parted : (c : goal.Start) →
+parted : (c : Start) →
     let a = c.args in
     let w = a.w.now in
     Left a.out-1.now 0 (model_text w a.scalars-q a.arrays a.head) a.out-1.now 0
@@ -32,5 +33,4 @@ arrays-requires c =
 
 pub returns : goal.returns
 returns c =
-    let s = c.before.before.before.before.before.before.before.before.before.before.before.before.before.before in
-    last-left (less-left (less-left (parted s) c.top-p.ensures.text) c.scalars-q.ensures) c.arrays.ensures
+    last-left (less-left (less-left (parted (goal.at.returns c).Start) c.top-p.ensures.text) c.scalars-q.ensures) c.arrays.ensures

@@ -30,11 +30,9 @@ field-p-requires c = room-left (parted (goal.at.field-p-requires c).Start) (room
 
 pub field-requires : goal.field-requires
 field-requires c =
-    let start = c.before.before.before.before.before.before.before.before in
-    room-left (less-left (parted start) c.field-p.ensures) (room start)
+    room-left (less-left (parted (goal.at.field-requires c).Start) c.field-p.ensures) (room (goal.at.field-requires c).Start)
 
 pub returns : goal.returns
 returns c =
-    let start = c.before.before.before.before.before.before.before.before.before.before.before in
-    let p = last-left (less-left (parted start) c.field-p.ensures) c.field.ensures in
-    record { text = p; short = omega (arith, p.end, bound start) }
+    let p = last-left (less-left (parted (goal.at.returns c).Start) c.field-p.ensures) c.field.ensures in
+    record { text = p; short = omega (arith, p.end, bound (goal.at.returns c).Start) }

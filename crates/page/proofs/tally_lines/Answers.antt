@@ -8,7 +8,7 @@ use Rattle.listing.specs.Put.{Room}
 use Rattle.listing.proofs.Laws.Put.{Left, pieces-left, less-left, last-left, room-left}
 use Rattle.page.proofs.Lines.{tally_pieces, tally-bound}
 use Rattle.page.proofs.tally_lines.Goals as goal
-use Rattle.page.proofs.tally_lines.Goals.{Start}
+use Rattle.page.proofs.tally_lines.Goals.{After-struct_known-1, Start}
 
 -- the four lines
 parted : (c : Start) →
@@ -16,12 +16,12 @@ parted : (c : Start) →
     Left a.lines-1.now a.at (tally_lines a.t) a.lines-1.now a.at (tally_pieces a.t)
 parted c = pieces-left _ _ _ refl
 
-bound : (c : goal.After-struct_known-1) → length (tally_lines c.args.t) ≤ 71
+bound : (c : After-struct_known-1) → length (tally_lines c.args.t) ≤ 71
 bound c =
     let f = c.struct_known-1.given in
     tally-bound c.args.t f.0.fits f.1.0.fits f.1.1.0.fits f.1.1.1.0.fits
 
-room : (c : goal.After-struct_known-1) → let a = c.args in Room a.at (tally_lines a.t)
+room : (c : After-struct_known-1) → let a = c.args in Room a.at (tally_lines a.t)
 room c = omega (arith, bound c, c.requires)
 
 -- the line before one
@@ -39,8 +39,7 @@ field-p-requires c = room-left (parted (goal.at.field-p-requires c).Start) (room
 
 pub field-q-requires : goal.field-q-requires
 field-q-requires c =
-    let known = c.before.before.before.before.before.before in
-    room-left (less-left (parted known.before.before.before.before) c.field-p.ensures) (room known)
+    room-left (less-left (parted (goal.at.field-q-requires c).Start) c.field-p.ensures) (room (goal.at.field-q-requires c).After-struct_known-1)
 
 pub field-s-requires : goal.field-s-requires
 field-s-requires c =

@@ -7,9 +7,10 @@ use Rattle.listing.specs.Model.{each_line, element_line, array_lines}
 use Rattle.listing.proofs.Laws.Put.{Left, pieces-left, last-left, room-left}
 use Rattle.listing.proofs.Laws.Pieces.{array-pieces}
 use Rattle.listing.proofs.cells.array.Goals as goal
+use Rattle.listing.proofs.cells.array.Goals.{After-first_cell-to}
 
 -- its lines by the cells that were read
-parted : (c : goal.After-first_cell-to) →
+parted : (c : After-first_cell-to) →
     let a = c.args in
     let from = c.first_cell-from.result in
     Left a.out-1.now a.at (lines_text (array_lines a.w.now a.a)) a.out-1.now a.at
@@ -26,10 +27,8 @@ overflow_sub-to c = omega arith
 
 pub elements-requires : goal.elements-requires
 elements-requires c =
-    let at-first2 = c.before in
-    (omega arith, omega arith, room-left (parted at-first2) at-first2.requires.3)
+    (omega arith, omega arith, room-left (parted (goal.at.elements-requires c).After-first_cell-to) c.requires.3)
 
 pub returns : goal.returns
 returns c =
-    let at-first2 = c.before.before.before.before in
-    last-left (parted at-first2) c.elements.ensures
+    last-left (parted (goal.at.returns c).After-first_cell-to) c.elements.ensures

@@ -6,7 +6,7 @@ use Rattle.specification.specs.Listing.{cell_label, label_text}
 use Rattle.listing.proofs.Laws.Put.{Left, pieces-left, less-left, last-left, room-left}
 use Rattle.listing.proofs.Laws.Pieces.{element-pieces}
 use Rattle.listing.proofs.cells.element_name.Goals as goal
-use Rattle.listing.proofs.cells.element_name.Goals.{Start}
+use Rattle.listing.proofs.cells.element_name.Goals.{After-number-q, Start}
 
 -- the name's pieces
 parted : (c : Start) →
@@ -16,7 +16,7 @@ parted : (c : Start) →
 parted c = pieces-left _ _ _ (element-pieces c.args.a c.args.e)
 
 -- what is left after the array's number
-numbered : (c : goal.After-number-q) →
+numbered : (c : After-number-q) →
     let at_byte = c.before.before.before.before in
     let a = at_byte.args in
     Left a.out-1.now a.at (label_text (cell_label (element a.a a.e))) c.number-q.new.0 c.number-q.result
@@ -30,20 +30,16 @@ byte-p-requires c = room-left (parted (goal.at.byte-p-requires c).Start) c.requi
 
 pub number-q-requires : goal.number-q-requires
 number-q-requires c =
-    let start = c.before.before.before.before.before.before in
-    room-left (less-left (parted start) c.byte-p.ensures) start.requires
+    room-left (less-left (parted (goal.at.number-q-requires c).Start) c.byte-p.ensures) c.requires
 
 pub byte-s-requires : goal.byte-s-requires
 byte-s-requires c =
-    let at-number = c.before.before.before in
-    room-left (numbered at-number) at-number.requires
+    room-left (numbered (goal.at.byte-s-requires c).After-number-q) c.requires
 
 pub number-requires : goal.number-requires
 number-requires c =
-    let at-number = c.before.before.before.before.before.before.before in
-    room-left (less-left (numbered at-number) c.byte-s.ensures) at-number.requires
+    room-left (less-left (numbered (goal.at.number-requires c).After-number-q) c.byte-s.ensures) c.requires
 
 pub returns : goal.returns
 returns c =
-    let at-number = c.before.before.before.before.before.before.before.before.before.before in
-    last-left (less-left (numbered at-number) c.byte-s.ensures) c.number.ensures
+    last-left (less-left (numbered (goal.at.returns c).After-number-q) c.byte-s.ensures) c.number.ensures

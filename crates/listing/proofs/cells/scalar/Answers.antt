@@ -7,9 +7,10 @@ use Rattle.listing.specs.Model.{line_at}
 use Rattle.listing.proofs.Laws.Put.{Left, all_left, pieces-left, less-left, last-left, none_left, room-left}
 use Rattle.listing.proofs.Laws.Pieces.{no_line, line-pieces}
 use Rattle.listing.proofs.cells.scalar.Goals as goal
+use Rattle.listing.proofs.cells.scalar.Goals.{After-cell_value-v}
 
 -- the line's pieces
-parted : (c : goal.After-cell_value-v) →
+parted : (c : After-cell_value-v) →
     let a = c.args in
     Left a.out-1.now a.at (lines_text (line_at a.w.now (scalar a.n) a.n)) a.out-1.now a.at
     (label_text (cell_label (scalar a.n)) ∷ end_text c.cell_value-v.result ∷ [])
@@ -27,15 +28,12 @@ returns-then-cell_flag-eq0 c =
 
 pub scalar_name-p-requires : goal.scalar_name-p-requires
 scalar_name-p-requires c =
-    let at_value = c.before in
-    room-left (parted at_value) at_value.requires.2
+    room-left (parted (goal.at.scalar_name-p-requires c).After-cell_value-v) c.requires.2
 
 pub ending-requires : goal.ending-requires
 ending-requires c =
-    let at_value = c.before.before.before.before.before in
-    room-left (less-left (parted at_value) c.scalar_name-p.ensures) at_value.requires.2
+    room-left (less-left (parted (goal.at.ending-requires c).After-cell_value-v) c.scalar_name-p.ensures) c.requires.2
 
 pub returns : goal.returns
 returns c =
-    let at_value = c.before.before.before.before.before.before.before.before in
-    last-left (less-left (parted at_value) c.scalar_name-p.ensures) c.ending.ensures
+    last-left (less-left (parted (goal.at.returns c).After-cell_value-v) c.scalar_name-p.ensures) c.ending.ensures

@@ -19,10 +19,8 @@ byte-p-requires c = room-left (parted (goal.at.byte-p-requires c).Start) c.requi
 
 pub number-requires : goal.number-requires
 number-requires c =
-    let start = c.before.before.before.before.before.before in
-    room-left (less-left (parted start) c.byte-p.ensures) start.requires
+    room-left (less-left (parted (goal.at.number-requires c).Start) c.byte-p.ensures) c.requires
 
 pub returns : goal.returns
 returns c =
-    let start = c.before.before.before.before.before.before.before.before.before in
-    last-left (less-left (parted start) c.byte-p.ensures) c.number.ensures
+    last-left (less-left (parted (goal.at.returns c).Start) c.byte-p.ensures) c.number.ensures

@@ -19,15 +19,12 @@ byte-p-requires c = room-left (parted (goal.at.byte-p-requires c).Start) c.requi
 
 pub value-q-requires : goal.value-q-requires
 value-q-requires c =
-    let start = c.before.before.before.before.before.before in
-    room-left (less-left (parted start) c.byte-p.ensures) start.requires
+    room-left (less-left (parted (goal.at.value-q-requires c).Start) c.byte-p.ensures) c.requires
 
 pub byte-requires : goal.byte-requires
 byte-requires c =
-    let start = c.before.before.before.before.before.before.before.before.before.before in
-    room-left (less-left (less-left (parted start) c.byte-p.ensures) c.value-q.ensures) start.requires
+    room-left (less-left (less-left (parted (goal.at.byte-requires c).Start) c.byte-p.ensures) c.value-q.ensures) c.requires
 
 pub returns : goal.returns
 returns c =
-    let start = c.before.before.before.before.before.before.before.before.before.before.before.before.before in
-    last-left (less-left (less-left (parted start) c.byte-p.ensures) c.value-q.ensures) c.byte.ensures
+    last-left (less-left (less-left (parted (goal.at.returns c).Start) c.byte-p.ensures) c.value-q.ensures) c.byte.ensures

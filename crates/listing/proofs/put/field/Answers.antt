@@ -18,15 +18,12 @@ text-p-requires c = room-left (parted (goal.at.text-p-requires c).Start) c.requi
 
 pub number-q-requires : goal.number-q-requires
 number-q-requires c =
-    let start = c.before.before.before.before.before.before.before in
-    room-left (less-left (parted start) c.text-p.ensures) start.requires
+    room-left (less-left (parted (goal.at.number-q-requires c).Start) c.text-p.ensures) c.requires
 
 pub byte-requires : goal.byte-requires
 byte-requires c =
-    let start = c.before.before.before.before.before.before.before.before.before.before.before in
-    room-left (less-left (less-left (parted start) c.text-p.ensures) c.number-q.ensures) start.requires
+    room-left (less-left (less-left (parted (goal.at.byte-requires c).Start) c.text-p.ensures) c.number-q.ensures) c.requires
 
 pub returns : goal.returns
 returns c =
-    let start = c.before.before.before.before.before.before.before.before.before.before.before.before.before.before in
-    last-left (less-left (less-left (parted start) c.text-p.ensures) c.number-q.ensures) c.byte.ensures
+    last-left (less-left (less-left (parted (goal.at.returns c).Start) c.text-p.ensures) c.number-q.ensures) c.byte.ensures

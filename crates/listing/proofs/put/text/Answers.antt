@@ -6,9 +6,10 @@ use mathlib.Core.List.{[], ◌∷◌}
 use lib.ListN.{drop, get_or, drop_of_length-le}
 use Rattle.listing.proofs.Laws.Put.{Left, all_left, split-left, less-left, none_left, room-left, one_more}
 use Rattle.listing.proofs.put.text.Goals as goal
+use Rattle.listing.proofs.put.text.Goals.{In-loop-i}
 
 -- the byte that is put, and those after it
-parted : (c : goal.In-loop-i) →
+parted : (c : In-loop-i) →
     let s = c.args in
     let l = c.loop-i in
     Left s.out-1.now s.at s.bytes.now l.out-1 l.p ((get_or s.bytes.now l.i 0 ∷ []) ∷ drop (l.i + 1) s.bytes.now ∷ [])
@@ -24,8 +25,7 @@ bounds-bytes-i c = omega arith
 
 pub byte-p-requires : goal.byte-p-requires
 byte-p-requires c =
-    let at_test = c.before.before in
-    room-left (parted at_test) at_test.requires
+    room-left (parted (goal.at.byte-p-requires c).In-loop-i) c.requires
 
 pub overflow_add-i : goal.overflow_add-i
 overflow_add-i c = omega arith
@@ -35,8 +35,7 @@ loop-i-smaller c = omega arith
 
 pub loop-i-preserved : goal.loop-i-preserved
 loop-i-preserved c =
-    let at_test = c.before.before.before.before.before in
-    (omega arith, less-left (parted at_test) c.byte-p.ensures, omega arith)
+    (omega arith, less-left (parted (goal.at.loop-i-preserved c).In-loop-i) c.byte-p.ensures, omega arith)
 
 pub shape_of-out : goal.shape_of-out
 shape_of-out c = omega arith

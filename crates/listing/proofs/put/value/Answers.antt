@@ -22,18 +22,15 @@ number-requires c = room-left (high (goal.at.number-requires c).Then-word-ge-ZER
 
 pub returns-then-word-ge-ZERO : goal.returns-then-word-ge-ZERO
 returns-then-word-ge-ZERO c =
-    let at-if1 = c.before.before.before.before in
-    last-left (high at-if1) c.number.ensures
+    last-left (high (goal.at.returns-then-word-ge-ZERO c).Then-word-ge-ZERO) c.number.ensures
 
 pub byte-p-requires : goal.byte-p-requires
 byte-p-requires c = room-left (low (goal.at.byte-p-requires c).Else-word-ge-ZERO) c.requires
 
 pub number-requires-2 : goal.number-requires-2
 number-requires-2 c =
-    let at-if1 = c.before.before.before.before.before in
-    room-left (less-left (low at-if1) c.byte-p.ensures) at-if1.requires
+    room-left (less-left (low (goal.at.number-requires-2 c).Else-word-ge-ZERO) c.byte-p.ensures) c.requires
 
 pub returns : goal.returns
 returns c =
-    let at-if1 = c.before.before.before.before.before.before.before.before in
-    last-left (less-left (low at-if1) c.byte-p.ensures) c.number-2.ensures
+    last-left (less-left (low (goal.at.returns c).Else-word-ge-ZERO) c.byte-p.ensures) c.number-2.ensures

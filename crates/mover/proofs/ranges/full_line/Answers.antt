@@ -28,10 +28,8 @@ text-p-requires c = room-left (parted (goal.at.text-p-requires c).Else-n-eq0) c.
 
 pub full_ranges-requires : goal.full_ranges-requires
 full_ranges-requires c =
-    let at-if1 = c.before.before.before.before.before.before in
-    room-left (less-left (parted at-if1) c.text-p.ensures) at-if1.pre
+    room-left (less-left (parted (goal.at.full_ranges-requires c).Else-n-eq0) c.text-p.ensures) c.pre
 
 pub returns : goal.returns
 returns c =
-    let at-if1 = c.before.before.before.before.before.before.before.before.before in
-    last-left (less-left (parted at-if1) c.text-p.ensures) c.full_ranges.ensures
+    last-left (less-left (parted (goal.at.returns c).Else-n-eq0) c.text-p.ensures) c.full_ranges.ensures

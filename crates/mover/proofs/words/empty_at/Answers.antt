@@ -6,7 +6,7 @@ use Rattle.tables.specs.Codes.{some_code, all_code, constant_code}
 use Rattle.mover.specs.Model.{token_code}
 use Rattle.mover.proofs.Laws.Words.{inside, empty-low, empty-high, lower-other, upper-other, empty-bounds}
 use Rattle.mover.proofs.words.empty_at.Goals as goal
-use Rattle.mover.proofs.words.empty_at.Goals.{Else-c-gt-ALL}
+use Rattle.mover.proofs.words.empty_at.Goals.{Else-c-gt-ALL, Else-code-ne-CONSTANT, Else-code-ne-CONSTANT-2}
 
 abbrev start : goal.Else-c-gt-ALL → goal.Start
 start c = c.before.before.before.before
@@ -17,10 +17,10 @@ quantifier : (c : Else-c-gt-ALL) →
 quantifier c =
     (omega (arith, c.code-c.ensures, c.if-c-lt-SOME.false), omega (arith, c.code-c.ensures, c.if-c-gt-ALL.false))
 
-lower : (c : goal.Else-code-ne-CONSTANT) → let a = (start c.before.before).args in token_code a.w.now (a.i + 2) ≡ constant_code
+lower : (c : Else-code-ne-CONSTANT) → let a = (start c.before.before).args in token_code a.w.now (a.i + 2) ≡ constant_code
 lower c = sym c.code.ensures ∙ c.if-code-ne-CONSTANT.false
 
-upper : (c : goal.Else-code-ne-CONSTANT-2) → let a = (start c.before.before.before.before).args in token_code a.w.now (a.i + 3) ≡ constant_code
+upper : (c : Else-code-ne-CONSTANT-2) → let a = (start c.before.before.before.before).args in token_code a.w.now (a.i + 3) ≡ constant_code
 upper c = sym c.code-2.ensures ∙ c.if-code-ne-CONSTANT-2.false
 
 pub returns-then-c-lt-SOME : goal.returns-then-c-lt-SOME
@@ -42,11 +42,10 @@ returns-then-code-ne-CONSTANT c =
 
 pub returns-then-code-ne-CONSTANT-2 : goal.returns-then-code-ne-CONSTANT-2
 returns-then-code-ne-CONSTANT-2 c =
-    let at-if3 = c.before.before in
-    let at-if2 = at-if3.before.before in
+    let at-if2 = c.before.before.before.before in
     let a = (start at-if2).args in
     let q = quantifier at-if2 in
-    sym (upper-other a.w.now a.i q.0 q.1 (lower at-if3) (λ e. c.if-code-ne-CONSTANT-2.true (c.code-2.ensures ∙ e)))
+    sym (upper-other a.w.now a.i q.0 q.1 (lower (goal.at.returns-then-code-ne-CONSTANT-2 c).Else-code-ne-CONSTANT) (λ e. c.if-code-ne-CONSTANT-2.true (c.code-2.ensures ∙ e)))
 
 pub operand-requires : goal.operand-requires
 operand-requires c =
@@ -55,16 +54,13 @@ operand-requires c =
 
 pub operand-requires-2 : goal.operand-requires-2
 operand-requires-2 c =
-    let at-if3 = c.before.before.before in
-    let s = start at-if3.before.before in
-    omega (arith, inside s.args.w.now (s.args.i + 2) (omega (arith, lower at-if3)), s.pre.0)
+    let s = start c.before.before.before.before.before in
+    omega (arith, inside s.args.w.now (s.args.i + 2) (omega (arith, lower (goal.at.operand-requires-2 c).Else-code-ne-CONSTANT)), s.pre.0)
 
 pub returns : goal.returns
 returns c =
-    let at-if4 = c.before.before in
-    let at-if3 = at-if4.before.before in
-    let at-if2 = at-if3.before.before in
+    let at-if2 = c.before.before.before.before.before.before in
     let a = (start at-if2).args in
     let q = quantifier at-if2 in
-    sym (empty-bounds a.w.now a.i q.0 q.1 (lower at-if3) (upper at-if4)
+    sym (empty-bounds a.w.now a.i q.0 q.1 (lower (goal.at.returns c).Else-code-ne-CONSTANT) (upper (goal.at.returns c).Else-code-ne-CONSTANT-2)
     ∙ rw (← c.operand.ensures, ← c.operand-2.ensures))

@@ -25,8 +25,7 @@ other c =
 
 pub text-requires : goal.text-requires
 text-requires c =
-    let at-if1 = c.before.before.before.before in
-    room_as at-if1.args.at (quotient at-if1 ∙ sym c.by_edition.ensures) at-if1.requires
+    room_as c.args.at (quotient (goal.at.text-requires c).Then-code-eq-QUO ∙ sym c.by_edition.ensures) c.requires
 
 pub returns-then-code-eq-QUO : goal.returns-then-code-eq-QUO
 returns-then-code-eq-QUO c =
@@ -34,8 +33,7 @@ returns-then-code-eq-QUO c =
 
 pub text-requires-then-code-eq-REM : goal.text-requires-then-code-eq-REM
 text-requires-then-code-eq-REM c =
-    let at-if2 = c.before.before.before.before in
-    room_as at-if2.args.at (remainder at-if2 ∙ sym c.by_edition-then-code-eq-REM.ensures) at-if2.requires
+    room_as c.args.at (remainder (goal.at.text-requires-then-code-eq-REM c).Then-code-eq-REM ∙ sym c.by_edition-then-code-eq-REM.ensures) c.requires
 
 pub returns-then-code-eq-REM : goal.returns-then-code-eq-REM
 returns-then-code-eq-REM c =

@@ -33,9 +33,8 @@ returns-then-i-until c =
 
 pub stand_in-requires : goal.stand_in-requires
 stand_in-requires c =
-    let at-if2 = c.before in
-    let start = start_of at-if2.before in
-    (start.pre.0, room_as start.args.at (empty at-if2) start.pre.2)
+    let start = start_of c.before.before in
+    (start.pre.0, room_as start.args.at (empty (goal.at.stand_in-requires c).Then-empty_at) start.pre.2)
 
 pub returns-then-empty_at : goal.returns-then-empty_at
 returns-then-empty_at c =

@@ -11,6 +11,7 @@ use Rattle.mover.specs.Model.{chunk, chunks, is_key, until_after, word_piece, re
 use Rattle.mover.specs.Steps.{kept}
 use Rattle.mover.proofs.Laws.Chunks.{part, ChunkAt, chunk-places, chunk-some, key-at, key_more, word_more, rewritten-none}
 use Rattle.mover.proofs.words.rewrite.Goals as goal
+use Rattle.mover.proofs.words.rewrite.Goals.{Chunked, Else-either_at, Then-either_at}
 
 abbrev Chunked : Type 0
 Chunked = goal.After-either_at decreases-loop
@@ -55,7 +56,7 @@ Due c pieces =
     let l = (turn c).loop in
     Left a.out-1.now a.at (rewritten a.w.now a.newer 0 0 (chunks (drop a.from a.s.now))) l.out-1 l.p pieces
 
-key : (c : goal.Then-either_at) →
+key : (c : Then-either_at) →
     let b = c.before in
     let a = (start b).args in
     let l = (turn b).loop in
@@ -66,7 +67,7 @@ key c =
     let l = (turn b).loop in
     split-left _ (key_more (at b) a.w.now a.newer l.token l.until (is-key b ∙ c.if-either_at.true)) l.inv.1
 
-word : (c : goal.Else-either_at) →
+word : (c : Else-either_at) →
     let b = c.before in
     let a = (start b).args in
     let l = (turn b).loop in
@@ -95,31 +96,30 @@ loop-i-init c =
     (c.requires.0, all_left a.out-1.now a.at (rewritten a.w.now a.newer 0 0 (chunks (drop a.from a.s.now))), omega arith, refl)
 
 pub slice_bounds-text-count : goal.slice_bounds-text-count
-slice_bounds-text-count c = let q = chunk-places (at c.before.before) in omega (arith, q.0, q.1)
+slice_bounds-text-count c = let q = chunk-places (at (goal.at.slice_bounds-text-count c).Chunked) in omega (arith, q.0, q.1)
 
 pub slice_bounds-text-start : goal.slice_bounds-text-start
-slice_bounds-text-start c = let q = chunk-places (at c.before.before) in omega (arith, q.0, q.1)
+slice_bounds-text-start c = let q = chunk-places (at (goal.at.slice_bounds-text-start c).Chunked) in omega (arith, q.0, q.1)
 
 pub slice_bounds-text-end : goal.slice_bounds-text-end
-slice_bounds-text-end c = (chunk-places (at c.before.before)).2
+slice_bounds-text-end c = (chunk-places (at (goal.at.slice_bounds-text-end c).Chunked)).2
 
 pub text-p-requires : goal.text-p-requires
-text-p-requires c = let t = c.before.before in room-left (key t) (start t.before).pre.3
+text-p-requires c = room-left (key (goal.at.text-p-requires c).Then-either_at) (start c.before.before.before).pre.3
 
 pub slice_bounds-put_word-count : goal.slice_bounds-put_word-count
-slice_bounds-put_word-count c = (chunk-places (at c.before.before)).0
+slice_bounds-put_word-count c = (chunk-places (at (goal.at.slice_bounds-put_word-count c).Chunked)).0
 
 pub slice_bounds-put_word-start : goal.slice_bounds-put_word-start
-slice_bounds-put_word-start c = (chunk-places (at c.before.before)).0
+slice_bounds-put_word-start c = (chunk-places (at (goal.at.slice_bounds-put_word-start c).Chunked)).0
 
 pub slice_bounds-put_word-end : goal.slice_bounds-put_word-end
-slice_bounds-put_word-end c = let q = chunk-places (at c.before.before) in omega (arith, q.1, q.2)
+slice_bounds-put_word-end c = let q = chunk-places (at (goal.at.slice_bounds-put_word-end c).Chunked) in omega (arith, q.1, q.2)
 
 pub put_word-p-requires : goal.put_word-p-requires
 put_word-p-requires c =
-    let t = c.before.before in
-    let s = start t.before in
-    (s.pre.2, few t.before, room-left (word t _ _ refl refl) s.pre.3)
+    let s = start c.before.before.before in
+    (s.pre.2, few (goal.at.put_word-p-requires c).Chunked, room-left (word (goal.at.put_word-p-requires c).Else-either_at _ _ refl refl) s.pre.3)
 
 pub until_after-until-requires : goal.until_after-until-requires
 until_after-until-requires c =
@@ -147,14 +147,12 @@ put_mark-p-requires c =
 
 pub loop-i-smaller-then-either_at : goal.loop-i-smaller-then-either_at
 loop-i-smaller-then-either_at c =
-    let b = c.before.before.before.before.before.before in
-    omega (arith, chunk-some (at b), (chunk-places (at b)).2)
+    omega (arith, chunk-some (at (goal.at.loop-i-smaller-then-either_at c).Chunked), (chunk-places (at (goal.at.loop-i-smaller-then-either_at c).Chunked)).2)
 
 pub loop-i-preserved-then-either_at : goal.loop-i-preserved-then-either_at
 loop-i-preserved-then-either_at c =
-    let t = c.before.before.before.before.before in
-    let q = chunk-places (at t.before) in
-    (q.2, less-left (key t) c.text-p.ensures, omega (arith, (turn t.before).loop.inv.2, q.0, q.1), omega arith)
+    let q = chunk-places (at (goal.at.loop-i-preserved-then-either_at c).Chunked) in
+    (q.2, less-left (key (goal.at.loop-i-preserved-then-either_at c).Then-either_at) c.text-p.ensures, omega (arith, (turn c.before.before.before.before.before.before).loop.inv.2, q.0, q.1), omega arith)
 
 pub loop-i-smaller : goal.loop-i-smaller
 loop-i-smaller c =

@@ -18,8 +18,7 @@ all c =
 
 pub text-requires : goal.text-requires
 text-requires c =
-    let at-if1 = c.before.before in
-    room_as at-if1.args.at (some at-if1) at-if1.requires.1
+    room_as c.args.at (some (goal.at.text-requires c).Then-code-eq-SOME) c.requires.1
 
 pub returns-then-code-eq-SOME : goal.returns-then-code-eq-SOME
 returns-then-code-eq-SOME c =
@@ -27,8 +26,7 @@ returns-then-code-eq-SOME c =
 
 pub text-requires-2 : goal.text-requires-2
 text-requires-2 c =
-    let at-if1 = c.before.before in
-    room_as at-if1.args.at (all at-if1) at-if1.requires.1
+    room_as c.args.at (all (goal.at.text-requires-2 c).Else-code-eq-SOME) c.requires.1
 
 pub returns : goal.returns
 returns c =
