@@ -13,12 +13,12 @@ use Rattle.listing.proofs.answer.Goals.{Start}
 -- the one line
 parted : (c : Start) →
     let a = c.args in
-    Left a.out-1.now 0 (head_text (Answer a.number)) a.out-1.now 0 (field_text (bytes "answer=") a.number ∷ [])
+    Left a.out.now 0 (head_text (Answer a.number)) a.out.now 0 (field_text (bytes "answer=") a.number ∷ [])
 parted c = pieces-left _ _ _ (answer-pieces c.args.number)
 
 pub field-requires : goal.field-requires
-field-requires c = room-left (parted (goal.at.field-requires c).Start) (answer-room c.args.number c.ranges.number.fits)
+field-requires c = room-left (parted (goal.at.field-requires c).Start (answer-room c.args.number c.ranges.number.fits)
 
 pub returns : goal.returns
 returns c =
-    answer-headed c.args.number c.ranges.number.fits (last-left (parted (goal.at.returns c).Start) c.field.ensures)
+    answer-headed c.args.number c.ranges.number.fits (last-left (parted (goal.at.returns c).Start c.field.ensures)

@@ -12,8 +12,8 @@ use Rattle.listing.proofs.block.Goals.{Start}
 parted : (c : Start) →
     let a = c.args in
     let w = a.w.now in
-    Left a.out-1.now 0 (model_text w a.scalars-q a.arrays a.head) a.out-1.now 0
-    (head_text a.head ∷ lines_text (each_line (scalar_line w) 0 a.scalars-q) ∷ lines_text (each_line (array_lines w) 0 a.arrays) ∷ [])
+    Left a.out.now 0 (model_text w a.scalars a.arrays a.head) a.out.now 0
+    (head_text a.head ∷ lines_text (each_line (scalar_line w) 0 a.scalars) ∷ lines_text (each_line (array_lines w) 0 a.arrays) ∷ [])
 parted c = pieces-left _ _ _ refl
 
 pub scalars-q-requires : goal.scalars-q-requires
@@ -33,4 +33,4 @@ arrays-requires c =
 
 pub returns : goal.returns
 returns c =
-    last-left (less-left (less-left (parted (goal.at.returns c).Start) c.top-p.ensures.text) c.scalars-q.ensures) c.arrays.ensures
+    last-left (less-left (less-left (parted (goal.at.returns c).Start c.top-p.ensures.text) c.scalars-q.ensures) c.arrays.ensures

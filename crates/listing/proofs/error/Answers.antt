@@ -14,7 +14,7 @@ use Rattle.listing.proofs.error.Goals.{Start}
 -- the three lines
 parted : (c : Start) →
     let a = c.args in
-    Left a.out-1.now 0 (head_text (Error a.number a.kind a.token)) a.out-1.now 0
+    Left a.out.now 0 (head_text (Error a.number a.kind a.token)) a.out.now 0
     (field_text (bytes "error=") a.number ∷ field_text (bytes "kind=") a.kind ∷ field_text (bytes "at=") a.token ∷ [])
 parted c = pieces-left _ _ _ (error-pieces c.args.number c.args.kind c.args.token)
 
@@ -25,19 +25,19 @@ room c =
     error-room a.number f.number.fits a.kind a.token f.kind.fits f.token.fits
 
 pub field-p-requires : goal.field-p-requires
-field-p-requires c = room-left (parted (goal.at.field-p-requires c).Start) (room (goal.at.field-p-requires c).Start)
+field-p-requires c = room-left (parted (goal.at.field-p-requires c).Start (room (goal.at.field-p-requires c).Start
 
 pub field-q-requires : goal.field-q-requires
 field-q-requires c =
-    room-left (less-left (parted (goal.at.field-q-requires c).Start) c.field-p.ensures) (room (goal.at.field-q-requires c).Start)
+    room-left (less-left (parted (goal.at.field-q-requires c).Start c.field-p.ensures) (room (goal.at.field-q-requires c).Start
 
 pub field-requires : goal.field-requires
 field-requires c =
-    room-left (less-left (less-left (parted (goal.at.field-requires c).Start) c.field-p.ensures) c.field-q.ensures) (room (goal.at.field-requires c).Start)
+    room-left (less-left (less-left (parted (goal.at.field-requires c).Start c.field-p.ensures) c.field-q.ensures) (room (goal.at.field-requires c).Start
 
 pub returns : goal.returns
 returns c =
     let a = c.args in
     let f = c.ranges in
     error-headed a.number f.number.fits a.kind a.token f.kind.fits f.token.fits
-    (last-left (less-left (less-left (parted (goal.at.returns c).Start) c.field-p.ensures) c.field-q.ensures) c.field.ensures)
+    (last-left (less-left (less-left (parted (goal.at.returns c).Start c.field-p.ensures) c.field-q.ensures) c.field.ensures)

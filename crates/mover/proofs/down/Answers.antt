@@ -17,7 +17,7 @@ unfolding down_result
 returns-in-At c =
     let a = c.args in
     let s = a.s.now in
-    done-some a.out-1.now 15 _ (narrow_of a.ranges s) (unless 16 (rounding_of s) (fitted (down_text a.w.now s)))
+    done-some a.out.now 15 _ (narrow_of a.ranges s) (unless 16 (rounding_of s) (fitted (down_text a.w.now s)))
     (narrow-of s a.ranges _ _ c.lines_end.ensures (ap placed (sym c.in-At.is) ∙ c.narrow.ensures))
 
 pub returns-in-Nowhere : goal.returns-in-Nowhere
@@ -25,6 +25,6 @@ unfolding down_result
 returns-in-Nowhere c =
     let a = c.args in
     let s = a.s.now in
-    done_none a.out-1.now _ 15 (narrow_of a.ranges s) (unless 16 (rounding_of s) (fitted (down_text a.w.now s))) _
+    done_none a.out.now _ 15 (narrow_of a.ranges s) (unless 16 (rounding_of s) (fitted (down_text a.w.now s))) _
     (narrow-of s a.ranges _ _ c.lines_end.ensures (ap placed (sym c.in-Nowhere.is) ∙ c.narrow.ensures))
     c.down_full.ensures

@@ -10,13 +10,13 @@ pub returns-in-At : goal.returns-in-At
 returns-in-At c =
     let a = c.args in
     let s = a.s.now in
-    done-some a.out-1.now 16 _ (rounding_of s) (fitted (down_text a.w.now s))
+    done-some a.out.now 16 _ (rounding_of s) (fitted (down_text a.w.now s))
     (rounding-of s _ _ c.lines_end.ensures (ap placed (sym c.in-At.is) ∙ c.rounding.ensures))
 
 pub returns-in-Nowhere : goal.returns-in-Nowhere
 returns-in-Nowhere c =
     let a = c.args in
     let s = a.s.now in
-    done_none a.out-1.now _ 16 (rounding_of s) (fitted (down_text a.w.now s)) _
+    done_none a.out.now _ 16 (rounding_of s) (fitted (down_text a.w.now s)) _
     (rounding-of s _ _ c.lines_end.ensures (ap placed (sym c.in-Nowhere.is) ∙ c.rounding.ensures))
     c.fit.ensures

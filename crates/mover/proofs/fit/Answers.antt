@@ -6,10 +6,10 @@ use Rattle.mover.proofs.fit.Goals as goal
 pub returns-then-n-gt-LONGEST : goal.returns-then-n-gt-LONGEST
 returns-then-n-gt-LONGEST c =
     let a = c.args in
-    done-long a.out-1.now (moved_text a.way a.ranges a.w.now a.s.now) _ c.size-n.ensures c.if-n-gt-LONGEST.true
+    done-long a.out.now (moved_text a.way a.ranges a.w.now a.s.now) _ c.size-n.ensures c.if-n-gt-LONGEST.true
 
 pub returns : goal.returns
 returns c =
     let a = c.args in
-    done-moved a.out-1.now (moved_text a.way a.ranges a.w.now a.s.now) _ c.size-n.ensures _ _ c.if-n-gt-LONGEST.false c.requires.2
+    done-moved a.out.now (moved_text a.way a.ranges a.w.now a.s.now) _ c.size-n.ensures _ _ c.if-n-gt-LONGEST.false c.requires.2
     c.moved_text.ensures

@@ -9,20 +9,16 @@ use Rattle.mover.proofs.Laws.Lines.{lines_length-≤}
 use Rattle.mover.proofs.Laws.Chunks.{part}
 use Rattle.mover.proofs.Laws.Texts.{head-pieces, head-short}
 use Rattle.mover.proofs.head.Goals as goal
-use Rattle.mover.proofs.head.Goals.{After-lines_end-h}
-
-abbrev start : goal.After-lines_end-h → goal.Start
-start c = c.before.before.before.before
+use Rattle.mover.proofs.head.Goals.{After-lines_end-h, Start}
 
 parted : (c : After-lines_end-h) →
-    let a = (start c).args in
-    Left a.out-1.now 0 (a.edition.now ++ head_rest a.s.now) a.out-1.now 0
+    let a = c.args in
+    Left a.out.now 0 (a.edition.now ++ head_rest a.s.now) a.out.now 0
     (a.edition.now ∷ part 10 c.lines_end-h.result a.s.now ∷ [])
 parted c =
-    let s = start c in
-    pieces-left _ _ _ (head-pieces s.args.s.now s.pre.1 s.args.edition.now c.lines_end-h.result c.lines_end-h.ensures)
+    pieces-left _ _ _ (head-pieces c.args.s.now c.requires.1 c.args.edition.now c.lines_end-h.result c.lines_end-h.ensures)
 
-room : (c : goal.Start) → Room 0 (c.args.edition.now ++ head_rest c.args.s.now)
+room : (c : Start) → Room 0 (c.args.edition.now ++ head_rest c.args.s.now)
 room c =
     let e = c.args.edition.now in
     let s = c.args.s.now in
@@ -30,15 +26,12 @@ room c =
 
 pub slice_bounds-text-end : goal.slice_bounds-text-end
 slice_bounds-text-end c =
-    let at-lines = c.before.before.before.before.before in
-    let s = start at-lines in
-    omega (arith, at-lines.lines_end-h.ensures, lines_length-≤ head_lines s.args.s.now)
+    omega (arith, c.lines_end-h.ensures, lines_length-≤ head_lines c.args.s.now)
 
 pub text-requires : goal.text-requires
 text-requires c =
-    let at-lines = c.before.before.before.before.before.before in
-    room-left (less-left (parted at-lines) c.text-p.ensures) (room (start at-lines))
+    room-left (less-left (parted (goal.at.text-requires c).After-lines_end-h c.text-p.ensures) (room (goal.at.text-requires c).Start
 
 pub returns : goal.returns
 returns c =
-    last-left (less-left (parted (goal.at.returns c).After-lines_end-h) c.text-p.ensures) c.text.ensures
+    last-left (less-left (parted (goal.at.returns c).After-lines_end-h c.text-p.ensures) c.text.ensures

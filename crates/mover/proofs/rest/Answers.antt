@@ -11,46 +11,42 @@ use Rattle.mover.proofs.Laws.Texts.{rest-pieces}
 use Rattle.mover.proofs.rest.Goals as goal
 use Rattle.mover.proofs.rest.Goals.{After-lines_end-e}
 
-abbrev start : goal.After-lines_end-e → goal.Start
-start c = c.before.before.before.before.before
-
 -- the line of given values stands in the sheet
 within : (c : After-lines_end-e) →
     let e = c.lines_end-e.result in
-    (c.lines_end-k.result ≤ e) × (e ≤ length (start c).args.s.now)
+    (c.lines_end-k.result ≤ e) × (e ≤ length c.args.s.now)
 within c =
-    let a = (start c).args in
+    let a = c.args in
     let k = c.lines_end-k.ensures in
     let e = c.lines_end-e.ensures in
     (omega (arith, k, e, lines_length-next a.lines a.s.now), omega (arith, e, lines_length-≤ (a.lines + 1) a.s.now))
 
 parted : (c : After-lines_end-e) →
-    let a = (start c).args in
+    let a = c.args in
     let e = c.lines_end-e.result in
-    Left a.out-1.now a.at (rest_text a.w.now a.newer a.lines a.s.now) a.out-1.now a.at
+    Left a.out.now a.at (rest_text a.w.now a.newer a.lines a.s.now) a.out.now a.at
     (part c.lines_end-k.result e a.s.now ∷ rewritten a.w.now a.newer 0 0 (chunks (drop e a.s.now)) ∷ [])
 parted c =
-    let a = (start c).args in
+    let a = c.args in
     pieces-left _ _ _ (rest-pieces a.s.now a.w.now a.newer a.lines _ _ c.lines_end-k.ensures c.lines_end-e.ensures)
 
 pub slice_bounds-text-count : goal.slice_bounds-text-count
-slice_bounds-text-count c = (within (goal.at.slice_bounds-text-count c).After-lines_end-e).0
+slice_bounds-text-count c = (within (goal.at.slice_bounds-text-count c).After-lines_end-e.0
 
 pub slice_bounds-text-start : goal.slice_bounds-text-start
-slice_bounds-text-start c = (within (goal.at.slice_bounds-text-start c).After-lines_end-e).0
+slice_bounds-text-start c = (within (goal.at.slice_bounds-text-start c).After-lines_end-e.0
 
 pub slice_bounds-text-end : goal.slice_bounds-text-end
-slice_bounds-text-end c = (within (goal.at.slice_bounds-text-end c).After-lines_end-e).1
+slice_bounds-text-end c = (within (goal.at.slice_bounds-text-end c).After-lines_end-e.1
 
 pub text-p-requires : goal.text-p-requires
-text-p-requires c = let l = c.before.before in room-left (parted l) (start l).requires.3
+text-p-requires c = room-left (parted (goal.at.text-p-requires c).After-lines_end-e c.requires.3
 
 pub rewrite-requires : goal.rewrite-requires
 rewrite-requires c =
-    let l = c.before.before.before.before.before.before in
-    let p = (start l).requires in
-    ((within l).1, p.0, p.1, room-left (less-left (parted l) c.text-p.ensures) p.3)
+    let p = c.requires in
+    ((within (goal.at.rewrite-requires c).After-lines_end-e.1, p.0, p.1, room-left (less-left (parted (goal.at.rewrite-requires c).After-lines_end-e c.text-p.ensures) p.3)
 
 pub returns : goal.returns
 returns c =
-    last-left (less-left (parted (goal.at.returns c).After-lines_end-e) c.text-p.ensures) c.rewrite.ensures
+    last-left (less-left (parted (goal.at.returns c).After-lines_end-e c.text-p.ensures) c.rewrite.ensures

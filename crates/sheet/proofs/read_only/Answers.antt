@@ -5,25 +5,19 @@ use Rattle.specification.specs.Bytes.{class_number, feed}
 use Rattle.sheet.proofs.Only.{only-refused, only-found}
 use Rattle.sheet.proofs.read_only.Goals as goal
 
--- the first line was read
-abbrev start : goal.After-count_line → goal.Start
-start c = c.before.before.before.before
-
 pub returns-in-Refused : goal.returns-in-Refused
 unfolding class_number
 returns-in-Refused c =
-    let line = c.before.before.before.before.before.before.before in
-    let a = (start line).args in
-    let first = line.count_line in
-    only-refused a.s.now a.edition a.strict (length a.w-1.now) first.result (first.ensures.1 feed refl) _ _
+    let a = c.args in
+    let first = c.count_line in
+    only-refused a.s.now a.edition a.strict (length a.w.now) first.result (first.ensures.1 feed refl) _ _
     c.in-Refused.is _ c.clear.ensures
 
 pub returns-in-Is : goal.returns-in-Is
 unfolding class_number
 returns-in-Is c =
-    let line = c.before.before.before.before.before.before in
-    let a = (start line).args in
-    let first = line.count_line in
+    let a = c.args in
+    let first = c.count_line in
     let read = c.read_sheet.ensures in
-    only-found a.s.now a.edition a.strict (length a.w-1.now) first.result (first.ensures.1 feed refl) _ _ c.in-Is.is
+    only-found a.s.now a.edition a.strict (length a.w.now) first.result (first.ensures.1 feed refl) _ _ c.in-Is.is
     _ _ read.0 read.1

@@ -15,7 +15,7 @@ overflow_add-scalars c =
     let a = c.args in
     let (e, h) = rw (c.is_strict.ensures, c.edition_of.ensures) at c.admit.ensures in
     let k =
-    known-sheet a.way a.sheet.now (length a.work-1.now) (length a.output-1.now) _ _ _ _ _
+    known-sheet a.way a.sheet.now (length a.work.now) (length a.output.now) _ _ _ _ _
     (sym c.in-Read.is ∙ e) h in
     omega (arith, k.few.0, k.few.1)
 
@@ -24,7 +24,7 @@ moved-moved-requires c =
     let a = c.args in
     let (e, h) = rw (c.is_strict.ensures, c.edition_of.ensures) at c.admit.ensures in
     let k =
-    known-sheet a.way a.sheet.now (length a.work-1.now) (length a.output-1.now) _ _ _ _ _
+    known-sheet a.way a.sheet.now (length a.work.now) (length a.output.now) _ _ _ _ _
     (sym c.in-Read.is ∙ e) h in
     (k.movable, omega (arith, k.few.0, k.few.1), k.room)
 
@@ -32,12 +32,12 @@ pub returns-in-Refused : goal.returns-in-Refused
 returns-in-Refused c =
     let a = c.args in
     let (e, h) = rw (c.is_strict.ensures, c.edition_of.ensures) at c.admit.ensures in
-    refused-answers a.way a.sheet.now a.work-1.now a.output-1.now _ _ _ (sym c.in-Refused.is ∙ e) h
+    refused-answers a.way a.sheet.now a.work.now a.output.now _ _ _ (sym c.in-Refused.is ∙ e) h
 
 pub returns-in-Read : goal.returns-in-Read
 returns-in-Read c =
     let a = c.args in
     let (e, h) = rw (c.is_strict.ensures, c.edition_of.ensures) at c.admit.ensures in
-    moved-answers a.way a.sheet.now a.work-1.now a.output-1.now _ _ _ _ _ _ _ _
+    moved-answers a.way a.sheet.now a.work.now a.output.now _ _ _ _ _ _ _ _
     (sym c.in-Read.is ∙ e) h c.moved-moved.ensures
     (c.clear.ensures ∙ ap (λ n. replicate n 0) c.admit.auto.1.1.1.0)

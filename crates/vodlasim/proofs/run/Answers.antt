@@ -2,7 +2,7 @@
 use native.Mathlib.Omega.{arith}
 use mathlib.Core.Path.{sym, ◌∙◌}
 use lib.ListN.{length}
-use borrow.Author.Tests.{le-leb, lt-leb, not-true, not-false}
+use borrow.Author.Tests.{le-leb, lt-leb}
 use Rattle.vodlasim.proofs.Runs.{memory-of, first-refused, second-refused, readied, refused-answers, unread-answers, walk-answers}
 use Rattle.vodlasim.proofs.run.Goals as goal
 
@@ -10,15 +10,15 @@ pub returns-then-not-enough : goal.returns-then-not-enough
 returns-then-not-enough c =
     let a = c.args in
     let enough = sym c.enough.ensures ∙ c.if-not-enough.true in
-    refused-answers a.sheet.now a.setting a.work-1.now _ a.output-1.now 1 0
-    (first-refused a.sheet.now a.setting (length a.work-1.now) (length a.output-1.now) enough) c.clear.ensures
+    refused-answers a.sheet.now a.setting a.work.now _ a.output.now 1 0
+    (first-refused a.sheet.now a.setting (length a.work.now) (length a.output.now) enough) c.clear.ensures
 
 pub returns-then-sheet-gt-LONGEST_SHEET : goal.returns-then-sheet-gt-LONGEST_SHEET
 returns-then-sheet-gt-LONGEST_SHEET c =
     let a = c.args in
     let enough = sym c.enough.ensures ∙ c.if-not-enough.false in
-    refused-answers a.sheet.now a.setting a.work-1.now _ a.output-1.now 2 4096
-    (second-refused a.sheet.now a.setting (length a.work-1.now) (length a.output-1.now) enough
+    refused-answers a.sheet.now a.setting a.work.now _ a.output.now 2 4096
+    (second-refused a.sheet.now a.setting (length a.work.now) (length a.output.now) enough
     (lt-leb (length a.sheet.now) 4096 c.if-sheet-gt-LONGEST_SHEET.true)) c.clear-then-sheet-gt-LONGEST_SHEET.ensures
 
 pub read_sheet-requires : goal.read_sheet-requires
@@ -31,15 +31,15 @@ walk_tables-outcome-requires c =
     let a = c.args in
     let enough = sym c.enough.ensures ∙ c.if-not-enough.false in
     let read = c.read_sheet.ensures in
-    let (limit, size) = memory-of a.setting.path (length a.work-1.now) enough in
-    readied a.sheet.now a.setting (length a.work-1.now) limit size _ _ _ _ _ (sym c.in-Read.is ∙ read.0) read.1
+    let (limit, size) = memory-of a.setting.path (length a.work.now) enough in
+    readied a.sheet.now a.setting (length a.work.now) limit size _ _ _ _ _ (sym c.in-Read.is ∙ read.0) read.1
 
 pub returns-in-Refused : goal.returns-in-Refused
 returns-in-Refused c =
     let a = c.args in
     let enough = sym c.enough.ensures ∙ c.if-not-enough.false in
     let read = c.read_sheet.ensures in
-    unread-answers a.sheet.now a.setting a.work-1.now _ a.output-1.now enough
+    unread-answers a.sheet.now a.setting a.work.now _ a.output.now enough
     (le-leb (length a.sheet.now) 4096 c.if-sheet-gt-LONGEST_SHEET.false) _ _
     (sym c.in-Refused.is ∙ read.0) read.1
 
@@ -48,6 +48,6 @@ returns-in-Read c =
     let a = c.args in
     let enough = sym c.enough.ensures ∙ c.if-not-enough.false in
     let read = c.read_sheet.ensures in
-    walk-answers a.sheet.now a.setting a.work-1.now _ a.output-1.now enough
+    walk-answers a.sheet.now a.setting a.work.now _ a.output.now enough
     (le-leb (length a.sheet.now) 4096 c.if-sheet-gt-LONGEST_SHEET.false) _ _ _ _ _ _ _ _
     (sym c.in-Read.is ∙ read.0) read.1 c.walk_tables-outcome.ensures c.clear-in-Read.ensures

@@ -6,4 +6,4 @@ use Rattle.vodlasim_c.proofs.vodlasim_run.Goals as goal
 pub returns : goal.returns
 returns c =
     let answered = c.run-outcome.ensures in
-    record { report = c.numbers.ensures ∙ ap report_of answered.result; output = answered.output-1; work = answered.work-1 }
+    record { report = c.numbers.ensures ∙ ap report_of answered.result; output = answered.output; work = answered.work }

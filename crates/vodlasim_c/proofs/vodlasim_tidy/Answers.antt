@@ -7,4 +7,4 @@ use Rattle.vodlasim_c.proofs.vodlasim_tidy.Goals as goal
 pub returns : goal.returns
 returns c =
     let answered = c.tidy-moved.ensures in
-    record { report = c.move_numbers.ensures ∙ ap move_report answered.result; output = answered.output-1; work = answered.work-1 }
+    record { report = c.move_numbers.ensures ∙ ap move_report answered.result; output = answered.output; work = answered.work }

@@ -13,7 +13,7 @@ use Rattle.listing.proofs.cells.array.Goals.{After-first_cell-to}
 parted : (c : After-first_cell-to) →
     let a = c.args in
     let from = c.first_cell-from.result in
-    Left a.out-1.now a.at (lines_text (array_lines a.w.now a.a)) a.out-1.now a.at
+    Left a.out.now a.at (lines_text (array_lines a.w.now a.a)) a.out.now a.at
     (lines_text (each_line (element_line a.w.now a.a from) 0 (c.first_cell-to.result - from)) ∷ [])
 parted c =
     let f = c.first_cell-from in
@@ -27,8 +27,8 @@ overflow_sub-to c = omega arith
 
 pub elements-requires : goal.elements-requires
 elements-requires c =
-    (omega arith, omega arith, room-left (parted (goal.at.elements-requires c).After-first_cell-to) c.requires.3)
+    (omega arith, omega arith, room-left (parted (goal.at.elements-requires c).After-first_cell-to c.requires.3)
 
 pub returns : goal.returns
 returns c =
-    last-left (parted (goal.at.returns c).After-first_cell-to) c.elements.ensures
+    last-left (parted (goal.at.returns c).After-first_cell-to c.elements.ensures

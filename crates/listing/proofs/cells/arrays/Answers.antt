@@ -6,7 +6,7 @@ use Rattle.listing.proofs.Laws.Loop.{turn-first, turn-room, turn-next, turn_last
 use Rattle.listing.proofs.cells.arrays.Goals as goal
 
 pub loop-a-init : goal.loop-a-init
-loop-a-init c = let a = c.args in turn-first (array_lines a.w.now) a.n a.out-1.now a.at
+loop-a-init c = let a = c.args in turn-first (array_lines a.w.now) a.n a.out.now a.at
 
 pub array-p-requires : goal.array-p-requires
 array-p-requires c =

@@ -11,35 +11,34 @@ use Rattle.listing.proofs.cells.element_name.Goals.{After-number-q, Start}
 -- the name's pieces
 parted : (c : Start) →
     let a = c.args in
-    Left a.out-1.now a.at (label_text (cell_label (element a.a a.e))) a.out-1.now a.at
+    Left a.out.now a.at (label_text (cell_label (element a.a a.e))) a.out.now a.at
     ((97 ∷ []) ∷ printℕ a.a ∷ (46 ∷ []) ∷ printℕ a.e ∷ [])
 parted c = pieces-left _ _ _ (element-pieces c.args.a c.args.e)
 
 -- what is left after the array's number
 numbered : (c : After-number-q) →
-    let at_byte = c.before.before.before.before in
-    let a = at_byte.args in
-    Left a.out-1.now a.at (label_text (cell_label (element a.a a.e))) c.number-q.new.0 c.number-q.result
+    let a = c.args in
+    Left a.out.now a.at (label_text (cell_label (element a.a a.e))) c.number-q.new.0 c.number-q.result
     ((46 ∷ []) ∷ printℕ a.e ∷ [])
 numbered c =
-    let at_byte = c.before.before.before.before in
-    less-left (less-left (parted at_byte.before.before.before) at_byte.byte-p.ensures) c.number-q.ensures
+    let c.before.before.before.before = c.before.before.before.before in
+    less-left (less-left (parted c.before.before.before.before.before.before.before c.byte-p.ensures) c.number-q.ensures
 
 pub byte-p-requires : goal.byte-p-requires
-byte-p-requires c = room-left (parted (goal.at.byte-p-requires c).Start) c.requires
+byte-p-requires c = room-left (parted (goal.at.byte-p-requires c).Start c.requires
 
 pub number-q-requires : goal.number-q-requires
 number-q-requires c =
-    room-left (less-left (parted (goal.at.number-q-requires c).Start) c.byte-p.ensures) c.requires
+    room-left (less-left (parted (goal.at.number-q-requires c).Start c.byte-p.ensures) c.requires
 
 pub byte-s-requires : goal.byte-s-requires
 byte-s-requires c =
-    room-left (numbered (goal.at.byte-s-requires c).After-number-q) c.requires
+    room-left (numbered (goal.at.byte-s-requires c).After-number-q c.requires
 
 pub number-requires : goal.number-requires
 number-requires c =
-    room-left (less-left (numbered (goal.at.number-requires c).After-number-q) c.byte-s.ensures) c.requires
+    room-left (less-left (numbered (goal.at.number-requires c).After-number-q c.byte-s.ensures) c.requires
 
 pub returns : goal.returns
 returns c =
-    last-left (less-left (numbered (goal.at.returns c).After-number-q) c.byte-s.ensures) c.number.ensures
+    last-left (less-left (numbered (goal.at.returns c).After-number-q c.byte-s.ensures) c.number.ensures

@@ -6,7 +6,7 @@ use Rattle.listing.proofs.Laws.Loop.{turn-first, turn-room, turn-next, turn_last
 use Rattle.listing.proofs.cells.elements.Goals as goal
 
 pub loop-i-init : goal.loop-i-init
-loop-i-init c = let a = c.args in turn-first (element_line a.w.now a.a a.c) a.n a.out-1.now a.at
+loop-i-init c = let a = c.args in turn-first (element_line a.w.now a.a a.c) a.n a.out.now a.at
 
 pub overflow_add-c : goal.overflow_add-c
 overflow_add-c c = omega arith

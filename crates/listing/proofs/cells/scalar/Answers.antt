@@ -12,7 +12,7 @@ use Rattle.listing.proofs.cells.scalar.Goals.{After-cell_value-v}
 -- the line's pieces
 parted : (c : After-cell_value-v) →
     let a = c.args in
-    Left a.out-1.now a.at (lines_text (line_at a.w.now (scalar a.n) a.n)) a.out-1.now a.at
+    Left a.out.now a.at (lines_text (line_at a.w.now (scalar a.n) a.n)) a.out.now a.at
     (label_text (cell_label (scalar a.n)) ∷ end_text c.cell_value-v.result ∷ [])
 parted c =
     let a = c.args in
@@ -24,16 +24,16 @@ pub returns-then-cell_flag-eq0 : goal.returns-then-cell_flag-eq0
 returns-then-cell_flag-eq0 c =
     let a = c.args in
     none_left (no_line a.w.now a.n c.cell_flag.result c.cell_flag.ensures (scalar a.n) c.if-cell_flag-eq0.true)
-    (all_left a.out-1.now a.at (lines_text (line_at a.w.now (scalar a.n) a.n)))
+    (all_left a.out.now a.at (lines_text (line_at a.w.now (scalar a.n) a.n)))
 
 pub scalar_name-p-requires : goal.scalar_name-p-requires
 scalar_name-p-requires c =
-    room-left (parted (goal.at.scalar_name-p-requires c).After-cell_value-v) c.requires.2
+    room-left (parted (goal.at.scalar_name-p-requires c).After-cell_value-v c.requires.2
 
 pub ending-requires : goal.ending-requires
 ending-requires c =
-    room-left (less-left (parted (goal.at.ending-requires c).After-cell_value-v) c.scalar_name-p.ensures) c.requires.2
+    room-left (less-left (parted (goal.at.ending-requires c).After-cell_value-v c.scalar_name-p.ensures) c.requires.2
 
 pub returns : goal.returns
 returns c =
-    last-left (less-left (parted (goal.at.returns c).After-cell_value-v) c.scalar_name-p.ensures) c.ending.ensures
+    last-left (less-left (parted (goal.at.returns c).After-cell_value-v c.scalar_name-p.ensures) c.ending.ensures

@@ -6,7 +6,7 @@ use Rattle.listing.proofs.Laws.Loop.{turn-first, turn-room, turn-next, turn_last
 use Rattle.listing.proofs.cells.scalars.Goals as goal
 
 pub loop-i-init : goal.loop-i-init
-loop-i-init c = let a = c.args in turn-first (scalar_line a.w.now) a.n a.out-1.now a.at
+loop-i-init c = let a = c.args in turn-first (scalar_line a.w.now) a.n a.out.now a.at
 
 pub scalar-p-requires : goal.scalar-p-requires
 scalar-p-requires c =

@@ -13,7 +13,7 @@ pub returns-then-out-at : goal.returns-then-out-at
 returns-then-out-at c =
     let a = c.args in
     record {
-      bytes = sym (sets-out a.out-1.now a.at (printℕ a.n) c.if-out-at.true);
+      bytes = sym (sets-out a.out.now a.at (printℕ a.n) c.if-out-at.true);
       end = ap (λ (k : ℕ). a.at + k) c.digits-count.ensures;
     }
 

@@ -12,7 +12,7 @@ use Rattle.listing.proofs.put.text.Goals.{In-loop-i}
 parted : (c : In-loop-i) →
     let s = c.args in
     let l = c.loop-i in
-    Left s.out-1.now s.at s.bytes.now l.out-1 l.p ((get_or s.bytes.now l.i 0 ∷ []) ∷ drop (l.i + 1) s.bytes.now ∷ [])
+    Left s.out.now s.at s.bytes.now l.out l.p ((get_or s.bytes.now l.i 0 ∷ []) ∷ drop (l.i + 1) s.bytes.now ∷ [])
 parted c =
     let s = c.args.bytes.now in
     split-left _ (one_more s c.loop-i.i c.loop-i-test.true) c.loop-i.invariant.1
@@ -25,7 +25,7 @@ bounds-bytes-i c = omega arith
 
 pub byte-p-requires : goal.byte-p-requires
 byte-p-requires c =
-    room-left (parted (goal.at.byte-p-requires c).In-loop-i) c.requires
+    room-left (parted (goal.at.byte-p-requires c).In-loop-i c.requires
 
 pub overflow_add-i : goal.overflow_add-i
 overflow_add-i c = omega arith
@@ -35,7 +35,7 @@ loop-i-smaller c = omega arith
 
 pub loop-i-preserved : goal.loop-i-preserved
 loop-i-preserved c =
-    (omega arith, less-left (parted (goal.at.loop-i-preserved c).In-loop-i) c.byte-p.ensures, omega arith)
+    (omega arith, less-left (parted (goal.at.loop-i-preserved c).In-loop-i c.byte-p.ensures, omega arith)
 
 pub shape_of-out : goal.shape_of-out
 shape_of-out c = omega arith

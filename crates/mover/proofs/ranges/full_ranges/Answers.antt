@@ -13,7 +13,7 @@ use Rattle.mover.proofs.ranges.full_ranges.Goals.{In-loop-left}
 parted : (c : In-loop-left) →
     let a = c.args in
     let l = c.loop-left in
-    Left a.out-1.now a.at (full_ranges a.n) l.out-1 l.p (marked (l.left - 1) ∷ full_ranges (l.left - 1) ∷ [])
+    Left a.out.now a.at (full_ranges a.n) l.out l.p (marked (l.left - 1) ∷ full_ranges (l.left - 1) ∷ [])
 parted c = split-left _ (full-more c.loop-left.left (c.loop-left.left - 1) (omega (arith, c.loop-left-test.true))) c.loop-left.invariant.0
 
 pub loop-left-init : goal.loop-left-init
@@ -23,13 +23,13 @@ pub overflow_sub-left : goal.overflow_sub-left
 overflow_sub-left c = omega arith
 
 pub full_range-p-requires : goal.full_range-p-requires
-full_range-p-requires c = room-left (parted (goal.at.full_range-p-requires c).In-loop-left) c.requires
+full_range-p-requires c = room-left (parted (goal.at.full_range-p-requires c).In-loop-left c.requires
 
 pub loop-left-smaller : goal.loop-left-smaller
 loop-left-smaller c = omega arith
 
 pub loop-left-preserved : goal.loop-left-preserved
-loop-left-preserved c = (less-left (parted (goal.at.loop-left-preserved c).In-loop-left) c.full_range-p.ensures, omega arith)
+loop-left-preserved c = (less-left (parted (goal.at.loop-left-preserved c).In-loop-left c.full_range-p.ensures, omega arith)
 
 pub shape_of-out : goal.shape_of-out
 shape_of-out c = omega arith

@@ -2,7 +2,6 @@
 use Prim.Native.Nat.{◌-◌}
 use native.Mathlib.Omega.{arith}
 use mathlib.Core.Path.{refl, sym, ◌∙◌}
-use borrow.Author.Tests.{not-true, not-false}
 use Rattle.mover.proofs.Laws.Ranges.{narrow-none, narrow-here, narrow-later, narrow-fits}
 use Rattle.mover.proofs.ranges.narrow.Goals as goal
 

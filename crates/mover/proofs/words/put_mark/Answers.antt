@@ -5,7 +5,7 @@ use Rattle.mover.proofs.words.put_mark.Goals as goal
 pub returns-then-next-until : goal.returns-then-next-until
 returns-then-next-until c =
     let a = c.args in
-    put-none a.out-1.now a.at (kept-none a.next a.until a.mark.now c.if-next-until.true)
+    put-none a.out.now a.at (kept-none a.next a.until a.mark.now c.if-next-until.true)
 
 pub text-requires : goal.text-requires
 text-requires c =

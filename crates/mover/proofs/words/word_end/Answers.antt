@@ -1,7 +1,6 @@
 -- The run from the place ends where the run from `i` does. Assumes nothing.
 use Prim.Native.Nat.{◌-◌}
 use mathlib.Core.Path.{◌∙◌, sym}
-use borrow.Author.Tests.{not-true, not-false}
 use Rattle.text.proofs.Laws.Run.{run_more, run-stop, run_out}
 use Rattle.mover.specs.Model.{in_word}
 use Rattle.mover.proofs.words.word_end.Goals as goal

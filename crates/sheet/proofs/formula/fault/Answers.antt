@@ -1,7 +1,7 @@
 -- The tests in their order: 4, 6, then 7, 11 or 12, then 8. Assumes nothing.
 use native.Mathlib.Omega.{arith}
 use mathlib.Core.Path.{◌∙◌, sym}
-use borrow.Author.Tests.{eq-eqb, ne_eqb, not-true, not-false}
+use borrow.Author.Tests.{eq-eqb, ne_eqb}
 use Rattle.tables.specs.Codes.{local_code, bad_constant_code}
 use Rattle.sheet.specs.Turn.{fault_of}
 use Rattle.sheet.proofs.Faults.{declared-local}

@@ -26,8 +26,8 @@ returns-in-4 c =
 pub returns-in-1-to-3 : goal.returns-in-1-to-3
 returns-in-1-to-3 c =
     let a = c.args in
-    let r = c.match.rest in
-    let few = c.if-sort-lt4.true in
+    let r = c.in-1-to-3.in_default-own.rest in
+    let few = c.in-1-to-3.if-sort-lt4-own.true in
     λ d B m b.
     rw (
       placed_by d B a.e.sort a.l m.sort,
@@ -39,12 +39,12 @@ returns-in-1-to-3 c =
 pub returns-in_default : goal.returns-in_default
 returns-in_default c =
     let a = c.args in
-    let r = c.match.rest in
+    let r = c.in_default.in_default-own.rest in
     λ d B m b.
     rw (
       placed_by d B a.e.sort a.l m.sort,
       ne_eqb a.e.sort formula_sort r.0.1,
-      over term_sort bounds_sort a.e.sort c.if-sort-lt4.false,
+      over term_sort bounds_sort a.e.sort c.in_default.if-sort-lt4-own.false,
       ne_eqb a.e.sort procedure_sort r.1,
     )
     (ap not (c.has-in_default.ensures ∙ b.at _ c.requires))

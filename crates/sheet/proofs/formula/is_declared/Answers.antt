@@ -39,11 +39,11 @@ returns-in-30-to-38 c =
 pub returns-in_default : goal.returns-in_default
 unfolding declared
 returns-in_default c =
-    let r = c.match.rest in
-    simp (ne_eqb _ _ r.1, ne_eqb _ _ r.0.1, ne_eqb _ _ r.0.0.1, ne_eqb _ _ r.0.0.0.1, under procedure_code last_code _ c.if-code-lt30.true)
+    let r = c.in_default.in_default-own.rest in
+    simp (ne_eqb _ _ r.1, ne_eqb _ _ r.0.1, ne_eqb _ _ r.0.0.1, ne_eqb _ _ r.0.0.0.1, under procedure_code last_code _ c.in_default.if-code-lt30-own.true)
 
 pub returns-in_default-2 : goal.returns-in_default-2
 unfolding declared
 returns-in_default-2 c =
-    let r = c.match.rest in
+    let r = c.in_default.in_default-own.rest in
     simp (ne_eqb _ _ r.1, ne_eqb _ _ r.0.1, ne_eqb _ _ r.0.0.1, ne_eqb _ _ r.0.0.0.1, over procedure_code last_code c.args.t.code (omega arith))

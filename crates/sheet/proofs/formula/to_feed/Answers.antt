@@ -10,25 +10,20 @@ use Rattle.sheet.specs.FormulaLine.{Begin, begin, Through}
 use Rattle.sheet.proofs.Bits.{locals_in, bits_in}
 use Rattle.sheet.proofs.FormulaRest.{line_refused, scans-refused, scans-read, through-long, through-no-feed, through-feed}
 use Rattle.sheet.proofs.formula.to_feed.Goals as goal
+use Rattle.sheet.proofs.formula.to_feed.Goals.{After-scan, In-Read-2}
 
-abbrev start : goal.After-scan → goal.Start
-start c = c.before.before.before.before
+abbrev beginning : After-scan → Locals → Begin
+beginning c B = let a = c.args in begin a.s.now a.d a.from a.tokens B
 
-abbrev read : goal.In-Read-2 → goal.After-scan
-read c = c.before.before.before.before
-
-abbrev beginning : goal.After-scan → Locals → Begin
-beginning c B = let a = (start c).args in begin a.s.now a.d a.from a.tokens B
-
-through_here : (c : goal.In-Read-2) (B : Locals) → Bits (start (read c)).args.binders B →
-    Through (beginning (read c) B) (start (read c)).args.w.now (read c).scan.new.1.1.1.1.1.0 c.n-1.given.0.0 c.n-1.given.0.1.0 c.n-1.given.0.1.1.0
-through_here c B b = let q = read c in scans-read (beginning q B) (start q).args.w.now _ _ _ _ _ c.in-Read.is (q.scan.ensures B b)
+through_here : (c : In-Read-2) (B : Locals) → Bits (start c.before.before.before.before.args.binders B →
+    Through (beginning c.before.before.before.before B) (start c.before.before.before.before.args.w.now c.scan.new.1.1.1.1.1.0 c.in-Read.n c.in-Read.e c.in-Read.m
+through_here c B b = scans-read (beginning c.before.before.before.before B) c.args.w.now _ _ _ _ _ c.in-Read.is (c.scan.ensures B b)
 
 -- one list
-through-some : (c : goal.In-Read-2) →
-    Through (beginning (read c) (locals_in (start (read c)).args.binders max_locals)) (start (read c)).args.w.now (read c).scan.new.1.1.1.1.1.0 c.n-1.given.0.0
-    c.n-1.given.0.1.0 c.n-1.given.0.1.1.0
-through-some c = let m = (start (read c)).args.binders in through_here c (locals_in m max_locals) (bits_in m)
+through-some : (c : In-Read-2) →
+    Through (beginning c.before.before.before.before (locals_in (start c.before.before.before.before.args.binders max_locals)) (start c.before.before.before.before.args.w.now c.scan.new.1.1.1.1.1.0 c.in-Read.n
+    c.in-Read.e c.in-Read.m
+through-some c = let m = (start c.before.before.before.before.args.binders in through_here c (locals_in m max_locals) (bits_in m)
 
 pub scan-requires : goal.scan-requires
 scan-requires c = c.requires
@@ -36,29 +31,26 @@ scan-requires c = c.requires
 pub returns-then-class_at-ne-FEED : goal.returns-then-class_at-ne-FEED
 unfolding class_number
 returns-then-class_at-ne-FEED c =
-    let p = c.before.before.before in
-    (tt, λ B b D g. (through-no-feed (through_here p B b) D g (λ q. c.if-class_at-ne-FEED.true (c.class_at.ensures ∙ q)), through-long (through_here p B b)))
+    (tt, λ B b D g. (through-no-feed (through_here (goal.at.returns-then-class_at-ne-FEED c).In-Read-2 B b) D g (λ q. c.if-class_at-ne-FEED.true (c.class_at.ensures ∙ q)), through-long (through_here (goal.at.returns-then-class_at-ne-FEED c).In-Read-2 B b)))
 
 pub overflow_add-result : goal.overflow_add-result
 unfolding class_number
 overflow_add-result c =
-    let p = c.before.before.before in
-    omega (arith, class-inside (start (read p)).args.s.now _ feed (sym c.class_at.ensures ∙ c.if-class_at-ne-FEED.false), (start (read p)).well-formed.0.1)
+    omega (arith, class-inside (start (goal.at.overflow_add-result c).After-scan.args.s.now _ feed (sym c.class_at.ensures ∙ c.if-class_at-ne-FEED.false), (start (goal.at.overflow_add-result c).After-scan.well-formed.0.1)
 
 pub returns-in-Refused : goal.returns-in-Refused
 returns-in-Refused c =
-    let q = c.before.before.before.before.before in (
+    (
       tt,
       λ B b D g.
-          let x = scans-refused (beginning q B) (start q).args.w.now _ _ _ _ c.in-Refused.is (q.scan.ensures B b) in
-          (line_refused (beginning q B) D _ _ (x.1 D g), x.0),
+          let x = scans-refused (beginning (goal.at.returns-in-Refused c).After-scan B) c.args.w.now _ _ _ _ c.in-Refused.is (c.scan.ensures B b) in
+          (line_refused (beginning (goal.at.returns-in-Refused c).After-scan B) D _ _ (x.1 D g), x.0),
     )
 
 pub returns-else-class_at-ne-FEED : goal.returns-else-class_at-ne-FEED
 unfolding class_number
 returns-else-class_at-ne-FEED c =
-    let p = c.before.before.before in
     let there = sym c.class_at.ensures ∙ c.if-class_at-ne-FEED.false in (
-      ((through-some p).few, omega (arith, class-inside (start (read p)).args.s.now _ feed there)),
-      λ B b D g. through-feed (through_here p B b) D g there,
+      ((through-some (goal.at.returns-else-class_at-ne-FEED c).In-Read-2.few, omega (arith, class-inside (start (goal.at.returns-else-class_at-ne-FEED c).After-scan.args.s.now _ feed there)),
+      λ B b D g. through-feed (through_here (goal.at.returns-else-class_at-ne-FEED c).In-Read-2 B b) D g there,
     )

@@ -1,7 +1,6 @@
 -- The letter, the array's index, then the element. Assumes nothing.
 use mathlib.Core.Path.{◌∙◌, sym}
 use native.Mathlib.Omega.{arith}
-use borrow.Author.Tests.{not-true, not-false}
 use Rattle.specification.specs.Bytes.{bytes}
 use Rattle.text.proofs.Laws.Keys.{key_fits}
 use Rattle.sheet.proofs.CellNames.{element-no, element-refused, element-yes}

@@ -1,7 +1,6 @@
 -- The letter, then the index. Assumes nothing.
 use mathlib.Core.Path.{◌∙◌, sym}
 use native.Mathlib.Omega.{arith}
-use borrow.Author.Tests.{not-true, not-false}
 use Rattle.specification.specs.Bytes.{bytes}
 use Rattle.text.proofs.Laws.Keys.{key_fits}
 use Rattle.sheet.proofs.CellNames.{scalar-no, scalar-yes}

@@ -1,7 +1,6 @@
 -- The colon, the value, then the cell. Assumes nothing.
 use mathlib.Core.Path.{◌∙◌, sym}
 use native.Mathlib.Omega.{arith}
-use borrow.Author.Tests.{not-true, not-false}
 use Rattle.specification.specs.Bytes.{colon, class_number}
 use Rattle.text.proofs.Laws.Class.{class-inside}
 use Rattle.sheet.proofs.GivenItems.{valued-no, valued-refused, valued-undeclared, valued-low, valued-outside, valued_found}

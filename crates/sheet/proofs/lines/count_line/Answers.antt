@@ -1,7 +1,6 @@
 -- The key, the count and the byte of the class, in order. Assumes nothing.
 use mathlib.Core.Path.{◌∙◌, sym}
 use native.Mathlib.Omega.{arith}
-use borrow.Author.Tests.{not-true, not-false}
 use Rattle.text.proofs.Laws.Keys.{key_fits}
 use Rattle.sheet.proofs.Keys.{closed-with-yes, closed-with-no, class-below}
 use Rattle.sheet.proofs.NumberLines.{line-no, line-yes}
@@ -24,7 +23,7 @@ returns-then-class_at-class c =
 
 pub overflow_add-result : goal.overflow_add-result
 overflow_add-result c =
-    omega (arith, class-below c.args.s.now c.n-1.given.0.1.0 (omega (arith, c.class_at.ensures, c.if-class_at-class.false, c.requires.1)))
+    omega (arith, class-below c.args.s.now c.in-Is.e (omega (arith, c.class_at.ensures, c.if-class_at-class.false, c.requires.1)))
 
 pub returns-in-Refused : goal.returns-in-Refused
 returns-in-Refused c = (tt, λ k q. line-yes _ _ _ _ _ k (sym c.begins.ensures ∙ c.if-not-begins.false) _ _ c.count_at.ensures c.in-Refused.is)
@@ -32,7 +31,7 @@ returns-in-Refused c = (tt, λ k q. line-yes _ _ _ _ _ k (sym c.begins.ensures �
 pub returns-else-class_at-class : goal.returns-else-class_at-class
 returns-else-class_at-class c =
     (
-      omega (arith, class-below c.args.s.now c.n-1.given.0.1.0 (omega (arith, c.class_at.ensures, c.if-class_at-class.false, c.requires.1))),
+      omega (arith, class-below c.args.s.now c.in-Is.e (omega (arith, c.class_at.ensures, c.if-class_at-class.false, c.requires.1))),
       λ k q.
           closed-with-yes _ _ _ k (sym c.class_at.ensures ∙ c.if-class_at-class.false ∙ q) ∙
           line-yes _ _ _ _ _ k (sym c.begins.ensures ∙ c.if-not-begins.false) _ _ c.count_at.ensures c.in-Is.is,

@@ -25,7 +25,7 @@ returns-in-Refused c =
     let a = c.args in
     let f = c.requires.filled in
     body_refused c.args.s.now _ _ _ _ _ c.args.w.now c.requires c.to_feed.new.1.1.1.1.1.0 _ _
-    (closes-refused (begin a.s.now (in_line a.d a.n) a.from a.x.tokens f.locals) a.w-1.now c.to_feed.new.1.1.1.1.1.0 c.to_feed.result (with_parameters a.n f.declared) _ _ c.in-Refused.is
+    (closes-refused (begin a.s.now (in_line a.d a.n) a.from a.x.tokens f.locals) a.w.now c.to_feed.new.1.1.1.1.1.0 c.to_feed.result (with_parameters a.n f.declared) _ _ c.in-Refused.is
     (c.to_feed.ensures.1 f.locals f.set (with_parameters a.n f.declared) (line_known c.args.s.now _ _ _ _ _ c.args.w.now c.requires)))
 
 pub returns-in-Read : goal.returns-in-Read
@@ -33,6 +33,6 @@ returns-in-Read c =
     let a = c.args in
     let f = c.requires.filled in
     body-found c.args.s.now _ _ _ _ _ c.args.w.now c.requires c.to_feed.new.1.1.1.1.1.0 _ _ _ _
-    (closes-read (begin a.s.now (in_line a.d a.n) a.from a.x.tokens f.locals) a.w-1.now c.to_feed.new.1.1.1.1.1.0 c.to_feed.result (with_parameters a.n f.declared) _ _ _ c.in-Read.is
+    (closes-read (begin a.s.now (in_line a.d a.n) a.from a.x.tokens f.locals) a.w.now c.to_feed.new.1.1.1.1.1.0 c.to_feed.result (with_parameters a.n f.declared) _ _ _ c.in-Read.is
     (c.to_feed.ensures.1 f.locals f.set (with_parameters a.n f.declared) (line_known c.args.s.now _ _ _ _ _ c.args.w.now c.requires)))
     c.set_proc.ensures

@@ -19,4 +19,4 @@ returns-in-6 c = rw (sym (operands-word c.args.code c.if-code-ge-PROCEDURE.false
 
 pub returns-in_default : goal.returns-in_default
 unfolding arity
-returns-in_default c = rw (sym (operands-word c.args.code c.if-code-ge-PROCEDURE.false), sym c.word_operands-o.ensures, ne_eqb _ ex_sort c.match.rest.0.1, ne_eqb _ range_sort c.match.rest.1)
+returns-in_default c = rw (sym (operands-word c.args.code c.if-code-ge-PROCEDURE.false), sym c.word_operands-o.ensures, ne_eqb _ ex_sort c.in_default.in_default-own.rest.0.1, ne_eqb _ range_sort c.in_default.in_default-own.rest.1)

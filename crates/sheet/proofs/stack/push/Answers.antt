@@ -4,25 +4,14 @@ use native.Mathlib.Omega.{arith}
 use Rattle.sheet.specs.Sorts.{procedure_sort}
 use Rattle.sheet.proofs.Opened.{opened-ex, opened-range}
 use Rattle.sheet.proofs.stack.push.Goals as goal
+use Rattle.sheet.proofs.stack.push.Goals.{Else-e-eq-PROCEDURE, Else-e-le-UPPER, Start}
 
-abbrev start : goal.Else-e-le-UPPER → goal.Start
-start c = c.before.before.before
+abbrev first : Else-e-eq-PROCEDURE → Start
+first c = start (past-terms c.before.before
 
-abbrev past-terms : goal.Else-e-eq-BOUNDS → goal.Else-e-le-UPPER
-past-terms c = c.before.before
-
-abbrev past-bounds : goal.Else-e-eq-PROCEDURE → goal.Else-e-eq-BOUNDS
-past-bounds c = c.before.before
-
-abbrev binder : goal.After-put → goal.Else-e-eq-PROCEDURE
-binder c = c.before.before.before
-
-abbrev first : goal.Else-e-eq-PROCEDURE → goal.Start
-first c = start (past-terms (past-bounds c))
-
--- the local of a binder is due
-is-local : (c : goal.Else-e-eq-PROCEDURE) → procedure_sort < (first c).args.e.sort
-is-local c = let q = past-bounds c in omega (arith, (past-terms q).if1.left, q.if-e-eq-BOUNDS.false, c.if-e-eq-PROCEDURE.false)
+-- the local of a is.before.before.before due
+is-local : (c : Else-e-eq-PROCEDURE) → procedure_sort < (first c).args.e.sort
+is-local c = omega (arith, c.if-e-le-UPPER.false, c.if-e-eq-BOUNDS.false, c.if-e-eq-PROCEDURE.false)
 
 pub push_operands-requires : goal.push_operands-requires
 push_operands-requires c =
@@ -35,7 +24,7 @@ returns-then-e-le-UPPER c = c.push_operands.ensures
 
 pub push_bounds-requires : goal.push_bounds-requires
 push_bounds-requires c =
-    let h = (start c.before.before.before).requires in
+    let h = c.requires in
     let is = c.if-e-eq-BOUNDS.true in
     (h.0, h.1, h.2, is, h.5.word (omega arith))
 
@@ -44,7 +33,7 @@ returns-then-e-eq-BOUNDS c = c.push_bounds.ensures
 
 pub push_arguments-requires : goal.push_arguments-requires
 push_arguments-requires c =
-    let h = (start (past-terms c.before.before.before)).requires in
+    let h = (start (goal.at.push_arguments-requires c).Else-e-le-UPPER.requires in
     let is = c.if-e-eq-PROCEDURE.true in
     (h.4 (omega arith), h.1, is, h.5.number is)
 
@@ -56,17 +45,15 @@ with-requires c = (first c).requires.3 (is-local c)
 
 pub returns-then-e-eq-EX_LOCAL : goal.returns-then-e-eq-EX_LOCAL
 returns-then-e-eq-EX_LOCAL c =
-    let put = c.before.before.before.before in
-    let bound = put.with in
-    let h = first (binder put) in
+    let bound = c.with in
+    let h = first (goal.at.returns-then-e-eq-EX_LOCAL c).Else-e-eq-PROCEDURE in
     let a = h.args in
-    rw put.put.ensures (opened-ex a.w-1.now a.n a.e a.t h.pre.0 h.pre.1 bound.result bound.ensures c.if-e-eq-EX_LOCAL.true)
+    rw c.put.ensures (opened-ex a.w.now a.n a.e a.t h.pre.0 h.pre.1 bound.result bound.ensures c.if-e-eq-EX_LOCAL.true)
 
 pub returns : goal.returns
 returns c =
-    let put = c.before.before.before.before.before.before.before.before in
-    let bound = put.with in
-    let h = first (binder put) in
+    let bound = c.with in
+    let h = first (goal.at.returns c).Else-e-eq-PROCEDURE in
     let a = h.args in
-    rw (c.put-2.ensures, put.put.ensures)
-    (opened-range a.w-1.now a.n a.e a.t h.pre.0 h.pre.1 bound.result bound.ensures (is-local (binder put)) c.if-e-eq-EX_LOCAL.false)
+    rw (c.put-2.ensures, c.put.ensures)
+    (opened-range a.w.now a.n a.e a.t h.pre.0 h.pre.1 bound.result bound.ensures (is-local (goal.at.returns c).Else-e-eq-PROCEDURE c.if-e-eq-EX_LOCAL.false)

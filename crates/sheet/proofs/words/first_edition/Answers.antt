@@ -84,7 +84,7 @@ returns-in-23359341 c = rw c.in-23359341.is
 pub returns-in_default : goal.returns-in_default
 unfolding code_by common_words older_division own_words words packed token_of
 returns-in_default c =
-    let r = c.match.rest in
+    let r = c.in_default.in_default-own.rest in
     simp (
       ne_eqb _ _ r.0.0.0.0.0.0.0.0.0.0.0.0.0.0.0.0.0.0.1,
       ne_eqb _ _ r.0.0.0.0.0.0.0.0.0.0.0.0.0.0.0.0.0.1,

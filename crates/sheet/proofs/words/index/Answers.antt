@@ -10,4 +10,4 @@ returns-in-Malformed c = ap (index_token c.args.code) (sym c.in-Malformed.is ∙
 
 pub returns-in-Is : goal.returns-in-Is
 returns-in-Is c =
-    rw c.index-IsWord.ensures (ap (index_token c.args.code) (sym c.in-Is.is ∙ rw (rest-whole c.args.t.now) at c.natural.ensures) ∙ index-token c.args.code (natural (drop 1 c.args.t.now)))
+    rw c.index_word.ensures (ap (index_token c.args.code) (sym c.in-Is.is ∙ rw (rest-whole c.args.t.now) at c.natural.ensures) ∙ index-token c.args.code (natural (drop 1 c.args.t.now)))

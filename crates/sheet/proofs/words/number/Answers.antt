@@ -1,7 +1,6 @@
 -- By the first byte, then by its form. Assumes nothing.
 use native.Mathlib.Omega.{arith}
 use mathlib.Core.Path.{◌∙◌, sym, ap}
-use borrow.Author.Tests.{not-true, not-false}
 use Rattle.specification.specs.Number.{natural}
 use Rattle.sheet.specs.Codes.{token_of}
 use Rattle.sheet.proofs.Lexed.{number-none, number-other, number-numeral, numeral_token, numeral-token}
@@ -22,6 +21,6 @@ returns-in-Malformed c =
 pub returns-in-Is : goal.returns-in-Is
 returns-in-Is c =
     let t = c.args.t.now in
-    rw c.index-IsWord.ensures
+    rw c.index_word.ensures
     (ap numeral_token (sym c.in-Is.is ∙ c.natural.ensures) ∙ numeral-token (natural t) ∙
     ap token_of (sym (number-numeral t (omega arith) (sym c.numeric.ensures ∙ c.if-not-numeric.false))))

@@ -11,4 +11,4 @@ returns-in-6114009443 c = rw c.in-6114009443.is
 
 pub returns-in_default : goal.returns-in_default
 unfolding code_by common_words older_division own_words words packed token_of
-returns-in_default c = rw (ne_eqb c.args.word _ c.match.rest.1) c.first_edition.ensures
+returns-in_default c = rw (ne_eqb c.args.word _ c.in_default.in_default-own.rest.1) c.first_edition.ensures

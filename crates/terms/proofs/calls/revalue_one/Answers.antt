@@ -1,5 +1,4 @@
 -- `calls::revalue_one` meets its contract. Assumes nothing.
-use borrow.Author.Tests.{not-true}
 use mathlib.Core.Path.{sym, ◌∙◌}
 use Rattle.terms.proofs.Laws.Revalue.{one-closed, one-open}
 use Rattle.terms.proofs.calls.revalue_one.Goals as goal

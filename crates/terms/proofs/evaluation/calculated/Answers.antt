@@ -44,6 +44,6 @@ pub returns-in_default : goal.returns-in_default
 unfolding compute
 returns-in_default c =
     let a = c.args in
-    let others = c.match.rest in
+    let others = c.in_default.in_default-own.rest in
     calculated-last a.code a.x a.y _ others.0.0.0.0.0.1 others.0.0.0.0.1 others.0.0.0.1 others.0.0.1 others.0.1
     others.1 c.remainder.ensures

@@ -5,9 +5,9 @@ use Rattle.terms.proofs.evaluation.found.Goals as goal
 pub returns-in-Value : goal.returns-in-Value
 returns-in-Value c =
     let a = c.args in
-    packs-value a.c-1 a.at _ c.in-Value.is
+    packs-value a.c a.at _ c.in-Value.is
 
 pub returns-in-Fault : goal.returns-in-Fault
 returns-in-Fault c =
     let a = c.args in
-    packs-fault a.c-1 a.at _ c.error.ensures c.in-Fault.is
+    packs-fault a.c a.at _ c.error.ensures c.in-Fault.is

@@ -6,31 +6,27 @@ use Rattle.terms.specs.Parts.{Room}
 use Rattle.terms.proofs.Laws.Step.{operation-asked, operation-stepped, array-asked, array-stepped, place-asked, place-stepped}
 use Rattle.terms.proofs.Laws.Step.{parameter-asked, parameter-stepped, constant-asked, constant-stepped}
 use Rattle.terms.proofs.evaluation.step.Goals as goal
+use Rattle.terms.proofs.evaluation.step.Goals.{After-operand, After-place-arg-1}
 
 -- what `place` requires of a local's slot, and of a scalar's
-at_local : (c : goal.After-operand) →
-    let test = c.before.before.before in
-    let s = test.before.before.before.before in
-    (local_slot c.operand.result + 1 < dues_at) × Room s.args.w.now dues_at s.args.s.at
+at_local : (c : After-operand) →
+    (local_slot c.operand.result + 1 < dues_at) × Room c.args.w.now dues_at c.args.s.at
 at_local c =
-    let test = c.before.before.before in
-    let s = test.before.before.before.before in
-    let a = s.args in
-    let k = test.if-k-eq-LOCAL.true in
-    place-asked a.w-1.now a.s a.i a.env test.code-k.ensures c.operand.ensures locals_at (omega (arith, k)) s.requires
+    let c.before.before.before = c.before.before.before in
+    let c.before.before.before.before.before = c.before.before.before.before.before in
+    let a = c.args in
+    let k = c.if-k-eq-LOCAL.true in
+    place-asked a.w.now a.s a.i a.env c.code-k.ensures c.operand.ensures locals_at (omega (arith, k)) c.requires
 
-at-scalar : (c : goal.After-place-arg-1) →
-    let read = c.before.before.before in
-    let code = read.before.before.before.before in
-    let s = code.before.before.before in
-    (cell_slot read.operand-n.result + 1 < dues_at) × Room s.args.w.now dues_at s.args.s.at
+at-scalar : (c : After-place-arg-1) →
+    (cell_slot c.operand-n.result + 1 < dues_at) × Room c.args.w.now dues_at c.args.s.at
 at-scalar c =
-    let read = c.before.before.before in
-    let code = read.before.before.before.before in
-    let s = code.before.before.before in
-    let a = s.args in
+    let c.before.before.before = c.before.before.before in
+    let c.before.before.before.before.before.before.before = c.before.before.before.before.before.before.before in
+    let c.before.before.before.before.before.before.before.before = c.before.before.before.before.before.before.before.before in
+    let a = c.args in
     let k = c.if-k-eq-SCALAR.true in
-    place-asked a.w-1.now a.s a.i a.env code.code-k.ensures read.operand-n.ensures cells_at (omega (arith, k)) s.requires
+    place-asked a.w.now a.s a.i a.env c.code-k.ensures c.operand-n.ensures cells_at (omega (arith, k)) c.requires
 
 pub overflow_mul-operand : goal.overflow_mul-operand
 overflow_mul-operand c = omega (arith, (at_local c).0)
@@ -45,28 +41,28 @@ pub returns-then-k-eq-LOCAL : goal.returns-then-k-eq-LOCAL
 returns-then-k-eq-LOCAL c =
     let a = c.args in
     let k = c.if-k-eq-LOCAL.true in
-    place-stepped a.w-1.now a.s a.i a.env c.code-k.ensures c.operand.ensures locals_at (omega (arith, k))
+    place-stepped a.w.now a.s a.i a.env c.code-k.ensures c.operand.ensures locals_at (omega (arith, k))
     c.place.ensures
 
 pub operation-requires : goal.operation-requires
 operation-requires c =
     let a = c.args in
-    operation-asked a.w-1.now a.s a.i a.env c.code-k.ensures c.requires c.if-k-lt-CONSTANT.true
+    operation-asked a.w.now a.s a.i a.env c.code-k.ensures c.requires c.if-k-lt-CONSTANT.true
 
 pub returns-then-k-lt-CONSTANT : goal.returns-then-k-lt-CONSTANT
 returns-then-k-lt-CONSTANT c =
     let a = c.args in
-    operation-stepped a.w-1.now a.s a.i a.env c.code-k.ensures c.if-k-lt-CONSTANT.true c.operation.ensures
+    operation-stepped a.w.now a.s a.i a.env c.code-k.ensures c.if-k-lt-CONSTANT.true c.operation.ensures
 
 pub element-requires : goal.element-requires
 element-requires c =
     let a = c.args in
-    array-asked a.w-1.now a.s a.i a.env c.code-k.ensures c.operand-n.ensures c.requires c.if-k-eq-ARRAY.true
+    array-asked a.w.now a.s a.i a.env c.code-k.ensures c.operand-n.ensures c.requires c.if-k-eq-ARRAY.true
 
 pub returns-then-k-eq-ARRAY : goal.returns-then-k-eq-ARRAY
 returns-then-k-eq-ARRAY c =
     let a = c.args in
-    array-stepped a.w-1.now a.s a.i a.env c.code-k.ensures c.operand-n.ensures c.if-k-eq-ARRAY.true c.element.ensures
+    array-stepped a.w.now a.s a.i a.env c.code-k.ensures c.operand-n.ensures c.if-k-eq-ARRAY.true c.element.ensures
 
 pub overflow_mul-n : goal.overflow_mul-n
 overflow_mul-n c = omega (arith, (at-scalar c).0)
@@ -81,28 +77,28 @@ pub returns-then-k-eq-SCALAR : goal.returns-then-k-eq-SCALAR
 returns-then-k-eq-SCALAR c =
     let a = c.args in
     let k = c.if-k-eq-SCALAR.true in
-    place-stepped a.w-1.now a.s a.i a.env c.code-k.ensures c.operand-n.ensures cells_at (omega (arith, k))
+    place-stepped a.w.now a.s a.i a.env c.code-k.ensures c.operand-n.ensures cells_at (omega (arith, k))
     c.place-then-k-eq-SCALAR.ensures
 
 pub constant-requires : goal.constant-requires
 constant-requires c =
     let a = c.args in
-    constant-asked a.w-1.now a.s a.i a.env c.code-k.ensures c.operand-n.ensures c.requires c.if-k-eq-CONSTANT.true
+    constant-asked a.w.now a.s a.i a.env c.code-k.ensures c.operand-n.ensures c.requires c.if-k-eq-CONSTANT.true
 
 pub returns-then-k-eq-CONSTANT : goal.returns-then-k-eq-CONSTANT
 returns-then-k-eq-CONSTANT c =
     let a = c.args in
-    constant-stepped a.w-1.now a.s a.i a.env c.code-k.ensures c.operand-n.ensures c.if-k-eq-CONSTANT.true
+    constant-stepped a.w.now a.s a.i a.env c.code-k.ensures c.operand-n.ensures c.if-k-eq-CONSTANT.true
     c.constant.ensures
 
 pub parameter-requires : goal.parameter-requires
 parameter-requires c =
     let a = c.args in
-    parameter-asked a.w-1.now a.s a.i a.env c.code-k.ensures c.operand-n.ensures c.if-k-lt-CONSTANT.false c.if-k-eq-SCALAR.false
+    parameter-asked a.w.now a.s a.i a.env c.code-k.ensures c.operand-n.ensures c.if-k-lt-CONSTANT.false c.if-k-eq-SCALAR.false
     c.if-k-eq-LOCAL.false c.if-k-eq-ARRAY.false c.if-k-eq-CONSTANT.false c.requires
 
 pub returns : goal.returns
 returns c =
     let a = c.args in
-    parameter-stepped a.w-1.now a.s a.i a.env c.code-k.ensures c.operand-n.ensures c.if-k-lt-CONSTANT.false c.if-k-eq-SCALAR.false
+    parameter-stepped a.w.now a.s a.i a.env c.code-k.ensures c.operand-n.ensures c.if-k-lt-CONSTANT.false c.if-k-eq-SCALAR.false
     c.if-k-eq-LOCAL.false c.if-k-eq-ARRAY.false c.if-k-eq-CONSTANT.false c.parameter.ensures

@@ -56,7 +56,7 @@ enter_again-requires c = due-entered c.requires c.word-code.ensures local_code c
 
 pub enter_terms-requires : goal.enter_terms-requires
 enter_terms-requires c =
-    let r = c.match.rest in
+    let r = c.in_default.in_default-own.rest in
     let read = c.word-code.ensures in
     let d = c.requires in
     let h = due-terms d read r.0.0.0.0.0.0.0.0.0.0.0.0.0.1 r.0.0.0.0.0.0.0.0.0.0.0.0.1 r.0.0.0.0.0.0.0.0.0.0.0.1 r.0.0.0.0.0.0.0.0.0.0.1 r.0.0.0.0.0.0.0.0.0.1 r.0.0.0.0.0.0.0.0.1 r.0.0.0.0.0.0.0.1 r.0.0.0.0.0.0.1 r.0.0.0.0.0.1 r.0.0.0.0.1 r.0.0.0.1 r.0.0.1 r.0.1 r.1 in
@@ -120,4 +120,4 @@ returns-in-25 c =
 
 pub returns-in_default : goal.returns-in_default
 returns-in_default c =
-    due-came c.requires c.word-code.ensures _ refl c.match.rest.0.0.1 c.enter_terms.ensures
+    due-came c.requires c.word-code.ensures _ refl c.in_default.in_default-own.rest.0.0.1 c.enter_terms.ensures

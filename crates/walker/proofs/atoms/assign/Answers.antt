@@ -1,6 +1,5 @@
 -- `atoms::assign` meets its contract.
 use mathlib.Core.Path.{sym, ◌∙◌}
-use borrow.Author.Tests.{not-true, not-false}
 use native.Mathlib.Omega.{arith}
 use Rattle.search.proofs.Simple.{due-near, top-room, depth_small}
 use Rattle.walker.proofs.Laws.Assigned.{slot-near, assign-fails, assign-down}

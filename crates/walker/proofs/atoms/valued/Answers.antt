@@ -25,7 +25,7 @@ enter_some-requires c = rw c.in-13.is at c.requires.0
 
 pub enter_all-requires : goal.enter_all-requires
 enter_all-requires c =
-    let r = c.match.rest in
+    let r = c.in_default.in_default-own.rest in
     let e =
     all_left c.args.code c.requires.1 r.0.0.0.0.0.0.1 r.0.0.0.0.0.1 r.0.0.0.0.1
     r.0.0.0.1 r.0.0.1 r.0.1 r.1 in

@@ -16,7 +16,7 @@ end-requires c = (wins-of c.requires c.word-code.ensures c.in-14.is, (c.requires
 
 pub leave-requires : goal.leave-requires
 leave-requires c =
-    let r = c.match.rest in
+    let r = c.in_default.in_default-own.rest in
     (wins-of c.requires c.word-code.ensures (wins-call c.requires c.word-code.ensures r.0.0.1 r.0.1 r.1), (c.requires).releases.word)
 
 pub returns-in-3 : goal.returns-in-3
@@ -30,5 +30,5 @@ returns-in-14 c = ended-fell c.requires c.word-code.ensures c.in-14.is c.end.ens
 
 pub returns-in_default : goal.returns-in_default
 returns-in_default c =
-    let r = c.match.rest in
+    let r = c.in_default.in_default-own.rest in
     left-fell c.requires c.word-code.ensures (wins-call c.requires c.word-code.ensures r.0.0.1 r.0.1 r.1) c.leave.ensures

@@ -15,7 +15,7 @@ pub leave-requires : goal.leave-requires
 leave-requires c = (rises-of c.requires c.word-code.ensures c.in-15.is, (c.requires).token)
 
 pub judge-requires : goal.judge-requires
-judge-requires c = let r = c.match.rest in rises-judges c.requires c.word-code.ensures r.0.0.0.1 r.0.0.1 r.0.1 r.1
+judge-requires c = let r = c.in_default.in_default-own.rest in rises-judges c.requires c.word-code.ensures r.0.0.0.1 r.0.0.1 r.0.1 r.1
 
 pub returns-in-14 : goal.returns-in-14
 returns-in-14 c = ended-rose c.requires c.word-code.ensures c.in-14.is c.end.ensures

@@ -50,7 +50,7 @@ passed-requires-in-Bytes c =
 pub overflow_add-written : goal.overflow_add-written
 overflow_add-written c =
     let listed = told _ _ _ _ c.head-h.ensures c.in-Bytes.is c.write.ensures in
-    omega (arith, written-inside c.requires c.n-1.given.0.0 listed, c.well_formed.1.0.0)
+    omega (arith, written-inside c.requires c.in-Bytes.n listed, c.well_formed.1.0.0)
 
 pub returns-in-Full : goal.returns-in-Full
 returns-in-Full c =
@@ -60,4 +60,4 @@ returns-in-Full c =
 pub returns-in-Bytes : goal.returns-in-Bytes
 returns-in-Bytes c =
     let listed = told _ _ _ _ c.head-h.ensures c.in-Bytes.is c.write.ensures in
-    blocked-written c.requires c.if-t-task.false c.n-1.given.0.0 c.passed-in-Bytes.ensures c.state-in-Bytes.ensures.0 c.state-in-Bytes.ensures.1 listed
+    blocked-written c.requires c.if-t-task.false c.in-Bytes.n c.passed-in-Bytes.ensures c.state-in-Bytes.ensures.0 c.state-in-Bytes.ensures.1 listed

@@ -23,4 +23,4 @@ visited-t-requires c =
 
 pub returns : goal.returns
 returns c =
-    walked c.plan.ensures c.walk-s.ensures c.visited-t.ensures c.end_of_lem.ensures
+    walked c.plan.ensures c.walk-s.ensures c.visited-t.ensures c.end_of-end.ensures
