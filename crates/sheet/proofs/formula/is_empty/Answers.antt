@@ -32,6 +32,6 @@ pub returns : goal.returns
 returns c =
     let a = c.args in
     λ d p m h.
-    empties-constant a.refusing a.w.now a.count p a.t d (sym m.sort ∙ c.if-e-ne-UPPER.false) h (not-false _ c.if-not-refusing.false)
+    empties-constant a.refusing a.w.now a.count p a.t d (sym m.sort ∙ c.if-e-ne-UPPER.false) h (c.if-not-refusing.false)
     c.if-t-ne-CONSTANT.false _
     c.operand.ensures
