@@ -12,7 +12,7 @@ bound : (c : Start) → length (field_text (bytes "case ") c.args.n) ≤ 26
 bound c = omega (arith, field_bound (bytes "case ") 19 c.args.n (omega (arith, c.ranges.n.fits)))
 
 pub field-count-requires : goal.field-count-requires
-field-count-requires c = omega (arith, bound (goal.at.field-count-requires c).Start
+field-count-requires c = omega (arith, bound (goal.at.field-count-requires c).Start)
 
 pub slice_bounds-line-end : goal.slice_bounds-line-end
 slice_bounds-line-end c = omega (arith, bound (goal.at.slice_bounds-line-end c).Start, c.field-count.ensures.end)

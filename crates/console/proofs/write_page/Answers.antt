@@ -19,12 +19,12 @@ closing-went c =
     part-went c.args.closing c.args.lines.now c.requires.1 c.write-second.ensures
 
 pub returns-then-not-first : goal.returns-then-not-first
-returns-then-not-first c = cut-first _ (listing-went (goal.at.returns-then-not-first c).After-write-first (c.if-not-first.true)
+returns-then-not-first c = cut-first _ (listing-went (goal.at.returns-then-not-first c).After-write-first) (c.if-not-first.true)
 
 pub overflow_add-result : goal.overflow_add-result
 overflow_add-result c =
-    omega (arith, (listing-went (goal.at.overflow_add-result c).After-write-first.some, (closing-went (goal.at.overflow_add-result c).After-write-second.some)
+    omega (arith, (listing-went (goal.at.overflow_add-result c).After-write-first).some, (closing-went (goal.at.overflow_add-result c).After-write-second).some)
 
 pub returns : goal.returns
 returns c =
-    whole-first (listing-went (goal.at.returns c).After-write-first (c.if-not-first.false) (closing-went (goal.at.returns c).After-write-second
+    whole-first (listing-went (goal.at.returns c).After-write-first) (c.if-not-first.false) (closing-went (goal.at.returns c).After-write-second)

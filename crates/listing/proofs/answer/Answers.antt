@@ -17,8 +17,8 @@ parted : (c : Start) →
 parted c = pieces-left _ _ _ (answer-pieces c.args.number)
 
 pub field-requires : goal.field-requires
-field-requires c = room-left (parted (goal.at.field-requires c).Start (answer-room c.args.number c.ranges.number.fits)
+field-requires c = room-left (parted (goal.at.field-requires c).Start) (answer-room c.args.number c.ranges.number.fits)
 
 pub returns : goal.returns
 returns c =
-    answer-headed c.args.number c.ranges.number.fits (last-left (parted (goal.at.returns c).Start c.field.ensures)
+    answer-headed c.args.number c.ranges.number.fits (last-left (parted (goal.at.returns c).Start) c.field.ensures)

@@ -33,4 +33,4 @@ arrays-requires c =
 
 pub returns : goal.returns
 returns c =
-    last-left (less-left (less-left (parted (goal.at.returns c).Start c.top-p.ensures.text) c.scalars-q.ensures) c.arrays.ensures
+    last-left (less-left (less-left (parted (goal.at.returns c).Start) c.top-p.ensures.text) c.scalars-q.ensures) c.arrays.ensures

@@ -25,19 +25,19 @@ room c =
     error-room a.number f.number.fits a.kind a.token f.kind.fits f.token.fits
 
 pub field-p-requires : goal.field-p-requires
-field-p-requires c = room-left (parted (goal.at.field-p-requires c).Start (room (goal.at.field-p-requires c).Start
+field-p-requires c = room-left (parted (goal.at.field-p-requires c).Start) (room (goal.at.field-p-requires c).Start)
 
 pub field-q-requires : goal.field-q-requires
 field-q-requires c =
-    room-left (less-left (parted (goal.at.field-q-requires c).Start c.field-p.ensures) (room (goal.at.field-q-requires c).Start
+    room-left (less-left (parted (goal.at.field-q-requires c).Start) c.field-p.ensures) (room (goal.at.field-q-requires c).Start)
 
 pub field-requires : goal.field-requires
 field-requires c =
-    room-left (less-left (less-left (parted (goal.at.field-requires c).Start c.field-p.ensures) c.field-q.ensures) (room (goal.at.field-requires c).Start
+    room-left (less-left (less-left (parted (goal.at.field-requires c).Start) c.field-p.ensures) c.field-q.ensures) (room (goal.at.field-requires c).Start)
 
 pub returns : goal.returns
 returns c =
     let a = c.args in
     let f = c.ranges in
     error-headed a.number f.number.fits a.kind a.token f.kind.fits f.token.fits
-    (last-left (less-left (less-left (parted (goal.at.returns c).Start c.field-p.ensures) c.field-q.ensures) c.field.ensures)
+    (last-left (less-left (less-left (parted (goal.at.returns c).Start) c.field-p.ensures) c.field-q.ensures) c.field.ensures)

@@ -11,7 +11,7 @@ bound : (c : Start) → length (field_text c.args.key.now c.args.n) ≤ 29
 bound c = omega (arith, field_bound c.args.key.now 19 c.args.n (omega (arith, c.ranges.n.fits)), c.requires)
 
 pub field-count-requires : goal.field-count-requires
-field-count-requires c = omega (arith, bound (goal.at.field-count-requires c).Start
+field-count-requires c = omega (arith, bound (goal.at.field-count-requires c).Start)
 
 pub slice_bounds-line-end : goal.slice_bounds-line-end
 slice_bounds-line-end c = omega (arith, bound (goal.at.slice_bounds-line-end c).Start, c.field-count.ensures.end)

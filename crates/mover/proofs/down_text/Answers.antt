@@ -32,4 +32,4 @@ rest-requires c =
 
 pub returns : goal.returns
 returns c =
-    last-left (less-left (parted (start (goal.at.returns c).After-head-p) c.head-p.ensures) c.rest.ensures
+    last-left (less-left (parted (start (goal.at.returns c).After-head-p)) c.head-p.ensures) c.rest.ensures

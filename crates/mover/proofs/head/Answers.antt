@@ -30,8 +30,8 @@ slice_bounds-text-end c =
 
 pub text-requires : goal.text-requires
 text-requires c =
-    room-left (less-left (parted (goal.at.text-requires c).After-lines_end-h c.text-p.ensures) (room (goal.at.text-requires c).Start
+    room-left (less-left (parted (goal.at.text-requires c).After-lines_end-h) c.text-p.ensures) (room (goal.at.text-requires c).Start)
 
 pub returns : goal.returns
 returns c =
-    last-left (less-left (parted (goal.at.returns c).After-lines_end-h c.text-p.ensures) c.text.ensures
+    last-left (less-left (parted (goal.at.returns c).After-lines_end-h) c.text-p.ensures) c.text.ensures

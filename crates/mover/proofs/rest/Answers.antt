@@ -31,22 +31,22 @@ parted c =
     pieces-left _ _ _ (rest-pieces a.s.now a.w.now a.newer a.lines _ _ c.lines_end-k.ensures c.lines_end-e.ensures)
 
 pub slice_bounds-text-count : goal.slice_bounds-text-count
-slice_bounds-text-count c = (within (goal.at.slice_bounds-text-count c).After-lines_end-e.0
+slice_bounds-text-count c = (within (goal.at.slice_bounds-text-count c).After-lines_end-e).0
 
 pub slice_bounds-text-start : goal.slice_bounds-text-start
-slice_bounds-text-start c = (within (goal.at.slice_bounds-text-start c).After-lines_end-e.0
+slice_bounds-text-start c = (within (goal.at.slice_bounds-text-start c).After-lines_end-e).0
 
 pub slice_bounds-text-end : goal.slice_bounds-text-end
-slice_bounds-text-end c = (within (goal.at.slice_bounds-text-end c).After-lines_end-e.1
+slice_bounds-text-end c = (within (goal.at.slice_bounds-text-end c).After-lines_end-e).1
 
 pub text-p-requires : goal.text-p-requires
-text-p-requires c = room-left (parted (goal.at.text-p-requires c).After-lines_end-e c.requires.3
+text-p-requires c = room-left (parted (goal.at.text-p-requires c).After-lines_end-e) c.requires.3
 
 pub rewrite-requires : goal.rewrite-requires
 rewrite-requires c =
     let p = c.requires in
-    ((within (goal.at.rewrite-requires c).After-lines_end-e.1, p.0, p.1, room-left (less-left (parted (goal.at.rewrite-requires c).After-lines_end-e c.text-p.ensures) p.3)
+    ((within (goal.at.rewrite-requires c).After-lines_end-e).1, p.0, p.1, room-left (less-left (parted (goal.at.rewrite-requires c).After-lines_end-e) c.text-p.ensures) p.3)
 
 pub returns : goal.returns
 returns c =
-    last-left (less-left (parted (goal.at.returns c).After-lines_end-e c.text-p.ensures) c.rewrite.ensures
+    last-left (less-left (parted (goal.at.returns c).After-lines_end-e) c.text-p.ensures) c.rewrite.ensures

@@ -23,13 +23,13 @@ room c = let a = c.args in omega (arith, tidy-short a.s.now a.w.now, c.requires.
 
 pub text-p-requires : goal.text-p-requires
 text-p-requires c =
-    room-left (parted (goal.at.text-p-requires c).After-lines_end-k (room (goal.at.text-p-requires c).Start
+    room-left (parted (goal.at.text-p-requires c).After-lines_end-k) (room (goal.at.text-p-requires c).Start)
 
 pub rest-requires : goal.rest-requires
 rest-requires c =
     let m = c.requires in
-    (m.short, m.tables, omega arith, room-left (less-left (parted (goal.at.rest-requires c).After-lines_end-k c.text-p.ensures) (room (goal.at.rest-requires c).Start)
+    (m.short, m.tables, omega arith, room-left (less-left (parted (goal.at.rest-requires c).After-lines_end-k) c.text-p.ensures) (room (goal.at.rest-requires c).Start))
 
 pub returns : goal.returns
 returns c =
-    last-left (less-left (parted (goal.at.returns c).After-lines_end-k c.text-p.ensures) c.rest.ensures
+    last-left (less-left (parted (goal.at.returns c).After-lines_end-k) c.text-p.ensures) c.rest.ensures

@@ -36,4 +36,4 @@ rest-requires c =
 
 pub returns : goal.returns
 returns c =
-    last-left (less-left (less-left (parted (start (goal.at.returns c).After-head-p) c.head-p.ensures) c.full_line-q.ensures) c.rest.ensures
+    last-left (less-left (less-left (parted (start (goal.at.returns c).After-head-p)) c.head-p.ensures) c.full_line-q.ensures) c.rest.ensures

@@ -26,13 +26,13 @@ room : (c : Start) → Room 0 (refusal_lines c.args.number c.args.place)
 room c = omega (arith, bound c)
 
 pub field-p-requires : goal.field-p-requires
-field-p-requires c = room-left (parted (goal.at.field-p-requires c).Start (room (goal.at.field-p-requires c).Start
+field-p-requires c = room-left (parted (goal.at.field-p-requires c).Start) (room (goal.at.field-p-requires c).Start)
 
 pub field-requires : goal.field-requires
 field-requires c =
-    room-left (less-left (parted (goal.at.field-requires c).Start c.field-p.ensures) (room (goal.at.field-requires c).Start
+    room-left (less-left (parted (goal.at.field-requires c).Start) c.field-p.ensures) (room (goal.at.field-requires c).Start)
 
 pub returns : goal.returns
 returns c =
-    let p = last-left (less-left (parted (goal.at.returns c).Start c.field-p.ensures) c.field.ensures in
-    record { text = p; short = omega (arith, p.end, bound (goal.at.returns c).Start }
+    let p = last-left (less-left (parted (goal.at.returns c).Start) c.field-p.ensures) c.field.ensures in
+    record { text = p; short = omega (arith, p.end, bound (goal.at.returns c).Start) }

@@ -35,11 +35,11 @@ abbrev third : After-field → After-field-s
 third c = c.before.before.before.before.before.before
 
 pub field-p-requires : goal.field-p-requires
-field-p-requires c = room-left (parted (goal.at.field-p-requires c).Start (room c)
+field-p-requires c = room-left (parted (goal.at.field-p-requires c).Start) (room c)
 
 pub field-q-requires : goal.field-q-requires
 field-q-requires c =
-    room-left (less-left (parted (goal.at.field-q-requires c).Start c.field-p.ensures) (room (goal.at.field-q-requires c).After-struct_known-1
+    room-left (less-left (parted (goal.at.field-q-requires c).Start) c.field-p.ensures) (room (goal.at.field-q-requires c).After-struct_known-1)
 
 pub field-s-requires : goal.field-s-requires
 field-s-requires c =

@@ -5,10 +5,10 @@ use Rattle.sheet.specs.Whole.{Went}
 use Rattle.sheet.proofs.AllLines.{as_long}
 use Rattle.sheet.proofs.Cleared.{cleared, refused-whole, found-whole}
 use Rattle.sheet.proofs.read_sheet.Goals as goal
-use Rattle.sheet.proofs.read_sheet.Goals.{After-all_lines, After-clear}
+use Rattle.sheet.proofs.read_sheet.Goals.{After-all_lines}
 
 -- over as many words as there were
-went-here : (c : After-all_lines) → let a = (start c.before.before.before.before.args in
+went-here : (c : After-all_lines) → let a = c.args in
     Went a.strict 7 a.s.now (length a.w.now) c.all_lines.result c.all_lines.new.1.1.0
 went-here c =
     let a = c.args in
@@ -21,11 +21,10 @@ all_lines-requires c =
 
 pub returns-in-Refused : goal.returns-in-Refused
 returns-in-Refused c =
-    let a = (start (goal.at.returns-in-Refused c).After-clear.args in
-    refused-whole a.strict a.s.now (length a.w.now) _ _ (went-here (goal.at.returns-in-Refused c).After-all_lines _ _ _ c.in-Refused.is c.clear-in-Refused.ensures
+    let a = c.args in
+    refused-whole a.strict a.s.now (length a.w.now) _ _ (went-here (goal.at.returns-in-Refused c).After-all_lines) _ _ _ c.in-Refused.is c.clear-in-Refused.ensures
 
 pub returns-in-Read : goal.returns-in-Read
 returns-in-Read c =
-    let h = start (goal.at.returns-in-Read c).After-clear in
-    let a = h.args in
-    found-whole a.strict a.s.now (length a.w.now) _ _ (went-here (goal.at.returns-in-Read c).After-all_lines _ _ _ c.in-Read.is h.pre c.zero.ensures
+    let a = c.args in
+    found-whole a.strict a.s.now (length a.w.now) _ _ (went-here (goal.at.returns-in-Read c).After-all_lines) _ _ _ c.in-Read.is c.requires c.zero.ensures

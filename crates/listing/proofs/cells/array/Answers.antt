@@ -27,8 +27,8 @@ overflow_sub-to c = omega arith
 
 pub elements-requires : goal.elements-requires
 elements-requires c =
-    (omega arith, omega arith, room-left (parted (goal.at.elements-requires c).After-first_cell-to c.requires.3)
+    (omega arith, omega arith, room-left (parted (goal.at.elements-requires c).After-first_cell-to) c.requires.3)
 
 pub returns : goal.returns
 returns c =
-    last-left (parted (goal.at.returns c).After-first_cell-to c.elements.ensures
+    last-left (parted (goal.at.returns c).After-first_cell-to) c.elements.ensures

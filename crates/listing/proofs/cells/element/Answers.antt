@@ -28,12 +28,12 @@ returns-then-cell_flag-eq0 c =
 
 pub element_name-p-requires : goal.element_name-p-requires
 element_name-p-requires c =
-    room-left (parted (goal.at.element_name-p-requires c).After-cell_value-v c.requires.2
+    room-left (parted (goal.at.element_name-p-requires c).After-cell_value-v) c.requires.2
 
 pub ending-requires : goal.ending-requires
 ending-requires c =
-    room-left (less-left (parted (goal.at.ending-requires c).After-cell_value-v c.element_name-p.ensures) c.requires.2
+    room-left (less-left (parted (goal.at.ending-requires c).After-cell_value-v) c.element_name-p.ensures) c.requires.2
 
 pub returns : goal.returns
 returns c =
-    last-left (less-left (parted (goal.at.returns c).After-cell_value-v c.element_name-p.ensures) c.ending.ensures
+    last-left (less-left (parted (goal.at.returns c).After-cell_value-v) c.element_name-p.ensures) c.ending.ensures

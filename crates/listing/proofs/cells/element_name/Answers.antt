@@ -22,23 +22,23 @@ numbered : (c : After-number-q) →
     ((46 ∷ []) ∷ printℕ a.e ∷ [])
 numbered c =
     let c.before.before.before.before = c.before.before.before.before in
-    less-left (less-left (parted c.before.before.before.before.before.before.before c.byte-p.ensures) c.number-q.ensures
+    less-left (less-left (parted c.before.before.before.before.before.before.before) c.byte-p.ensures) c.number-q.ensures
 
 pub byte-p-requires : goal.byte-p-requires
-byte-p-requires c = room-left (parted (goal.at.byte-p-requires c).Start c.requires
+byte-p-requires c = room-left (parted (goal.at.byte-p-requires c).Start) c.requires
 
 pub number-q-requires : goal.number-q-requires
 number-q-requires c =
-    room-left (less-left (parted (goal.at.number-q-requires c).Start c.byte-p.ensures) c.requires
+    room-left (less-left (parted (goal.at.number-q-requires c).Start) c.byte-p.ensures) c.requires
 
 pub byte-s-requires : goal.byte-s-requires
 byte-s-requires c =
-    room-left (numbered (goal.at.byte-s-requires c).After-number-q c.requires
+    room-left (numbered (goal.at.byte-s-requires c).After-number-q) c.requires
 
 pub number-requires : goal.number-requires
 number-requires c =
-    room-left (less-left (numbered (goal.at.number-requires c).After-number-q c.byte-s.ensures) c.requires
+    room-left (less-left (numbered (goal.at.number-requires c).After-number-q) c.byte-s.ensures) c.requires
 
 pub returns : goal.returns
 returns c =
-    last-left (less-left (numbered (goal.at.returns c).After-number-q c.byte-s.ensures) c.number.ensures
+    last-left (less-left (numbered (goal.at.returns c).After-number-q) c.byte-s.ensures) c.number.ensures

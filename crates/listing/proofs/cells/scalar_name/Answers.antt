@@ -15,12 +15,12 @@ parted : (c : Start) →
 parted c = pieces-left _ _ _ (scalar-pieces c.args.n)
 
 pub byte-p-requires : goal.byte-p-requires
-byte-p-requires c = room-left (parted (goal.at.byte-p-requires c).Start c.requires
+byte-p-requires c = room-left (parted (goal.at.byte-p-requires c).Start) c.requires
 
 pub number-requires : goal.number-requires
 number-requires c =
-    room-left (less-left (parted (goal.at.number-requires c).Start c.byte-p.ensures) c.requires
+    room-left (less-left (parted (goal.at.number-requires c).Start) c.byte-p.ensures) c.requires
 
 pub returns : goal.returns
 returns c =
-    last-left (less-left (parted (goal.at.returns c).Start c.byte-p.ensures) c.number.ensures
+    last-left (less-left (parted (goal.at.returns c).Start) c.byte-p.ensures) c.number.ensures

@@ -15,16 +15,16 @@ parted : (c : Start) →
 parted c = pieces-left _ _ _ refl
 
 pub byte-p-requires : goal.byte-p-requires
-byte-p-requires c = room-left (parted (goal.at.byte-p-requires c).Start c.requires
+byte-p-requires c = room-left (parted (goal.at.byte-p-requires c).Start) c.requires
 
 pub value-q-requires : goal.value-q-requires
 value-q-requires c =
-    room-left (less-left (parted (goal.at.value-q-requires c).Start c.byte-p.ensures) c.requires
+    room-left (less-left (parted (goal.at.value-q-requires c).Start) c.byte-p.ensures) c.requires
 
 pub byte-requires : goal.byte-requires
 byte-requires c =
-    room-left (less-left (less-left (parted (goal.at.byte-requires c).Start c.byte-p.ensures) c.value-q.ensures) c.requires
+    room-left (less-left (less-left (parted (goal.at.byte-requires c).Start) c.byte-p.ensures) c.value-q.ensures) c.requires
 
 pub returns : goal.returns
 returns c =
-    last-left (less-left (less-left (parted (goal.at.returns c).Start c.byte-p.ensures) c.value-q.ensures) c.byte.ensures
+    last-left (less-left (less-left (parted (goal.at.returns c).Start) c.byte-p.ensures) c.value-q.ensures) c.byte.ensures

@@ -14,16 +14,16 @@ parted : (c : Start) →
 parted c = pieces-left _ _ _ refl
 
 pub text-p-requires : goal.text-p-requires
-text-p-requires c = room-left (parted (goal.at.text-p-requires c).Start c.requires
+text-p-requires c = room-left (parted (goal.at.text-p-requires c).Start) c.requires
 
 pub number-q-requires : goal.number-q-requires
 number-q-requires c =
-    room-left (less-left (parted (goal.at.number-q-requires c).Start c.text-p.ensures) c.requires
+    room-left (less-left (parted (goal.at.number-q-requires c).Start) c.text-p.ensures) c.requires
 
 pub byte-requires : goal.byte-requires
 byte-requires c =
-    room-left (less-left (less-left (parted (goal.at.byte-requires c).Start c.text-p.ensures) c.number-q.ensures) c.requires
+    room-left (less-left (less-left (parted (goal.at.byte-requires c).Start) c.text-p.ensures) c.number-q.ensures) c.requires
 
 pub returns : goal.returns
 returns c =
-    last-left (less-left (less-left (parted (goal.at.returns c).Start c.text-p.ensures) c.number-q.ensures) c.byte.ensures
+    last-left (less-left (less-left (parted (goal.at.returns c).Start) c.text-p.ensures) c.number-q.ensures) c.byte.ensures

@@ -25,7 +25,7 @@ bounds-bytes-i c = omega arith
 
 pub byte-p-requires : goal.byte-p-requires
 byte-p-requires c =
-    room-left (parted (goal.at.byte-p-requires c).In-loop-i c.requires
+    room-left (parted (goal.at.byte-p-requires c).In-loop-i) c.requires
 
 pub overflow_add-i : goal.overflow_add-i
 overflow_add-i c = omega arith
@@ -35,7 +35,7 @@ loop-i-smaller c = omega arith
 
 pub loop-i-preserved : goal.loop-i-preserved
 loop-i-preserved c =
-    (omega arith, less-left (parted (goal.at.loop-i-preserved c).In-loop-i c.byte-p.ensures, omega arith)
+    (omega arith, less-left (parted (goal.at.loop-i-preserved c).In-loop-i) c.byte-p.ensures, omega arith)
 
 pub shape_of-out : goal.shape_of-out
 shape_of-out c = omega arith

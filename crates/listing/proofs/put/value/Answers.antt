@@ -18,19 +18,19 @@ low : (c : Else-word-ge-ZERO) →
 low c = pieces-left _ _ _ (value_low c.args.word c.if-word-ge-ZERO.false)
 
 pub number-requires : goal.number-requires
-number-requires c = room-left (high (goal.at.number-requires c).Then-word-ge-ZERO c.requires
+number-requires c = room-left (high (goal.at.number-requires c).Then-word-ge-ZERO) c.requires
 
 pub returns-then-word-ge-ZERO : goal.returns-then-word-ge-ZERO
 returns-then-word-ge-ZERO c =
-    last-left (high (goal.at.returns-then-word-ge-ZERO c).Then-word-ge-ZERO c.number.ensures
+    last-left (high (goal.at.returns-then-word-ge-ZERO c).Then-word-ge-ZERO) c.number.ensures
 
 pub byte-p-requires : goal.byte-p-requires
-byte-p-requires c = room-left (low (goal.at.byte-p-requires c).Else-word-ge-ZERO c.requires
+byte-p-requires c = room-left (low (goal.at.byte-p-requires c).Else-word-ge-ZERO) c.requires
 
 pub number-requires-2 : goal.number-requires-2
 number-requires-2 c =
-    room-left (less-left (low (goal.at.number-requires-2 c).Else-word-ge-ZERO c.byte-p.ensures) c.requires
+    room-left (less-left (low (goal.at.number-requires-2 c).Else-word-ge-ZERO) c.byte-p.ensures) c.requires
 
 pub returns : goal.returns
 returns c =
-    last-left (less-left (low (goal.at.returns c).Else-word-ge-ZERO c.byte-p.ensures) c.number-2.ensures
+    last-left (less-left (low (goal.at.returns c).Else-word-ge-ZERO) c.byte-p.ensures) c.number-2.ensures

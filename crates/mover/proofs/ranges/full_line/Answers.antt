@@ -18,18 +18,18 @@ parted : (c : Else-n-eq0) →
 parted c = pieces-left _ _ _ (line-some c.args.n c.if-n-eq0.false)
 
 pub text-requires : goal.text-requires
-text-requires c = room-left (whole (goal.at.text-requires c).Then-n-eq0 c.requires
+text-requires c = room-left (whole (goal.at.text-requires c).Then-n-eq0) c.requires
 
 pub returns-then-n-eq0 : goal.returns-then-n-eq0
-returns-then-n-eq0 c = last-left (whole (goal.at.returns-then-n-eq0 c).Then-n-eq0 c.text.ensures
+returns-then-n-eq0 c = last-left (whole (goal.at.returns-then-n-eq0 c).Then-n-eq0) c.text.ensures
 
 pub text-p-requires : goal.text-p-requires
-text-p-requires c = room-left (parted (goal.at.text-p-requires c).Else-n-eq0 c.requires
+text-p-requires c = room-left (parted (goal.at.text-p-requires c).Else-n-eq0) c.requires
 
 pub full_ranges-requires : goal.full_ranges-requires
 full_ranges-requires c =
-    room-left (less-left (parted (goal.at.full_ranges-requires c).Else-n-eq0 c.text-p.ensures) c.requires
+    room-left (less-left (parted (goal.at.full_ranges-requires c).Else-n-eq0) c.text-p.ensures) c.requires
 
 pub returns : goal.returns
 returns c =
-    last-left (less-left (parted (goal.at.returns c).Else-n-eq0 c.text-p.ensures) c.full_ranges.ensures
+    last-left (less-left (parted (goal.at.returns c).Else-n-eq0) c.text-p.ensures) c.full_ranges.ensures

@@ -17,13 +17,13 @@ more : (c : Else-after-eq0) →
 more c = pieces-left _ _ _ (marked_more c.args.after c.if-after-eq0.false)
 
 pub text-requires : goal.text-requires
-text-requires c = room-left (last (goal.at.text-requires c).Then-after-eq0 c.requires
+text-requires c = room-left (last (goal.at.text-requires c).Then-after-eq0) c.requires
 
 pub returns-then-after-eq0 : goal.returns-then-after-eq0
-returns-then-after-eq0 c = last-left (last (goal.at.returns-then-after-eq0 c).Then-after-eq0 c.text.ensures
+returns-then-after-eq0 c = last-left (last (goal.at.returns-then-after-eq0 c).Then-after-eq0) c.text.ensures
 
 pub text-requires-2 : goal.text-requires-2
-text-requires-2 c = room-left (more (goal.at.text-requires-2 c).Else-after-eq0 c.requires
+text-requires-2 c = room-left (more (goal.at.text-requires-2 c).Else-after-eq0) c.requires
 
 pub returns : goal.returns
-returns c = last-left (more (goal.at.returns c).Else-after-eq0 c.text-2.ensures
+returns c = last-left (more (goal.at.returns c).Else-after-eq0) c.text-2.ensures

@@ -23,13 +23,13 @@ pub overflow_sub-left : goal.overflow_sub-left
 overflow_sub-left c = omega arith
 
 pub full_range-p-requires : goal.full_range-p-requires
-full_range-p-requires c = room-left (parted (goal.at.full_range-p-requires c).In-loop-left c.requires
+full_range-p-requires c = room-left (parted (goal.at.full_range-p-requires c).In-loop-left) c.requires
 
 pub loop-left-smaller : goal.loop-left-smaller
 loop-left-smaller c = omega arith
 
 pub loop-left-preserved : goal.loop-left-preserved
-loop-left-preserved c = (less-left (parted (goal.at.loop-left-preserved c).In-loop-left c.full_range-p.ensures, omega arith)
+loop-left-preserved c = (less-left (parted (goal.at.loop-left-preserved c).In-loop-left) c.full_range-p.ensures, omega arith)
 
 pub shape_of-out : goal.shape_of-out
 shape_of-out c = omega arith

@@ -41,7 +41,7 @@ pub returns-then-code-ne-CONSTANT-2 : goal.returns-then-code-ne-CONSTANT-2
 returns-then-code-ne-CONSTANT-2 c =
     let a = c.args in
     let q = quantifier (goal.at.returns-then-code-ne-CONSTANT-2 c).Else-c-gt-ALL in
-    sym (upper-other a.w.now a.i q.0 q.1 (lower (goal.at.returns-then-code-ne-CONSTANT-2 c).Else-code-ne-CONSTANT (λ e. c.if-code-ne-CONSTANT-2.true (c.code-2.ensures ∙ e)))
+    sym (upper-other a.w.now a.i q.0 q.1 (lower (goal.at.returns-then-code-ne-CONSTANT-2 c).Else-code-ne-CONSTANT) (λ e. c.if-code-ne-CONSTANT-2.true (c.code-2.ensures ∙ e)))
 
 pub operand-requires : goal.operand-requires
 operand-requires c =
@@ -49,11 +49,11 @@ operand-requires c =
 
 pub operand-requires-2 : goal.operand-requires-2
 operand-requires-2 c =
-    omega (arith, inside c.args.w.now (c.args.i + 2) (omega (arith, lower (goal.at.operand-requires-2 c).Else-code-ne-CONSTANT), c.requires.0)
+    omega (arith, inside c.args.w.now (c.args.i + 2) (omega (arith, lower (goal.at.operand-requires-2 c).Else-code-ne-CONSTANT)), c.requires.0)
 
 pub returns : goal.returns
 returns c =
     let a = c.args in
     let q = quantifier (goal.at.returns c).Else-c-gt-ALL in
-    sym (empty-bounds a.w.now a.i q.0 q.1 (lower (goal.at.returns c).Else-code-ne-CONSTANT (upper (goal.at.returns c).Else-code-ne-CONSTANT-2
+    sym (empty-bounds a.w.now a.i q.0 q.1 (lower (goal.at.returns c).Else-code-ne-CONSTANT) (upper (goal.at.returns c).Else-code-ne-CONSTANT-2)
     ∙ rw (← c.operand.ensures, ← c.operand-2.ensures))

@@ -41,8 +41,8 @@ returns-then-code-eq-REM c =
 
 pub text-requires-2 : goal.text-requires-2
 text-requires-2 c =
-    room_as c.args.at (other (goal.at.text-requires-2 c).Else-code-eq-REM c.requires
+    room_as c.args.at (other (goal.at.text-requires-2 c).Else-code-eq-REM) c.requires
 
 pub returns : goal.returns
 returns c =
-    put_as (other (goal.at.returns c).Else-code-eq-REM c.text-2.ensures
+    put_as (other (goal.at.returns c).Else-code-eq-REM) c.text-2.ensures

@@ -28,11 +28,11 @@ returns-then-i-until c =
 
 pub stand_in-requires : goal.stand_in-requires
 stand_in-requires c =
-    (c.requires.0, room_as c.args.at (empty (goal.at.stand_in-requires c).Then-empty_at c.requires.2)
+    (c.requires.0, room_as c.args.at (empty (goal.at.stand_in-requires c).Then-empty_at) c.requires.2)
 
 pub returns-then-empty_at : goal.returns-then-empty_at
 returns-then-empty_at c =
-    put_as (empty (goal.at.returns-then-empty_at c).Then-empty_at c.stand_in.ensures
+    put_as (empty (goal.at.returns-then-empty_at c).Then-empty_at) c.stand_in.ensures
 
 pub put_spelling-requires : goal.put_spelling-requires
 put_spelling-requires c =
@@ -40,4 +40,4 @@ put_spelling-requires c =
 
 pub returns : goal.returns
 returns c =
-    put_as (spelt (goal.at.returns c).After-code c.put_spelling.ensures
+    put_as (spelt (goal.at.returns c).After-code) c.put_spelling.ensures

@@ -18,16 +18,16 @@ all c =
 
 pub text-requires : goal.text-requires
 text-requires c =
-    room_as c.args.at (some (goal.at.text-requires c).Then-code-eq-SOME c.requires.1
+    room_as c.args.at (some (goal.at.text-requires c).Then-code-eq-SOME) c.requires.1
 
 pub returns-then-code-eq-SOME : goal.returns-then-code-eq-SOME
 returns-then-code-eq-SOME c =
-    put_as (some (goal.at.returns-then-code-eq-SOME c).Then-code-eq-SOME c.text.ensures
+    put_as (some (goal.at.returns-then-code-eq-SOME c).Then-code-eq-SOME) c.text.ensures
 
 pub text-requires-2 : goal.text-requires-2
 text-requires-2 c =
-    room_as c.args.at (all (goal.at.text-requires-2 c).Else-code-eq-SOME c.requires.1
+    room_as c.args.at (all (goal.at.text-requires-2 c).Else-code-eq-SOME) c.requires.1
 
 pub returns : goal.returns
 returns c =
-    put_as (all (goal.at.returns c).Else-code-eq-SOME c.text-2.ensures
+    put_as (all (goal.at.returns c).Else-code-eq-SOME) c.text-2.ensures

@@ -12,7 +12,7 @@ use Rattle.sheet.specs.FormulaLine.{Known, Begin, begin, Closed}
 use Rattle.text.proofs.Laws.Keys.{begins-long}
 use Rattle.sheet.proofs.FormulaRest.{closes-refused, closes-read, within-read, keyed, rest-no-key, rest-refused, rest-long, rest_more, rest_end}
 use Rattle.sheet.proofs.formula.formula_line.Goals as goal
-use Rattle.sheet.proofs.formula.formula_line.Goals.{After-to_feed, Else-not-begins, In-Read-2}
+use Rattle.sheet.proofs.formula.formula_line.Goals.{Else-not-begins, In-Read-2}
 
 abbrev beginning : Else-not-begins → Locals → Begin
 beginning c B = let a = c.args in begin a.s.now a.d a.x.at a.x.tokens B
@@ -24,14 +24,14 @@ at-formula : (c : Else-not-begins) → c.args.x.at + 8 ≤ length c.args.s.now
 at-formula c =
     omega (arith, begins-long (bytes "formula=") _ (key_here c), length-drop c.args.x.at c.args.s.now)
 
-within-here : (c : In-Read-2) → (c.in-Read.n ≤ 1024) × (c.in-Read.e ≤ length (start (keyed-there c.before.before.before.before).args.s.now)
+within-here : (c : In-Read-2) → (c.in-Read.n ≤ 1024) × (c.in-Read.e ≤ length c.args.s.now)
 within-here c = within-read _ _ _ _ _ c.in-Read.is c.to_feed.ensures.0
 
-closed-here : (c : In-Read-2) (B : Locals) → Bits (start (keyed-there c.before.before.before.before).args.x.bound B → (D : Declared) →
-    Known (start (keyed-there c.before.before.before.before).args.d (start (keyed-there c.before.before.before.before).args.w.now D →
-    Closed (keyed (beginning (keyed-there c.before.before.before.before B)) D (start (keyed-there c.before.before.before.before).args.w.now c.to_feed.new.1.1.1.1.1.0 c.in-Read.n c.in-Read.e c.in-Read.field-2
+closed-here : (c : In-Read-2) (B : Locals) → Bits c.args.x.bound B → (D : Declared) →
+    Known c.args.d c.args.w.now D →
+    Closed (keyed (beginning c.before.before.before.before.before.before.before B)) D c.args.w.now c.to_feed.new.1.1.1.1.1.0 c.in-Read.n c.in-Read.e c.in-Read.field-2
 closed-here c B b D g =
-    closes-read (keyed (beginning c.before.before.before.before.before.before.before B)) (start c.before.before.before.before.before.before.before.args.w.now _ _ D _ _ _ c.in-Read.is (c.to_feed.ensures.1 B b D g)
+    closes-read (keyed (beginning c.before.before.before.before.before.before.before B)) c.args.w.now _ _ D _ _ _ c.in-Read.is (c.to_feed.ensures.1 B b D g)
 
 pub returns-then-not-begins : goal.returns-then-not-begins
 returns-then-not-begins c =
@@ -46,20 +46,18 @@ to_feed-requires c = (at-formula (goal.at.to_feed-requires c).Else-not-begins, c
 
 pub returns-then-e-s : goal.returns-then-e-s
 returns-then-e-s c =
-    let k = keyed-there (goal.at.returns-then-e-s c).After-to_feed in
-    λ B b D g. (rest_more (beginning k B) D (key_here k) (closed-here (goal.at.returns-then-e-s c).In-Read-2 B b D g) c.if-e-s.true, rest-long (beginning k B) D (key_here k) (closed-here (goal.at.returns-then-e-s c).In-Read-2 B b D g))
+    λ B b D g. (rest_more (beginning (goal.at.returns-then-e-s c).Else-not-begins B) D (key_here (goal.at.returns-then-e-s c).Else-not-begins) (closed-here (goal.at.returns-then-e-s c).In-Read-2 B b D g) c.if-e-s.true, rest-long (beginning (goal.at.returns-then-e-s c).Else-not-begins B) D (key_here (goal.at.returns-then-e-s c).Else-not-begins) (closed-here (goal.at.returns-then-e-s c).In-Read-2 B b D g))
 
 pub ends-requires : goal.ends-requires
 ends-requires c =
-    ((within-here (goal.at.ends-requires c).In-Read-2.0, omega (arith, c.to_feed.auto.1.1.1.1.1.0, (start (keyed-there (goal.at.ends-requires c).After-to_feed).requires.1))
+    ((within-here (goal.at.ends-requires c).In-Read-2).0, omega (arith, c.to_feed.auto.1.1.1.1.1.0, c.requires.1))
 
 pub returns-in-Refused : goal.returns-in-Refused
 returns-in-Refused c =
     λ B b D g.
     let x = closes-refused (keyed (beginning (goal.at.returns-in-Refused c).Else-not-begins B)) c.args.w.now _ _ D _ _ c.in-Refused.is (c.to_feed.ensures.1 B b D g) in
-    (rest-refused (beginning (goal.at.returns-in-Refused c).Else-not-begins B) D (key_here (goal.at.returns-in-Refused c).Else-not-begins _ _ x.0, x.1)
+    (rest-refused (beginning (goal.at.returns-in-Refused c).Else-not-begins B) D (key_here (goal.at.returns-in-Refused c).Else-not-begins) _ _ x.0, x.1)
 
 pub returns-else-e-s : goal.returns-else-e-s
 returns-else-e-s c =
-    let k = keyed-there (goal.at.returns-else-e-s c).After-to_feed in
-    λ B b D g. rest_end (beginning k B) D (key_here k) (closed-here (goal.at.returns-else-e-s c).In-Read-2 B b D g) c.if-e-s.false k.before.before.before.before.before.before.pre.1 _ c.ends.ensures
+    λ B b D g. rest_end (beginning (goal.at.returns-else-e-s c).Else-not-begins B) D (key_here (goal.at.returns-else-e-s c).Else-not-begins) (closed-here (goal.at.returns-else-e-s c).In-Read-2 B b D g) c.if-e-s.false c.requires.1 _ c.ends.ensures

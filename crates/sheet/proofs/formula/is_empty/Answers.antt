@@ -4,7 +4,6 @@ use mathlib.Core.Path.{sym, ◌∙◌}
 use borrow.Author.Tests.{not-false}
 use Rattle.sheet.proofs.Faults.{empties-other, empties-off, empties-word, empties-constant}
 use Rattle.sheet.proofs.formula.is_empty.Goals as goal
-use Rattle.sheet.proofs.formula.is_empty.Goals.{Else-not-refusing}
 
 pub returns-then-e-ne-UPPER : goal.returns-then-e-ne-UPPER
 returns-then-e-ne-UPPER c = λ d p m h. empties-other _ d _ (λ q. c.if-e-ne-UPPER.true (m.sort ∙ q))
@@ -20,18 +19,17 @@ returns-then-t-ne-CONSTANT c =
     λ d p m h. empties-word a.refusing a.w.now a.count p a.t d (sym m.sort ∙ c.if-e-ne-UPPER.false) h c.if-t-ne-CONSTANT.true
 
 pub overflow_sub-count : goal.overflow_sub-count
-overflow_sub-count c = let u = is-upper (goal.at.overflow_sub-count c).Else-not-refusing in u.before.before.before.pre.2 u.if1.left
+overflow_sub-count c = c.requires.2 c.if-e-ne-UPPER.false
 
 pub operand-requires : goal.operand-requires
 operand-requires c =
-    let u = is-upper (goal.at.operand-requires c).Else-not-refusing in
-    let h = u.before.before.before.pre in
-    omega (arith, h.0, h.1, h.2 u.if1.left)
+    let h = c.requires in
+    omega (arith, h.0, h.1, h.2 c.if-e-ne-UPPER.false)
 
 pub returns : goal.returns
 returns c =
     let a = c.args in
     λ d p m h.
-    empties-constant a.refusing a.w.now a.count p a.t d (sym m.sort ∙ c.if-e-ne-UPPER.false) h (c.if-not-refusing.false)
+    empties-constant a.refusing a.w.now a.count p a.t d (sym m.sort ∙ c.if-e-ne-UPPER.false) h (not-false _ c.if-not-refusing.false)
     c.if-t-ne-CONSTANT.false _
     c.operand.ensures

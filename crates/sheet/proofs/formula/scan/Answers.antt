@@ -15,10 +15,7 @@ use Rattle.sheet.proofs.Bits.{locals_in, bits_in}
 use Rattle.sheet.proofs.Loop.{Reading, Taken, reading-start, taken-last, taken-stops, taken_next, known_start, sized-start, through-start}
 use Rattle.sheet.proofs.Scan.{sized-here, May, turn-stops, may, turn-empties, turn-stands}
 use Rattle.sheet.proofs.formula.scan.Goals as goal
-use Rattle.sheet.proofs.formula.scan.Goals.{After-begin, After-is_empty, After-slice_known-in-loop-d-1, After-slice_known-in-loop-d-2-1, After-spelt-t, At-loop-d, Else-k-ne0}
-
-abbrev behind : After-slice_known-in-loop-d-2-1 → At-loop-d
-behind c = head (stood (full c.before.before.before.before.before.before).before
+use Rattle.sheet.proofs.formula.scan.Goals.{After-begin, After-is_empty, After-slice_known-in-loop-d-2-1, At-loop-d, Else-k-ne0}
 
 abbrev beginning : At-loop-d → Locals → Begin
 beginning c B = let a = c.args in begin a.s.now a.d a.from a.tokens B
@@ -37,44 +34,39 @@ reading c = c.loop-d.invariant.0 (some c) (bits_in (binders c))
 may_here : (c : Else-k-ne0) →
     May c.get-due.result c.spelt-t.result c.loop-d.n c.loop-d.count
 may_here c =
-    may (reading c.before.before.before.before.before.before c.requires.1 c.loop-d.inv.1
+    may (reading c.before.before.before.before.before.before) c.requires.1 c.loop-d.inv.1
     _ c.run_end-e.ensures _ c.get-due.ensures _ c.spelt-t.ensures _ c.refusal-k.ensures c.if-k-ne0.false
 
 -- whether it makes a range empty
-tells-here : (c : After-is_empty) → let h = head c.before.before.before in
-    (d : Due) (p : ℕ) → Means (got c.before.before.before.get.result d → Kept h.loop.w h.loop.count p d →
-    c.is_empty.result ≡ empties (refuses_in h.before.before.before.before.before.before.before.before.args.d) d c.spelt-t.result
-tells-here c = rw (head c.before.before.before.before.refuses.ensures at c.is_empty.ensures
+tells-here : (c : After-is_empty) → (d : Due) (p : ℕ) → Means c.get-due.result d → Kept c.loop-d.w c.loop-d.count p d →
+    c.is_empty.result ≡ empties (refuses_in c.args.d) d c.spelt-t.result
+tells-here c = rw c.refuses-refusing.ensures at c.is_empty.ensures
 
-taken_here : (c : After-slice_known-in-loop-d-2-1) (B : Locals) → Bits (binders (behind c)) B →
-    Taken (beginning (behind c) B) (begun (behind c)).begin.last.0 c.push-n.new.0 c.push-n.result
-    ((behind c).loop.count + 1)
+taken_here : (c : After-slice_known-in-loop-d-2-1) (B : Locals) → Bits (binders c.before.before.before.before.before.before.before.before.before.before.before.before.before.before.before.before.before.before) B →
+    Taken (beginning c.before.before.before.before.before.before.before.before.before.before.before.before.before.before.before.before.before.before B) c.begin.last.0 c.push-n.new.0 c.push-n.result
+    (c.loop-d.count + 1)
     c.bound_after-bound.result
-    (stood (full c.before.before.before.before.before.before).before.before.before.before.before.run-end.result
-    (worded c.before.before.before.before.before.word_after.result
+    c.run_end-e.result
+    c.word_after-word.result
 taken_here c B b =
-    let h = behind c in
-    let empty = (full c.before.before.before.before.before.before in
-    let q = empty.before.before in
-    let spelled = q.before.before in
-    turn-stands (h.loop.inv.0 B b) h.before.before.before.before.before.before.before.before.pre.1 h.loop.inv.1
-    _ spelled.before.before.before.run-end.ensures _ q.before.before.before.before.before.before.get.ensures _ spelled.spelt.ensures _ q.before.refusal.ensures q.if1.left
-    _ (tells-here empty) (full c.before.before.before.before.before.if2.left
+    turn-stands (c.loop-d.inv.0 B b) c.requires.1 c.loop-d.inv.1
+    _ c.run_end-e.ensures _ c.get-due.ensures _ c.spelt-t.ensures _ c.refusal-k.ensures c.if-k-ne0.false
+    _ (tells-here c.before.before.before.before.before.before.before.before.before.before.before) c.if-is_empty.false
     _ _ _ _ _ c.set_token.ensures c.push-n.ensures
     c.bound_after-bound.ensures
-    (worded c.before.before.before.before.before.word_after.ensures
+    c.word_after-word.ensures
 
 taken-some : (c : After-slice_known-in-loop-d-2-1) →
-    Taken (beginning (behind c) (some (behind c))) (begun (behind c)).begin.last.0 c.push-n.new.0
-    c.push-n.result ((behind c).loop.count + 1)
+    Taken (beginning c.before.before.before.before.before.before.before.before.before.before.before.before.before.before.before.before.before.before (some c.before.before.before.before.before.before.before.before.before.before.before.before.before.before.before.before.before.before)) c.begin.last.0 c.push-n.new.0
+    c.push-n.result (c.loop-d.count + 1)
     c.bound_after-bound.result
-    (stood (full c.before.before.before.before.before.before).before.before.before.before.before.run-end.result
-    (worded c.before.before.before.before.before.word_after.result
-taken-some c = taken_here c (some (behind c)) (bits_in (binders (behind c)))
+    c.run_end-e.result
+    c.word_after-word.result
+taken-some c = taken_here c (some c.before.before.before.before.before.before.before.before.before.before.before.before.before.before.before.before.before.before) (bits_in (binders c.before.before.before.before.before.before.before.before.before.before.before.before.before.before.before.before.before.before))
 
 -- the words are as many as before
-long-here : (c : After-slice_known-in-loop-d-2-1) → length c.push-n.new.0 ≡ length (start (behind c)).args.w.now
-long-here c = (taken-some c).long ∙ (begun (behind c)).begin.kept.0
+long-here : (c : After-slice_known-in-loop-d-2-1) → length c.push-n.new.0 ≡ length c.args.w.now
+long-here c = (taken-some c).long ∙ c.begin.kept.0
 
 pub loop-d-init : goal.loop-d-init
 loop-d-init c =
@@ -87,7 +79,7 @@ loop-d-init c =
     )
 
 pub overflow_sub-n : goal.overflow_sub-n
-overflow_sub-n c = omega (arith, (reading c.depth)
+overflow_sub-n c = omega (arith, (reading c).depth)
 
 pub get-due-requires : goal.get-due-requires
 get-due-requires c =
@@ -102,23 +94,23 @@ slice_bounds-spelt-start c = sub-spelt c
 
 pub slice_bounds-spelt-end : goal.slice_bounds-spelt-end
 slice_bounds-spelt-end c =
-    end-le in_token c.args.s.now c.loop-d.at _ c.run_end-e.ensures (reading (goal.at.slice_bounds-spelt-end c).At-loop-d.within
+    end-le in_token c.args.s.now c.loop-d.at _ c.run_end-e.ensures (reading (goal.at.slice_bounds-spelt-end c).At-loop-d).within
 
 pub spelt-t-requires : goal.spelt-t-requires
 spelt-t-requires c =
     let small = c.requires.1 in
-    (small, sized-here (reading (goal.at.spelt-t-requires c).At-loop-d small c.loop-d.invariant.2, omega (arith, (reading (goal.at.spelt-t-requires c).At-loop-d.long, c.loop-d.invariant.1))
+    (small, sized-here (reading (goal.at.spelt-t-requires c).At-loop-d) small c.loop-d.invariant.2, omega (arith, (reading (goal.at.spelt-t-requires c).At-loop-d).long, c.loop-d.invariant.1))
 
 pub refusal-k-requires : goal.refusal-k-requires
 refusal-k-requires c = c.requires.1.locals
 
 pub shape_of-w-then-k-ne0 : goal.shape_of-w-then-k-ne0
-shape_of-w-then-k-ne0 c = (reading (goal.at.shape_of-w-then-k-ne0 c).At-loop-d.long ∙ c.begin.kept.0
+shape_of-w-then-k-ne0 c = (reading (goal.at.shape_of-w-then-k-ne0 c).At-loop-d).long ∙ c.begin.kept.0
 
 pub returns-then-k-ne0 : goal.returns-then-k-ne0
 returns-then-k-ne0 c =
     λ B b. (
-      (reading (goal.at.returns-then-k-ne0 c).At-loop-d.long ∙ c.begin.kept.0,
+      (reading (goal.at.returns-then-k-ne0 c).At-loop-d).long ∙ c.begin.kept.0,
       λ D g. turn-stops (c.loop-d.inv.0 B b) c.requires.1 c.loop-d.inv.1
           _ c.run_end-e.ensures _ c.get-due.ensures _ c.spelt-t.ensures _ c.refusal-k.ensures c.if-k-ne0.true D
           (known_start c.args.w.now _ c.begin.ensures g),
@@ -127,71 +119,67 @@ returns-then-k-ne0 c =
 pub is_empty-requires : goal.is_empty-requires
 is_empty-requires c =
     let m = may_here c in
-    (omega (arith, m.number), omega (arith, (reading (goal.at.is_empty-requires c).At-loop-d.long, c.loop-d.inv.1), m.before)
+    (omega (arith, m.number), omega (arith, (reading (goal.at.is_empty-requires c).At-loop-d).long, c.loop-d.inv.1), m.before)
 
 pub shape_of-w-then-is_empty : goal.shape_of-w-then-is_empty
-shape_of-w-then-is_empty c = let h = head (goal.at.shape_of-w-then-is_empty c).After-spelt-t in (reading h).long ∙ h.before.before.before.before.begin.kept.0
+shape_of-w-then-is_empty c = (reading (goal.at.shape_of-w-then-is_empty c).At-loop-d).long ∙ c.begin.kept.0
 
 pub returns-then-is_empty : goal.returns-then-is_empty
 returns-then-is_empty c =
     λ B b. (
-      (reading (goal.at.returns-then-is_empty c).At-loop-d.long ∙ c.begin.kept.0,
+      (reading (goal.at.returns-then-is_empty c).At-loop-d).long ∙ c.begin.kept.0,
       λ D g. turn-empties (c.loop-d.inv.0 B b) c.requires.1 c.loop-d.inv.1
           _ c.run_end-e.ensures _ c.get-due.ensures _ c.spelt-t.ensures _
           c.refusal-k.ensures c.if-k-ne0.false
-          _ (tells-here (goal.at.returns-then-is_empty c).After-is_empty c.if-is_empty.true D (known_start c.args.w.now _ c.begin.ensures g),
+          _ (tells-here (goal.at.returns-then-is_empty c).After-is_empty) c.if-is_empty.true D (known_start c.args.w.now _ c.begin.ensures g),
     )
 
 pub set_token-requires : goal.set_token-requires
 set_token-requires c =
-    omega (arith, (may_here (goal.at.set_token-requires c).Else-k-ne0.number, (reading (goal.at.set_token-requires c).At-loop-d.long, c.loop-d.inv.1)
+    omega (arith, (may_here (goal.at.set_token-requires c).Else-k-ne0).number, (reading (goal.at.set_token-requires c).At-loop-d).long, c.loop-d.inv.1)
 
 pub overflow_add-count : goal.overflow_add-count
-overflow_add-count c = omega (arith, (may_here (stood (goal.at.overflow_add-count c).After-is_empty).number)
+overflow_add-count c = omega (arith, (may_here (goal.at.overflow_add-count c).Else-k-ne0).number)
 
 pub bound_after-bound-requires : goal.bound_after-bound-requires
-bound_after-bound-requires c = (may_here (stood (goal.at.bound_after-bound-requires c).After-is_empty).index
+bound_after-bound-requires c = (may_here (goal.at.bound_after-bound-requires c).Else-k-ne0).index
 
 pub overflow_sub-n-in-loop-d : goal.overflow_sub-n-in-loop-d
-overflow_sub-n-in-loop-d c = omega (arith, (reading (head (stood (goal.at.overflow_sub-n-in-loop-d c).After-is_empty.before)).depth)
+overflow_sub-n-in-loop-d c = omega (arith, (reading (goal.at.overflow_sub-n-in-loop-d c).At-loop-d).depth)
 
 pub push-n-requires : goal.push-n-requires
 push-n-requires c =
-    let q = stood (goal.at.push-n-requires c).After-is_empty in
-    let h = q.before.before.before.before.before.before.before.before in
-    let m = may_here q in
-    (m.low, omega (arith, c.set_token.auto.0, (reading h).long, h.loop.inv.1), m.room, m.index, m.operands, m.coded)
+    let m = may_here (goal.at.push-n-requires c).Else-k-ne0 in
+    (m.low, omega (arith, c.set_token.auto.0, (reading (goal.at.push-n-requires c).At-loop-d).long, c.loop-d.inv.1), m.room, m.index, m.operands, m.coded)
 
 pub shape_of-w-then-n-eq0 : goal.shape_of-w-then-n-eq0
 shape_of-w-then-n-eq0 c = long-here (goal.at.shape_of-w-then-n-eq0 c).After-slice_known-in-loop-d-2-1
 
 pub returns-then-n-eq0 : goal.returns-then-n-eq0
 returns-then-n-eq0 c =
-    let h = behind (goal.at.returns-then-n-eq0 c).After-slice_known-in-loop-d-2-1 in
-    λ B b. through-start h.before.before.before.before.begin.ensures h.before.before.before.before.before.before.before.before.pre.2 (taken-last (taken_here (goal.at.returns-then-n-eq0 c).After-slice_known-in-loop-d-2-1 B b) c.if-n-eq0.true)
+    λ B b. through-start c.begin.ensures c.requires.2 (taken-last (taken_here (goal.at.returns-then-n-eq0 c).After-slice_known-in-loop-d-2-1 B b) c.if-n-eq0.true)
 
 pub shape_of-w-then-class_at-ne-SPACE : goal.shape_of-w-then-class_at-ne-SPACE
 shape_of-w-then-class_at-ne-SPACE c = long-here (goal.at.shape_of-w-then-class_at-ne-SPACE c).After-slice_known-in-loop-d-2-1
 
 pub returns-then-class_at-ne-SPACE : goal.returns-then-class_at-ne-SPACE
 returns-then-class_at-ne-SPACE c =
-    let h = behind (goal.at.returns-then-class_at-ne-SPACE c).After-slice_known-in-loop-d-2-1 in
     λ B b. (
       long-here (goal.at.returns-then-class_at-ne-SPACE c).After-slice_known-in-loop-d-2-1,
       λ D g. taken-stops (taken_here (goal.at.returns-then-class_at-ne-SPACE c).After-slice_known-in-loop-d-2-1 B b) c.if-n-eq0.false (λ q. c.if-class_at-ne-SPACE.true (c.class_at.ensures ∙ q)) D
-          (known_start h.before.before.before.before.before.before.before.before.args.w.now _ h.before.before.before.before.begin.ensures g),
+          (known_start c.args.w.now _ c.begin.ensures g),
     )
 
 pub overflow_add-at : goal.overflow_add-at
-overflow_add-at c = omega (arith, (taken-some (goal.at.overflow_add-at c).After-slice_known-in-loop-d-2-1.within, (start (behind (goal.at.overflow_add-at c).After-slice_known-in-loop-d-2-1).good.0.1)
+overflow_add-at c = omega (arith, (taken-some (goal.at.overflow_add-at c).After-slice_known-in-loop-d-2-1).within, c.good.0.1)
 
 pub loop-d-smaller : goal.loop-d-smaller
-loop-d-smaller c = omega (arith, (may_here (stood (full (goal.at.loop-d-smaller c).After-slice_known-in-loop-d-1.before)).number)
+loop-d-smaller c = omega (arith, (may_here (goal.at.loop-d-smaller c).Else-k-ne0).number)
 
 pub loop-d-preserved : goal.loop-d-preserved
 loop-d-preserved c =
     (
       λ B b. taken_next (taken_here (goal.at.loop-d-preserved c).After-slice_known-in-loop-d-2-1 B b) c.if-n-eq0.false (sym c.class_at.ensures ∙ c.if-class_at-ne-SPACE.false),
-      (behind (goal.at.loop-d-preserved c).After-slice_known-in-loop-d-2-1.loop.invariant.1,
-      (behind (goal.at.loop-d-preserved c).After-slice_known-in-loop-d-2-1.loop.invariant.2,
+      c.loop-d.invariant.1,
+      c.loop-d.invariant.2,
     )

@@ -15,15 +15,15 @@ use Rattle.sheet.proofs.formula.to_feed.Goals.{After-scan, In-Read-2}
 abbrev beginning : After-scan → Locals → Begin
 beginning c B = let a = c.args in begin a.s.now a.d a.from a.tokens B
 
-through_here : (c : In-Read-2) (B : Locals) → Bits (start c.before.before.before.before.args.binders B →
-    Through (beginning c.before.before.before.before B) (start c.before.before.before.before.args.w.now c.scan.new.1.1.1.1.1.0 c.in-Read.n c.in-Read.e c.in-Read.m
+through_here : (c : In-Read-2) (B : Locals) → Bits c.args.binders B →
+    Through (beginning c.before.before.before.before B) c.args.w.now c.scan.new.1.1.1.1.1.0 c.in-Read.n c.in-Read.e c.in-Read.m
 through_here c B b = scans-read (beginning c.before.before.before.before B) c.args.w.now _ _ _ _ _ c.in-Read.is (c.scan.ensures B b)
 
 -- one list
 through-some : (c : In-Read-2) →
-    Through (beginning c.before.before.before.before (locals_in (start c.before.before.before.before.args.binders max_locals)) (start c.before.before.before.before.args.w.now c.scan.new.1.1.1.1.1.0 c.in-Read.n
+    Through (beginning c.before.before.before.before (locals_in c.args.binders max_locals)) c.args.w.now c.scan.new.1.1.1.1.1.0 c.in-Read.n
     c.in-Read.e c.in-Read.m
-through-some c = let m = (start c.before.before.before.before.args.binders in through_here c (locals_in m max_locals) (bits_in m)
+through-some c = let m = c.args.binders in through_here c (locals_in m max_locals) (bits_in m)
 
 pub scan-requires : goal.scan-requires
 scan-requires c = c.requires
@@ -36,7 +36,7 @@ returns-then-class_at-ne-FEED c =
 pub overflow_add-result : goal.overflow_add-result
 unfolding class_number
 overflow_add-result c =
-    omega (arith, class-inside (start (goal.at.overflow_add-result c).After-scan.args.s.now _ feed (sym c.class_at.ensures ∙ c.if-class_at-ne-FEED.false), (start (goal.at.overflow_add-result c).After-scan.well-formed.0.1)
+    omega (arith, class-inside c.args.s.now _ feed (sym c.class_at.ensures ∙ c.if-class_at-ne-FEED.false), c.well_formed.0.1)
 
 pub returns-in-Refused : goal.returns-in-Refused
 returns-in-Refused c =
@@ -51,6 +51,6 @@ pub returns-else-class_at-ne-FEED : goal.returns-else-class_at-ne-FEED
 unfolding class_number
 returns-else-class_at-ne-FEED c =
     let there = sym c.class_at.ensures ∙ c.if-class_at-ne-FEED.false in (
-      ((through-some (goal.at.returns-else-class_at-ne-FEED c).In-Read-2.few, omega (arith, class-inside (start (goal.at.returns-else-class_at-ne-FEED c).After-scan.args.s.now _ feed there)),
+      ((through-some (goal.at.returns-else-class_at-ne-FEED c).In-Read-2).few, omega (arith, class-inside c.args.s.now _ feed there)),
       λ B b D g. through-feed (through_here (goal.at.returns-else-class_at-ne-FEED c).In-Read-2 B b) D g there,
     )

@@ -17,7 +17,7 @@ went-here c = as_long _ 5 c.args.s.now c.loop-w.q c.loop-w.w (sym c.loop-w.invar
 
 pub next-q-requires : goal.next-q-requires
 next-q-requires c =
-    (sym c.more.ensures ∙ c.loop-w-test.true, went-goes _ 5 c.args.s.now _ c.loop-w.q c.loop-w.w (went-here (goal.at.next-q-requires c).At-loop-w)
+    (sym c.more.ensures ∙ c.loop-w-test.true, went-goes _ 5 c.args.s.now _ c.loop-w.q c.loop-w.w (went-here (goal.at.next-q-requires c).At-loop-w))
 
 pub loop-w-smaller : goal.loop-w-smaller
 loop-w-smaller c = c.next-q.ensures.0
@@ -26,7 +26,7 @@ pub loop-w-preserved : goal.loop-w-preserved
 loop-w-preserved c =
     let told = c.next-q in
     let s = c.args.s.now in
-    let went = went-leads _ 5 s (length c.loop-w.w) 5 c.loop-w.q c.loop-w.w (went-here (goal.at.loop-w-preserved c).At-loop-w told.result _ told.ensures.1 in
+    let went = went-leads _ 5 s (length c.loop-w.w) 5 c.loop-w.q c.loop-w.w (went-here (goal.at.loop-w-preserved c).At-loop-w) told.result _ told.ensures.1 in
     (as_long _ 5 s told.result _ c.loop-w.inv.1 went, told.auto.1.1.0 ∙ c.loop-w.inv.1)
 
 pub shape_of-w : goal.shape_of-w

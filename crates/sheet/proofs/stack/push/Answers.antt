@@ -4,10 +4,10 @@ use native.Mathlib.Omega.{arith}
 use Rattle.sheet.specs.Sorts.{procedure_sort}
 use Rattle.sheet.proofs.Opened.{opened-ex, opened-range}
 use Rattle.sheet.proofs.stack.push.Goals as goal
-use Rattle.sheet.proofs.stack.push.Goals.{Else-e-eq-PROCEDURE, Else-e-le-UPPER, Start}
+use Rattle.sheet.proofs.stack.push.Goals.{Else-e-eq-PROCEDURE, Start}
 
 abbrev first : Else-e-eq-PROCEDURE → Start
-first c = start (past-terms c.before.before
+first c = c.before.before.before.before.before.before.before
 
 -- the local of a is.before.before.before due
 is-local : (c : Else-e-eq-PROCEDURE) → procedure_sort < (first c).args.e.sort
@@ -33,7 +33,7 @@ returns-then-e-eq-BOUNDS c = c.push_bounds.ensures
 
 pub push_arguments-requires : goal.push_arguments-requires
 push_arguments-requires c =
-    let h = (start (goal.at.push_arguments-requires c).Else-e-le-UPPER.requires in
+    let h = c.requires in
     let is = c.if-e-eq-PROCEDURE.true in
     (h.4 (omega arith), h.1, is, h.5.number is)
 
@@ -56,4 +56,4 @@ returns c =
     let h = first (goal.at.returns c).Else-e-eq-PROCEDURE in
     let a = h.args in
     rw (c.put-2.ensures, c.put.ensures)
-    (opened-range a.w.now a.n a.e a.t h.pre.0 h.pre.1 bound.result bound.ensures (is-local (goal.at.returns c).Else-e-eq-PROCEDURE c.if-e-eq-EX_LOCAL.false)
+    (opened-range a.w.now a.n a.e a.t h.pre.0 h.pre.1 bound.result bound.ensures (is-local (goal.at.returns c).Else-e-eq-PROCEDURE) c.if-e-eq-EX_LOCAL.false)

@@ -3,7 +3,6 @@ use native.Mathlib.Omega.{arith}
 use Rattle.sheet.proofs.CodeOperands.{operands-few}
 use Rattle.sheet.proofs.Opened.{opened-constant, opened-lower}
 use Rattle.sheet.proofs.stack.push_bounds.Goals as goal
-use Rattle.sheet.proofs.stack.push_bounds.Goals.{Else-t-eq-CONSTANT}
 
 pub returns-then-t-eq-CONSTANT : goal.returns-then-t-eq-CONSTANT
 returns-then-t-eq-CONSTANT c =
@@ -12,12 +11,11 @@ returns-then-t-eq-CONSTANT c =
 
 pub push_operands-requires : goal.push_operands-requires
 push_operands-requires c =
-    let h = (start (goal.at.push_operands-requires c).Else-t-eq-CONSTANT.requires in
+    let h = c.requires in
     (omega (arith, h.0, operands-few _ h.4), omega (arith, h.1, c.put-2.auto.0), h.2, omega arith, h.4)
 
 pub returns : goal.returns
 returns c =
-    let h = start (goal.at.returns c).Else-t-eq-CONSTANT in
-    let a = h.args in
-    opened-lower a.w.now a.n a.e a.t h.pre.0 h.pre.1 h.pre.3 c.if-t-eq-CONSTANT.false _ _
+    let a = c.args in
+    opened-lower a.w.now a.n a.e a.t c.requires.0 c.requires.1 c.requires.3 c.if-t-eq-CONSTANT.false _ _
     (rw c.put-2.ensures at c.push_operands.ensures)

@@ -27,9 +27,9 @@ follows p j r w q h =
     leads-on a.s.now n (a.k + 1) a.p _ _ p.in-Read.is r w (as_line _ a.s.now n r w q h)
 
 -- the formula's line is the last
-last_line : (c : Else-k-eq-PROCEDURES) → (start c.before.before.before.before.before.args.k ≡ 6
+last_line : (c : Else-k-eq-PROCEDURES) → c.args.k ≡ 6
 last_line c =
-    omega (arith, c.if-k-le-LOCALS.false, c.if-k-eq-ARRAYS.false, c.if-k-eq-GIVEN.false, c.if-k-eq-PROCEDURES.false, (start c.before.before.before.before.before.requires.0)
+    omega (arith, c.if-k-le-LOCALS.false, c.if-k-eq-ARRAYS.false, c.if-k-eq-GIVEN.false, c.if-k-eq-PROCEDURES.false, c.requires.0)
 
 pub returns-then-k-le-LOCALS : goal.returns-then-k-le-LOCALS
 returns-then-k-le-LOCALS c =
@@ -62,7 +62,7 @@ returns-then-k-eq-PROCEDURES c =
     follows (goal.at.returns-then-k-eq-PROCEDURES c).In-Read-2 6 told.result _ (ap (λ (m : ℕ). m + 1) (sym c.if-k-eq-PROCEDURES.true)) told.ensures
 
 pub after_formula-requires : goal.after_formula-requires
-after_formula-requires c = known (goal.at.after_formula-requires c).In-Read-2 6 (last_line (goal.at.after_formula-requires c).Else-k-eq-PROCEDURES
+after_formula-requires c = known (goal.at.after_formula-requires c).In-Read-2 6 (last_line (goal.at.after_formula-requires c).Else-k-eq-PROCEDURES)
 
 pub returns-in-Refused : goal.returns-in-Refused
 returns-in-Refused c =
@@ -71,4 +71,4 @@ returns-in-Refused c =
 
 pub returns-else-k-eq-PROCEDURES : goal.returns-else-k-eq-PROCEDURES
 returns-else-k-eq-PROCEDURES c =
-    follows (goal.at.returns-else-k-eq-PROCEDURES c).In-Read-2 7 c.after_formula.result _ (ap (λ (m : ℕ). m + 1) (sym (last_line (goal.at.returns-else-k-eq-PROCEDURES c).Else-k-eq-PROCEDURES)) c.after_formula.ensures
+    follows (goal.at.returns-else-k-eq-PROCEDURES c).In-Read-2 7 c.after_formula.result _ (ap (λ (m : ℕ). m + 1) (sym (last_line (goal.at.returns-else-k-eq-PROCEDURES c).Else-k-eq-PROCEDURES))) c.after_formula.ensures
