@@ -13,6 +13,9 @@ use Rattle.mover.proofs.Laws.Chunks.{part, ChunkAt, chunk-places, chunk-some, ke
 use Rattle.mover.proofs.words.rewrite.Goals as goal
 use Rattle.mover.proofs.words.rewrite.Goals.{After-either_at, After-mark_end-next, At-loop-i, Else-either_at, Start, Then-either_at}
 
+-- ---- a chunk
+
+
 abbrev Chunked : Type 0
 Chunked = After-either_at
 
@@ -80,6 +83,9 @@ word c token until q u =
     let a = (start c.before).args in
     let l = (turn c.before).loop in
     split-left _ (word_more (at c.before) a.w.now a.newer l.token l.until (is-key c.before ∙ c.if-either_at.false) token until q u) l.inv.1
+
+-- ---- the needs
+
 
 pub loop-i-init : goal.loop-i-init
 loop-i-init c =

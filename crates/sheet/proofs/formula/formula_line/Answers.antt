@@ -14,6 +14,9 @@ use Rattle.sheet.proofs.FormulaRest.{closes-refused, closes-read, within-read, k
 use Rattle.sheet.proofs.formula.formula_line.Goals as goal
 use Rattle.sheet.proofs.formula.formula_line.Goals.{Else-not-begins, In-Read-2}
 
+-- ---- places: the key was there, the formula was read, and in each what is known
+
+
 abbrev beginning : Else-not-begins → Locals → Begin
 beginning c B = let a = c.args in begin a.s.now a.d a.x.at a.x.tokens B
 
@@ -32,6 +35,9 @@ closed-here : (c : In-Read-2) (B : Locals) → Bits c.args.x.bound B → (D : De
     Closed (keyed (beginning c.before.before.before.before.before.before.before B)) D c.args.w.now c.to_feed.new.1.1.1.1.1.0 c.in-Read.n c.in-Read.e c.in-Read.field-2
 closed-here c B b D g =
     closes-read (keyed (beginning c.before.before.before.before.before.before.before B)) c.args.w.now _ _ D _ _ _ c.in-Read.is (c.to_feed.ensures.1 B b D g)
+
+-- ---- the needs
+
 
 pub returns-then-not-begins : goal.returns-then-not-begins
 returns-then-not-begins c =

@@ -5,6 +5,12 @@ use borrow.Author.Tests.{not-false}
 use Rattle.sheet.proofs.Faults.{empties-other, empties-off, empties-word, empties-constant}
 use Rattle.sheet.proofs.formula.is_empty.Goals as goal
 
+-- ---- places: the start, and after each test
+
+
+-- ---- the needs
+
+
 pub returns-then-e-ne-UPPER : goal.returns-then-e-ne-UPPER
 returns-then-e-ne-UPPER c = λ d p m h. empties-other _ d _ (λ q. c.if-e-ne-UPPER.true (m.sort ∙ q))
 
@@ -30,6 +36,6 @@ pub returns : goal.returns
 returns c =
     let a = c.args in
     λ d p m h.
-    empties-constant a.refusing a.w.now a.count p a.t d (sym m.sort ∙ c.if-e-ne-UPPER.false) h (not-false _ c.if-not-refusing.false)
+    empties-constant a.refusing a.w.now a.count p a.t d (sym m.sort ∙ c.if-e-ne-UPPER.false) h (c.if-not-refusing.false)
     c.if-t-ne-CONSTANT.false _
     c.operand.ensures

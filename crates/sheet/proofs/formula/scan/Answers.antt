@@ -15,7 +15,13 @@ use Rattle.sheet.proofs.Bits.{locals_in, bits_in}
 use Rattle.sheet.proofs.Loop.{Reading, Taken, reading-start, taken-last, taken-stops, taken_next, known_start, sized-start, through-start}
 use Rattle.sheet.proofs.Scan.{sized-here, May, turn-stops, may, turn-empties, turn-stands}
 use Rattle.sheet.proofs.formula.scan.Goals as goal
-use Rattle.sheet.proofs.formula.scan.Goals.{After-begin, After-is_empty, After-slice_known-in-loop-d-2-1, At-loop-d, Else-k-ne0}
+use Rattle.sheet.proofs.formula.scan.Goals.{After-is_empty, After-slice_known-in-loop-d-2-1, At-loop-d, Else-k-ne0}
+
+-- ---- places: the first entry is put, the loop's head, the entry that is due, the token that may stand, and that makes no range empty
+
+
+-- ---- where the formula begins, and what the loop's variables stand for, with any list for the set of locals that have a binder
+
 
 abbrev beginning : At-loop-d → Locals → Begin
 beginning c B = let a = c.args in begin a.s.now a.d a.from a.tokens B
@@ -30,6 +36,9 @@ some c = locals_in (binders c) max_locals
 reading : (c : At-loop-d) →
     Reading (beginning c (some c)) c.begin.new.0 c.loop-d.w c.loop-d.n c.loop-d.count c.loop-d.bound c.loop-d.at c.loop-d.word
 reading c = c.loop-d.invariant.0 (some c) (bits_in (binders c))
+
+-- ---- what the token shows there, and the loop's variables behind it
+
 
 may_here : (c : Else-k-ne0) →
     May c.get-due.result c.spelt-t.result c.loop-d.n c.loop-d.count
@@ -68,14 +77,16 @@ taken-some c = taken_here c (some c.before.before.before.before.before.before.be
 long-here : (c : After-slice_known-in-loop-d-2-1) → length c.push-n.new.0 ≡ length c.args.w.now
 long-here c = (taken-some c).long ∙ c.begin.kept.0
 
+-- ---- the needs
+
+
 pub loop-d-init : goal.loop-d-init
 loop-d-init c =
-    let =.before.before.before.before (goal.at.loop-d-init c).After-begin in
-    let a = begun.before.before.before.before in (
-      λ B b. rw begun.begin.ensures (reading-start (begin a.args.s.now a.args.d a.args.from a.args.tokens B) a.args.w.now
-          a.args.binders b a.requires.0 a.requires.3 a.requires.2),
-      omega (arith, begun.begin.auto.0, a.requires.2),
-      sized-start a.args.w.now _ begun.begin.ensures a.requires.1 a.requires.4,
+    (
+      λ B b. rw c.begin.ensures (reading-start (begin c.args.s.now c.args.d c.args.from c.args.tokens B) c.args.w.now
+          c.args.binders b c.requires.0 c.requires.3 c.requires.2),
+      omega (arith, c.begin.auto.0, c.requires.2),
+      sized-start c.args.w.now _ c.begin.ensures c.requires.1 c.requires.4,
     )
 
 pub overflow_sub-n : goal.overflow_sub-n

@@ -12,6 +12,9 @@ use Rattle.sheet.proofs.FormulaRest.{line_refused, scans-refused, scans-read, th
 use Rattle.sheet.proofs.formula.to_feed.Goals as goal
 use Rattle.sheet.proofs.formula.to_feed.Goals.{After-scan, In-Read-2}
 
+-- ---- places: the tokens were read, and what is known there, with any list for the set of locals that have a binder
+
+
 abbrev beginning : After-scan → Locals → Begin
 beginning c B = let a = c.args in begin a.s.now a.d a.from a.tokens B
 
@@ -24,6 +27,9 @@ through-some : (c : In-Read-2) →
     Through (beginning c.before.before.before.before (locals_in c.args.binders max_locals)) c.args.w.now c.scan.new.1.1.1.1.1.0 c.in-Read.n
     c.in-Read.e c.in-Read.m
 through-some c = let m = c.args.binders in through_here c (locals_in m max_locals) (bits_in m)
+
+-- ---- the needs
+
 
 pub scan-requires : goal.scan-requires
 scan-requires c = c.requires

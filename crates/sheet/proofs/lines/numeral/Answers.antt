@@ -1,4 +1,6 @@
 -- The run is the first part of the rest. Assumes nothing.
+use Rattle.std.proofs.Common.{arith}
+use Rattle.text.proofs.Laws.Run.{run_end}
 use Rattle.sheet.proofs.NumberLines.{numeral-is}
 use Rattle.sheet.proofs.lines.numeral.Goals as goal
 

@@ -4,14 +4,17 @@ use native.Mathlib.Omega.{arith}
 use Rattle.sheet.specs.Sorts.{procedure_sort}
 use Rattle.sheet.proofs.Opened.{opened-ex, opened-range}
 use Rattle.sheet.proofs.stack.push.Goals as goal
-use Rattle.sheet.proofs.stack.push.Goals.{Else-e-eq-PROCEDURE, Start}
+use Rattle.sheet.proofs.stack.push.Goals.{Else-e-eq-PROCEDURE}
 
-abbrev first : Else-e-eq-PROCEDURE → Start
-first c = c.before.before.before.before.before.before.before
+-- ---- places: the start, the tests of the sort, and the formula of a binder put
 
--- the local of a is.before.before.before due
-is-local : (c : Else-e-eq-PROCEDURE) → procedure_sort < (first c).args.e.sort
+
+-- the local of a binder is due
+is-local : (c : Else-e-eq-PROCEDURE) → procedure_sort < c.args.e.sort
 is-local c = omega (arith, c.if-e-le-UPPER.false, c.if-e-eq-BOUNDS.false, c.if-e-eq-PROCEDURE.false)
+
+-- ---- the needs
+
 
 pub push_operands-requires : goal.push_operands-requires
 push_operands-requires c =
@@ -41,19 +44,17 @@ pub returns-then-e-eq-PROCEDURE : goal.returns-then-e-eq-PROCEDURE
 returns-then-e-eq-PROCEDURE c = c.push_arguments.ensures
 
 pub with-requires : goal.with-requires
-with-requires c = (first c).requires.3 (is-local c)
+with-requires c = c.requires.3 (is-local c)
 
 pub returns-then-e-eq-EX_LOCAL : goal.returns-then-e-eq-EX_LOCAL
 returns-then-e-eq-EX_LOCAL c =
     let bound = c.with in
-    let h = first (goal.at.returns-then-e-eq-EX_LOCAL c).Else-e-eq-PROCEDURE in
-    let a = h.args in
-    rw c.put.ensures (opened-ex a.w.now a.n a.e a.t h.pre.0 h.pre.1 bound.result bound.ensures c.if-e-eq-EX_LOCAL.true)
+    let a = c.args in
+    rw c.put.ensures (opened-ex a.w.now a.n a.e a.t c.requires.0 c.requires.1 bound.result bound.ensures c.if-e-eq-EX_LOCAL.true)
 
 pub returns : goal.returns
 returns c =
     let bound = c.with in
-    let h = first (goal.at.returns c).Else-e-eq-PROCEDURE in
-    let a = h.args in
+    let a = c.args in
     rw (c.put-2.ensures, c.put.ensures)
-    (opened-range a.w.now a.n a.e a.t h.pre.0 h.pre.1 bound.result bound.ensures (is-local (goal.at.returns c).Else-e-eq-PROCEDURE) c.if-e-eq-EX_LOCAL.false)
+    (opened-range a.w.now a.n a.e a.t c.requires.0 c.requires.1 bound.result bound.ensures (is-local (goal.at.returns c).Else-e-eq-PROCEDURE) c.if-e-eq-EX_LOCAL.false)

@@ -11,6 +11,12 @@ use Rattle.sheet.proofs.AllLines.{as_line, still-refused, leads-on, at-line}
 use Rattle.sheet.proofs.whole.line_at.Goals as goal
 use Rattle.sheet.proofs.whole.line_at.Goals.{Else-k-eq-PROCEDURES, In-Read-2}
 
+-- ---- places: what was read before, and after each test of the line's number
+
+
+-- ---- what is known there, and what follows from a line
+
+
 known : (p : In-Read-2) (j : ℕ) → p.args.k ≡ j →
     let a = p.args in Stage j a.s.now (length a.w.now) p.in-Read.d p.in-Read.x a.w.now
 known p j q =
@@ -30,6 +36,9 @@ follows p j r w q h =
 last_line : (c : Else-k-eq-PROCEDURES) → c.args.k ≡ 6
 last_line c =
     omega (arith, c.if-k-le-LOCALS.false, c.if-k-eq-ARRAYS.false, c.if-k-eq-GIVEN.false, c.if-k-eq-PROCEDURES.false, c.requires.0)
+
+-- ---- the needs
+
 
 pub returns-then-k-le-LOCALS : goal.returns-then-k-le-LOCALS
 returns-then-k-le-LOCALS c =

@@ -21,7 +21,7 @@ pub asks-requires : goal.asks-requires
 asks-requires c = let r = top-reach (wins-top (c.loop-w.invariant.0).wins) in (λ h. omega (arith, h, r.low, r.high))
 
 pub release-q-requires : goal.release-q-requires
-release-q-requires c = unwinds-releases c.loop-w.invariant.0 (sym c.asks.ensures ∙ not-true _ c.loop-w-test.true)
+release-q-requires c = unwinds-releases c.loop-w.invariant.0 (sym c.asks.ensures ∙ c.loop-w-test.true)
 
 pub overflow_sub-q : goal.overflow_sub-q
 overflow_sub-q c = omega (arith, (top-reach (wins-top (wins-fell (c.loop-w.invariant.0).wins c.release-q.ensures))).low)
@@ -36,4 +36,4 @@ pub loop-w-preserved : goal.loop-w-preserved
 loop-w-preserved c = (unwinds-more c.loop-w.invariant.0 c.release-q.ensures c.at-x-in-loop-w.ensures, search rules)
 
 pub returns : goal.returns
-returns c = unwinds-end c.loop-w.invariant.0 (sym c.asks.ensures ∙ not-false _ c.loop-w-test.false)
+returns c = unwinds-end c.loop-w.invariant.0 (sym c.asks.ensures ∙ c.loop-w-test.false)
