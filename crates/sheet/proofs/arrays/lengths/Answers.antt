@@ -26,11 +26,11 @@ overflow_add-end c =
 
 pub fill-requires : goal.fill-requires
 fill-requires c =
-    omega (arith, c.set_first.auto.0, c.loop-n.invariant.long, c.requires.1)
+    omega (arith, c.set_first.auto.w, c.loop-n.invariant.long, c.requires.1)
 
 pub shape_of-w-then-class_at-ne-COMMA : goal.shape_of-w-then-class_at-ne-COMMA
 shape_of-w-then-class_at-ne-COMMA c =
-    c.fill.auto.0 ∙ c.set_first.auto.0 ∙ c.loop-n.invariant.long
+    c.fill.auto.w ∙ c.set_first.auto.w ∙ c.loop-n.invariant.long
 
 pub returns-then-class_at-ne-COMMA : goal.returns-then-class_at-ne-COMMA
 unfolding class_number

@@ -25,7 +25,7 @@ loop-i-preserved c =
     (
       omega arith,
       c.set_end.ensures ∙ from_more c.args.w.now c.args.n c.loop-i.i _ c.loop-i.invariant.1 c.loop-i-test.true c.loop-i.invariant.0 _ c.subtree-e.ensures,
-      c.set_end.auto.0 ∙ c.loop-i.invariant.2,
+      c.set_end.auto.w ∙ c.loop-i.invariant.2,
     )
 
 pub shape_of-w : goal.shape_of-w

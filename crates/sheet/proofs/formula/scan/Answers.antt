@@ -85,7 +85,7 @@ loop-d-init c =
     (
       λ B b. rw c.begin.ensures (reading-start (begin c.args.s.now c.args.d c.args.from c.args.tokens B) c.args.w.now
           c.args.binders b c.requires.0 c.requires.3 c.requires.2),
-      omega (arith, c.begin.auto.0, c.requires.2),
+      omega (arith, c.begin.auto.w, c.requires.2),
       sized-start c.args.w.now _ c.begin.ensures c.requires.1 c.requires.4,
     )
 

@@ -14,7 +14,7 @@ to_feed-requires c =
 
 pub set_proc-requires : goal.set_proc-requires
 set_proc-requires c =
-    omega (arith, c.to_feed.auto.1.1.1.1.1.0, c.requires.more, few-procedures c.args.d.edition, c.requires.filled.enough)
+    omega (arith, c.to_feed.auto.w.1.1.1.1.0, c.requires.more, few-procedures c.args.d.edition, c.requires.filled.enough)
 
 pub overflow_add-l : goal.overflow_add-l
 overflow_add-l c =

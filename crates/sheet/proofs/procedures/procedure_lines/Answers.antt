@@ -33,7 +33,7 @@ loop-w-preserved c =
     let told = c.next-q in
     let s = c.args.s.now in
     let went = went-leads _ 5 s (length c.loop-w.w) 5 c.loop-w.q c.loop-w.w (went-here (goal.at.loop-w-preserved c).At-loop-w) told.result _ told.ensures.1 in
-    (as_long _ 5 s told.result _ c.loop-w.inv.1 went, told.auto.1.1.0 ∙ c.loop-w.inv.1)
+    (as_long _ 5 s told.result _ c.loop-w.inv.1 went, told.auto.w.1.0 ∙ c.loop-w.inv.1)
 
 pub shape_of-w : goal.shape_of-w
 shape_of-w c = c.loop-w.invariant.1

@@ -18,7 +18,7 @@ returns-then-t-eq-CONSTANT c =
 pub push_operands-requires : goal.push_operands-requires
 push_operands-requires c =
     let h = c.requires in
-    (omega (arith, h.0, operands-few _ h.4), omega (arith, h.1, c.put-2.auto.0), h.2, omega arith, h.4)
+    (omega (arith, h.0, operands-few _ h.4), omega (arith, h.1, c.put-2.auto.w), h.2, omega arith, h.4)
 
 pub returns : goal.returns
 returns c =
