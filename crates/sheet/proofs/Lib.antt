@@ -58,6 +58,3 @@ pub mod ProcedureLines
 pub mod ProcedureBody
 pub mod Cleared
 pub mod Only
--- for the walks by hand
-pub mod Standing
-pub mod Again

@@ -9,16 +9,14 @@ use Rattle.sheet.proofs.read_sheet.Goals.{After-all_lines}
 
 -- ---- places: the words cleared, and all lines read over them
 
-
 -- over as many words as there were
 went-here : (c : After-all_lines) → let a = c.args in
-    Went a.strict 7 a.s.now (length a.w.now) c.all_lines.result c.all_lines.new.1.1.0
+    Went a.strict 7 a.s.now (length a.w.now) c.all_lines.result c.all_lines.new.w
 went-here c =
     let a = c.args in
     as_long a.strict 7 a.s.now c.all_lines.result _ (cleared a.w.now _ c.clear.ensures).0 c.all_lines.ensures
 
 -- ---- the needs
-
 
 pub all_lines-requires : goal.all_lines-requires
 all_lines-requires c =

@@ -7,9 +7,7 @@ use Rattle.sheet.proofs.formula.is_empty.Goals as goal
 
 -- ---- places: the start, and after each test
 
-
 -- ---- the needs
-
 
 pub returns-then-e-ne-UPPER : goal.returns-then-e-ne-UPPER
 returns-then-e-ne-UPPER c = λ d p m h. empties-other _ d _ (λ q. c.if-e-ne-UPPER.true (m.sort ∙ q))

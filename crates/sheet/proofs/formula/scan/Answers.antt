@@ -15,35 +15,22 @@ use Rattle.sheet.proofs.Bits.{locals_in, bits_in}
 use Rattle.sheet.proofs.Loop.{Reading, Taken, reading-start, taken-last, taken-stops, taken_next, known_start, sized-start, through-start}
 use Rattle.sheet.proofs.Scan.{sized-here, May, turn-stops, may, turn-empties, turn-stands}
 use Rattle.sheet.proofs.formula.scan.Goals as goal
-use Rattle.sheet.proofs.formula.scan.Goals.{After-is_empty, After-slice_known-in-loop-d-2-1, At-loop-d, Else-k-ne0}
+use Rattle.sheet.proofs.formula.scan.Goals.{After-is_empty, After-push-n, At-loop-d, Else-k-ne0}
 
 -- ---- places: the first entry is put, the loop's head, the entry that is due, the token that may stand, and that makes no range empty
 
-
 -- ---- where the formula begins, and what the loop's variables stand for, with any list for the set of locals that have a binder
 
-
-abbrev beginning : At-loop-d → Locals → Begin
-beginning c B = let a = c.args in begin a.s.now a.d a.from a.tokens B
-
-abbrev binders : At-loop-d → ℕ
-binders c = c.args.binders
-
--- one list
-abbrev some : At-loop-d → Locals
-some c = locals_in (binders c) max_locals
-
 reading : (c : At-loop-d) →
-    Reading (beginning c (some c)) c.begin.new.0 c.loop-d.w c.loop-d.n c.loop-d.count c.loop-d.bound c.loop-d.at c.loop-d.word
-reading c = c.loop-d.invariant.0 (some c) (bits_in (binders c))
+    Reading (begin c.args.s.now c.args.d c.args.from c.args.tokens (locals_in c.args.binders max_locals)) c.begin.new.w c.loop-d.w c.loop-d.n c.loop-d.count c.loop-d.bound c.loop-d.at c.loop-d.word
+reading c = c.loop-d.invariant.0 (locals_in c.args.binders max_locals) (bits_in c.args.binders)
 
 -- ---- what the token shows there, and the loop's variables behind it
-
 
 may_here : (c : Else-k-ne0) →
     May c.get-due.result c.spelt-t.result c.loop-d.n c.loop-d.count
 may_here c =
-    may (reading c.before.before.before.before.before.before) c.requires.1 c.loop-d.inv.1
+    may (c.loop-d.invariant.0 (locals_in c.args.binders max_locals) (bits_in c.args.binders)) c.requires.1 c.loop-d.invariant.1
     _ c.run_end-e.ensures _ c.get-due.ensures _ c.spelt-t.ensures _ c.refusal-k.ensures c.if-k-ne0.false
 
 -- whether it makes a range empty
@@ -51,34 +38,33 @@ tells-here : (c : After-is_empty) → (d : Due) (p : ℕ) → Means c.get-due.re
     c.is_empty.result ≡ empties (refuses_in c.args.d) d c.spelt-t.result
 tells-here c = rw c.refuses-refusing.ensures at c.is_empty.ensures
 
-taken_here : (c : After-slice_known-in-loop-d-2-1) (B : Locals) → Bits (binders c.before.before.before.before.before.before.before.before.before.before.before.before.before.before.before.before.before.before) B →
-    Taken (beginning c.before.before.before.before.before.before.before.before.before.before.before.before.before.before.before.before.before.before B) c.begin.last.0 c.push-n.new.0 c.push-n.result
+taken_here : (c : After-push-n) (B : Locals) → Bits c.args.binders B →
+    Taken (begin c.args.s.now c.args.d c.args.from c.args.tokens B) c.begin.new.w c.push-n.new.w c.push-n.result
     (c.loop-d.count + 1)
     c.bound_after-bound.result
     c.run_end-e.result
     c.word_after-word.result
 taken_here c B b =
-    turn-stands (c.loop-d.inv.0 B b) c.requires.1 c.loop-d.inv.1
+    turn-stands (c.loop-d.invariant.0 B b) c.requires.1 c.loop-d.invariant.1
     _ c.run_end-e.ensures _ c.get-due.ensures _ c.spelt-t.ensures _ c.refusal-k.ensures c.if-k-ne0.false
-    _ (tells-here c.before.before.before.before.before.before.before.before.before.before.before) c.if-is_empty.false
+    _ (λ d p m h. rw c.refuses-refusing.ensures at c.is_empty.ensures d p m h) c.if-is_empty.false
     _ _ _ _ _ c.set_token.ensures c.push-n.ensures
     c.bound_after-bound.ensures
     c.word_after-word.ensures
 
-taken-some : (c : After-slice_known-in-loop-d-2-1) →
-    Taken (beginning c.before.before.before.before.before.before.before.before.before.before.before.before.before.before.before.before.before.before (some c.before.before.before.before.before.before.before.before.before.before.before.before.before.before.before.before.before.before)) c.begin.last.0 c.push-n.new.0
+taken-some : (c : After-push-n) →
+    Taken (begin c.args.s.now c.args.d c.args.from c.args.tokens (locals_in c.args.binders max_locals)) c.begin.new.w c.push-n.new.w
     c.push-n.result (c.loop-d.count + 1)
     c.bound_after-bound.result
     c.run_end-e.result
     c.word_after-word.result
-taken-some c = taken_here c (some c.before.before.before.before.before.before.before.before.before.before.before.before.before.before.before.before.before.before) (bits_in (binders c.before.before.before.before.before.before.before.before.before.before.before.before.before.before.before.before.before.before))
+taken-some c = taken_here c (locals_in c.args.binders max_locals) (bits_in c.args.binders)
 
 -- the words are as many as before
-long-here : (c : After-slice_known-in-loop-d-2-1) → length c.push-n.new.0 ≡ length c.args.w.now
-long-here c = (taken-some c).long ∙ c.begin.kept.0
+long-here : (c : After-push-n) → length c.push-n.new.w ≡ length c.args.w.now
+long-here c = (taken-some c).long ∙ c.begin.auto.w
 
 -- ---- the needs
-
 
 pub loop-d-init : goal.loop-d-init
 loop-d-init c =
@@ -90,18 +76,18 @@ loop-d-init c =
     )
 
 pub overflow_sub-n : goal.overflow_sub-n
-overflow_sub-n c = omega (arith, (reading c).depth)
+overflow_sub-n c = omega (arith, (reading (goal.at.overflow_sub-n c).At-loop-d).depth)
 
 pub get-due-requires : goal.get-due-requires
 get-due-requires c =
-    let i = reading c in
+    let i = reading (goal.at.get-due-requires c).At-loop-d in
     (omega (arith, i.depth, i.low), omega (arith, i.long, c.loop-d.invariant.1))
 
 pub slice_bounds-spelt-count : goal.slice_bounds-spelt-count
 slice_bounds-spelt-count c = end_ge in_token c.args.s.now c.loop-d.at _ c.run_end-e.ensures
 
 pub slice_bounds-spelt-start : goal.slice_bounds-spelt-start
-slice_bounds-spelt-start c = sub-spelt c
+slice_bounds-spelt-start c = end_ge in_token c.args.s.now c.loop-d.at _ c.run_end-e.ensures
 
 pub slice_bounds-spelt-end : goal.slice_bounds-spelt-end
 slice_bounds-spelt-end c =
@@ -116,30 +102,30 @@ pub refusal-k-requires : goal.refusal-k-requires
 refusal-k-requires c = c.requires.1.locals
 
 pub shape_of-w-then-k-ne0 : goal.shape_of-w-then-k-ne0
-shape_of-w-then-k-ne0 c = (reading (goal.at.shape_of-w-then-k-ne0 c).At-loop-d).long ∙ c.begin.kept.0
+shape_of-w-then-k-ne0 c = (reading (goal.at.shape_of-w-then-k-ne0 c).At-loop-d).long ∙ c.begin.auto.w
 
 pub returns-then-k-ne0 : goal.returns-then-k-ne0
 returns-then-k-ne0 c =
     λ B b. (
-      (reading (goal.at.returns-then-k-ne0 c).At-loop-d).long ∙ c.begin.kept.0,
-      λ D g. turn-stops (c.loop-d.inv.0 B b) c.requires.1 c.loop-d.inv.1
+      (reading (goal.at.returns-then-k-ne0 c).At-loop-d).long ∙ c.begin.auto.w,
+      λ D g. turn-stops (c.loop-d.invariant.0 B b) c.requires.1 c.loop-d.invariant.1
           _ c.run_end-e.ensures _ c.get-due.ensures _ c.spelt-t.ensures _ c.refusal-k.ensures c.if-k-ne0.true D
           (known_start c.args.w.now _ c.begin.ensures g),
     )
 
 pub is_empty-requires : goal.is_empty-requires
 is_empty-requires c =
-    let m = may_here c in
-    (omega (arith, m.number), omega (arith, (reading (goal.at.is_empty-requires c).At-loop-d).long, c.loop-d.inv.1), m.before)
+    let m = may_here (goal.at.is_empty-requires c).Else-k-ne0 in
+    (omega (arith, m.number), omega (arith, (reading (goal.at.is_empty-requires c).At-loop-d).long, c.loop-d.invariant.1), m.before)
 
 pub shape_of-w-then-is_empty : goal.shape_of-w-then-is_empty
-shape_of-w-then-is_empty c = (reading (goal.at.shape_of-w-then-is_empty c).At-loop-d).long ∙ c.begin.kept.0
+shape_of-w-then-is_empty c = (reading (goal.at.shape_of-w-then-is_empty c).At-loop-d).long ∙ c.begin.auto.w
 
 pub returns-then-is_empty : goal.returns-then-is_empty
 returns-then-is_empty c =
     λ B b. (
-      (reading (goal.at.returns-then-is_empty c).At-loop-d).long ∙ c.begin.kept.0,
-      λ D g. turn-empties (c.loop-d.inv.0 B b) c.requires.1 c.loop-d.inv.1
+      (reading (goal.at.returns-then-is_empty c).At-loop-d).long ∙ c.begin.auto.w,
+      λ D g. turn-empties (c.loop-d.invariant.0 B b) c.requires.1 c.loop-d.invariant.1
           _ c.run_end-e.ensures _ c.get-due.ensures _ c.spelt-t.ensures _
           c.refusal-k.ensures c.if-k-ne0.false
           _ (tells-here (goal.at.returns-then-is_empty c).After-is_empty) c.if-is_empty.true D (known_start c.args.w.now _ c.begin.ensures g),
@@ -147,7 +133,7 @@ returns-then-is_empty c =
 
 pub set_token-requires : goal.set_token-requires
 set_token-requires c =
-    omega (arith, (may_here (goal.at.set_token-requires c).Else-k-ne0).number, (reading (goal.at.set_token-requires c).At-loop-d).long, c.loop-d.inv.1)
+    omega (arith, (may_here (goal.at.set_token-requires c).Else-k-ne0).number, (reading (goal.at.set_token-requires c).At-loop-d).long, c.loop-d.invariant.1)
 
 pub overflow_add-count : goal.overflow_add-count
 overflow_add-count c = omega (arith, (may_here (goal.at.overflow_add-count c).Else-k-ne0).number)
@@ -161,28 +147,28 @@ overflow_sub-n-in-loop-d c = omega (arith, (reading (goal.at.overflow_sub-n-in-l
 pub push-n-requires : goal.push-n-requires
 push-n-requires c =
     let m = may_here (goal.at.push-n-requires c).Else-k-ne0 in
-    (m.low, omega (arith, c.set_token.auto.0, (reading (goal.at.push-n-requires c).At-loop-d).long, c.loop-d.inv.1), m.room, m.index, m.operands, m.coded)
+    (m.low, omega (arith, c.set_token.auto.w, (reading (goal.at.push-n-requires c).At-loop-d).long, c.loop-d.invariant.1), m.room, m.index, m.operands, m.coded)
 
 pub shape_of-w-then-n-eq0 : goal.shape_of-w-then-n-eq0
-shape_of-w-then-n-eq0 c = long-here (goal.at.shape_of-w-then-n-eq0 c).After-slice_known-in-loop-d-2-1
+shape_of-w-then-n-eq0 c = long-here (goal.at.shape_of-w-then-n-eq0 c).After-push-n
 
 pub returns-then-n-eq0 : goal.returns-then-n-eq0
 returns-then-n-eq0 c =
-    λ B b. through-start c.begin.ensures c.requires.2 (taken-last (taken_here (goal.at.returns-then-n-eq0 c).After-slice_known-in-loop-d-2-1 B b) c.if-n-eq0.true)
+    λ B b. through-start c.begin.ensures c.requires.2 (taken-last (taken_here (goal.at.returns-then-n-eq0 c).After-push-n B b) c.if-n-eq0.true)
 
 pub shape_of-w-then-class_at-ne-SPACE : goal.shape_of-w-then-class_at-ne-SPACE
-shape_of-w-then-class_at-ne-SPACE c = long-here (goal.at.shape_of-w-then-class_at-ne-SPACE c).After-slice_known-in-loop-d-2-1
+shape_of-w-then-class_at-ne-SPACE c = long-here (goal.at.shape_of-w-then-class_at-ne-SPACE c).After-push-n
 
 pub returns-then-class_at-ne-SPACE : goal.returns-then-class_at-ne-SPACE
 returns-then-class_at-ne-SPACE c =
     λ B b. (
-      long-here (goal.at.returns-then-class_at-ne-SPACE c).After-slice_known-in-loop-d-2-1,
-      λ D g. taken-stops (taken_here (goal.at.returns-then-class_at-ne-SPACE c).After-slice_known-in-loop-d-2-1 B b) c.if-n-eq0.false (λ q. c.if-class_at-ne-SPACE.true (c.class_at.ensures ∙ q)) D
+      long-here (goal.at.returns-then-class_at-ne-SPACE c).After-push-n,
+      λ D g. taken-stops (taken_here (goal.at.returns-then-class_at-ne-SPACE c).After-push-n B b) c.if-n-eq0.false (λ q. c.if-class_at-ne-SPACE.true (c.class_at.ensures ∙ q)) D
           (known_start c.args.w.now _ c.begin.ensures g),
     )
 
 pub overflow_add-at : goal.overflow_add-at
-overflow_add-at c = omega (arith, (taken-some (goal.at.overflow_add-at c).After-slice_known-in-loop-d-2-1).within, c.good.0.1)
+overflow_add-at c = omega (arith, (taken-some (goal.at.overflow_add-at c).After-push-n).within, c.well_formed.0.1)
 
 pub loop-d-smaller : goal.loop-d-smaller
 loop-d-smaller c = omega (arith, (may_here (goal.at.loop-d-smaller c).Else-k-ne0).number)
@@ -190,7 +176,7 @@ loop-d-smaller c = omega (arith, (may_here (goal.at.loop-d-smaller c).Else-k-ne0
 pub loop-d-preserved : goal.loop-d-preserved
 loop-d-preserved c =
     (
-      λ B b. taken_next (taken_here (goal.at.loop-d-preserved c).After-slice_known-in-loop-d-2-1 B b) c.if-n-eq0.false (sym c.class_at.ensures ∙ c.if-class_at-ne-SPACE.false),
+      λ B b. taken_next (taken_here (goal.at.loop-d-preserved c).After-push-n B b) c.if-n-eq0.false (sym c.class_at.ensures ∙ c.if-class_at-ne-SPACE.false),
       c.loop-d.invariant.1,
       c.loop-d.invariant.2,
     )

@@ -14,7 +14,7 @@ to_feed-requires c =
 
 pub set_proc-requires : goal.set_proc-requires
 set_proc-requires c =
-    omega (arith, c.to_feed.auto.w.1.1.1.1.0, c.requires.more, few-procedures c.args.d.edition, c.requires.filled.enough)
+    omega (arith, c.to_feed.auto.w, c.requires.more, few-procedures c.args.d.edition, c.requires.filled.enough)
 
 pub overflow_add-l : goal.overflow_add-l
 overflow_add-l c =
@@ -24,15 +24,15 @@ pub returns-in-Refused : goal.returns-in-Refused
 returns-in-Refused c =
     let a = c.args in
     let f = c.requires.filled in
-    body_refused c.args.s.now _ _ _ _ _ c.args.w.now c.requires c.to_feed.new.1.1.1.1.1.0 _ _
-    (closes-refused (begin a.s.now (in_line a.d a.n) a.from a.x.tokens f.locals) a.w.now c.to_feed.new.1.1.1.1.1.0 c.to_feed.result (with_parameters a.n f.declared) _ _ c.in-Refused.is
+    body_refused c.args.s.now _ _ _ _ _ c.args.w.now c.requires c.to_feed.new.w _ _
+    (closes-refused (begin a.s.now (in_line a.d a.n) a.from a.x.tokens f.locals) a.w.now c.to_feed.new.w c.to_feed.result (with_parameters a.n f.declared) _ _ c.in-Refused.is
     (c.to_feed.ensures.1 f.locals f.set (with_parameters a.n f.declared) (line_known c.args.s.now _ _ _ _ _ c.args.w.now c.requires)))
 
 pub returns-in-Read : goal.returns-in-Read
 returns-in-Read c =
     let a = c.args in
     let f = c.requires.filled in
-    body-found c.args.s.now _ _ _ _ _ c.args.w.now c.requires c.to_feed.new.1.1.1.1.1.0 _ _ _ _
-    (closes-read (begin a.s.now (in_line a.d a.n) a.from a.x.tokens f.locals) a.w.now c.to_feed.new.1.1.1.1.1.0 c.to_feed.result (with_parameters a.n f.declared) _ _ _ c.in-Read.is
+    body-found c.args.s.now _ _ _ _ _ c.args.w.now c.requires c.to_feed.new.w _ _ _ _
+    (closes-read (begin a.s.now (in_line a.d a.n) a.from a.x.tokens f.locals) a.w.now c.to_feed.new.w c.to_feed.result (with_parameters a.n f.declared) _ _ _ c.in-Read.is
     (c.to_feed.ensures.1 f.locals f.set (with_parameters a.n f.declared) (line_known c.args.s.now _ _ _ _ _ c.args.w.now c.requires)))
     c.set_proc.ensures

@@ -12,14 +12,12 @@ loop-w-init c = ((refl, c.requires), refl)
 
 -- ---- places: the start, and the loop's head before a line
 
-
 -- what was read, over the words of the loop
 went-here : (c : At-loop-w) →
     Went c.args.d.strict 5 c.args.s.now (length c.loop-w.w) c.loop-w.q c.loop-w.w
 went-here c = as_long _ 5 c.args.s.now c.loop-w.q c.loop-w.w (sym c.loop-w.invariant.1) c.loop-w.invariant.0
 
 -- ---- the needs
-
 
 pub next-q-requires : goal.next-q-requires
 next-q-requires c =
@@ -33,7 +31,7 @@ loop-w-preserved c =
     let told = c.next-q in
     let s = c.args.s.now in
     let went = went-leads _ 5 s (length c.loop-w.w) 5 c.loop-w.q c.loop-w.w (went-here (goal.at.loop-w-preserved c).At-loop-w) told.result _ told.ensures.1 in
-    (as_long _ 5 s told.result _ c.loop-w.inv.1 went, told.auto.w.1.0 ∙ c.loop-w.inv.1)
+    (as_long _ 5 s told.result _ c.loop-w.invariant.1 went, told.auto.w ∙ c.loop-w.invariant.1)
 
 pub shape_of-w : goal.shape_of-w
 shape_of-w c = c.loop-w.invariant.1

@@ -6,9 +6,7 @@ use Rattle.sheet.proofs.stack.push_bounds.Goals as goal
 
 -- ---- places: the start, and the upper bound put below a word's operands
 
-
 -- ---- the needs
-
 
 pub returns-then-t-eq-CONSTANT : goal.returns-then-t-eq-CONSTANT
 returns-then-t-eq-CONSTANT c =

@@ -11,7 +11,7 @@ arrays_line-requires c = (c.requires.scalars, omega (arith, c.requires.enough))
 pub after_ranges-requires : goal.after_ranges-requires
 after_ranges-requires c =
     let told = c.arrays_line in
-    arrayed-long (sym told.auto.w.1.1.0)
+    arrayed-long (sym told.auto.w)
     (arrays-found c.args.s.now _ _ _ c.args.w.now c.requires _ told.result told.ensures _ _ _ c.in-Read.is)
 
 pub returns-in-Refused : goal.returns-in-Refused
@@ -22,4 +22,4 @@ pub returns-in-Read : goal.returns-in-Read
 returns-in-Read c =
     let told = c.arrays_line in
     let last = c.after_ranges in
-    as_long _ 4 _ last.result _ told.auto.w.1.1.0 last.ensures
+    as_long _ 4 _ last.result _ told.auto.w last.ensures
