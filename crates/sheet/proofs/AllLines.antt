@@ -1,6 +1,6 @@
 -- The lines of given values and of the formula, from the answers of the code that reads each, and a line by its number. Those before are in
 -- FirstLines, those of procedures in ProcedureLines and ProcedureBody. Assumes nothing.
-use Prim.Native.Nat.{ℕ, ◌+◌}
+use Prim.Native.Nat.{ℕ}
 use native.Mathlib.Omega.{arith}
 use mathlib.Core.Path.{◌≡◌, refl, sym, ap, subst, ◌∙◌}
 use mathlib.Core.Bool.{Bool}

@@ -12,7 +12,6 @@ use Rattle.specification.specs.Lists.{Each}
 use Rattle.specification.specs.Parser.{Reader}
 use Rattle.specification.specs.Lines.{Declared}
 use Rattle.specification.specs.Ast.{Formula, Procedure}
-use Rattle.specification.specs.Formula.{formula}
 use Rattle.specification.specs.Sheet.{with_parameters, with_procedures, procedure_line, procedure_lines}
 use Rattle.specification.proofs.Laws.Parser.{Post, holds, bind-post, choose-post}
 use Rattle.specification.proofs.Laws.Lists.{each-++}

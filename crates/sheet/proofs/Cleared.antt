@@ -8,7 +8,7 @@ use lib.Seq.{get_or-set_same, get_or-set_other, ext_get_or}
 use lib.Dec.{ltb}
 use borrow.Author.Tests.{ltb-true, ltb-false}
 use Rattle.specification.specs.Bytes.{Bytes}
-use Rattle.specification.specs.Parser.{Read, found}
+use Rattle.specification.specs.Parser.{found}
 use Rattle.specification.specs.Sheet.{read_with}
 use Rattle.specification.proofs.Laws.ReadSheet.{read-well-formed}
 use Rattle.tables.specs.Layout.{dues_at, dues_end, path_at}

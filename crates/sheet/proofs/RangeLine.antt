@@ -18,7 +18,6 @@ use Rattle.values.specs.Word.{signed}
 use Rattle.values.proofs.Laws.Word.{biased-signed}
 use Rattle.tables.specs.Layout.{max_cells, cell_slot, first_slot, first_at}
 use Rattle.tables.specs.Ranges.{range_slot, range_mark}
-use Rattle.sheet.specs.declared.lines.Integer.TheVariants as integer
 use Rattle.sheet.specs.declared.ranges.Range as code
 use Rattle.sheet.specs.declared.ranges.Range.TheVariants as one
 use Rattle.sheet.specs.declared.ranges.Ranges.{Ranges}

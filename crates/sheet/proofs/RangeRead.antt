@@ -13,9 +13,6 @@ use Rattle.values.specs.Word.{signed}
 use Rattle.values.proofs.Laws.Word.{signed_le}
 use Rattle.sheet.specs.declared.lines.Integer.{Integer}
 use Rattle.sheet.specs.declared.lines.Integer.TheVariants as integer
-use Rattle.sheet.specs.declared.ranges.Range as code
-use Rattle.sheet.specs.declared.ranges.Range.TheVariants as one
-use Rattle.sheet.specs.declared.ranges.Ranges.TheVariants as line
 use Rattle.sheet.specs.Reader.{line_at}
 use Rattle.sheet.specs.Answers.{integer_read}
 use Rattle.sheet.specs.RangeLine.{between, up_to, lead_of}

@@ -1,7 +1,7 @@
 -- Empty ranges are typing slips (document 02, Nine): a sheet without them. `eq 0 1` stands for a `some` whose range is empty and `true` for such
 -- an `all`, their bodies dropped; the tokens behind them get other numbers. Ranges are looked at where they stand: a parameter as a bound is no
 -- constant, whatever a call puts in its place. Assumes nothing.
-use Rattle.std.specs.Prelude.{ℕ, suc, ◌+◌, Bool, true, false, ◌||◌, List, [], ◌∷◌, ◌++◌, length, get_or, pos}
+use Rattle.std.specs.Prelude.{ℕ, suc, ◌+◌, Bool, false, ◌||◌, List, [], ◌∷◌, ◌++◌, length, get_or, pos}
 use Rattle.specification.specs.Bytes.{pick}
 use Rattle.specification.specs.Ast.{constant, Formula, truth, and, or, imp, neg, eq, compare, ex, some, all, call, Procedure}
 use Rattle.specification.specs.Fill.{fill}

@@ -173,6 +173,7 @@ module _ (w : Words) (newer : Bool) (e : ℕ) where
   passed : (ws : List Word) → Filled ws → (i until : ℕ) → until ≡ i + length ws → (m : ℕ) → Mark false m → (rest : Bytes) →
       rewritten w newer i until (chunks (spelt e ws ++ m ∷ rest)) ≡ m ∷ rewritten w newer until 0 (chunks rest)
   unfolding parted led word_piece mark_piece until_after
+  passed [] f i until h m mark rest = elim f [ ]
   passed (x ∷ []) f i until h m mark rest =
       let last : suc i ≡ until = omega arith in
       rw (append-nil (word_text e x))

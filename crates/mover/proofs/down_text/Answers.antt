@@ -9,10 +9,7 @@ use Rattle.listing.proofs.Laws.Put.{Left, pieces-left, less-left, last-left, roo
 use Rattle.mover.specs.Model.{head_lines, head_rest, rest_text, down_text}
 use Rattle.mover.proofs.Laws.Texts.{down-pieces, down-short}
 use Rattle.mover.proofs.down_text.Goals as goal
-use Rattle.mover.proofs.down_text.Goals.{After-head-p, Start}
-
-abbrev start : After-head-p → Start
-start c = c.before.before.before.before.before.before
+use Rattle.mover.proofs.down_text.Goals.{Start}
 
 parted : (c : Start) →
     let a = c.args in
@@ -26,10 +23,10 @@ room c = let a = c.args in omega (arith, down-short a.s.now a.w.now, c.requires.
 
 pub rest-requires : goal.rest-requires
 rest-requires c =
-    let s = start (goal.at.rest-requires c).After-head-p in
-    let m = s.pre in
+    let s = (goal.at.rest-requires c).Start in
+    let m = c.requires in
     (m.short, m.tables, omega arith, room-left (less-left (parted s) c.head-p.ensures) (room s))
 
 pub returns : goal.returns
 returns c =
-    last-left (less-left (parted (start (goal.at.returns c).After-head-p)) c.head-p.ensures) c.rest.ensures
+    last-left (less-left (parted (goal.at.returns c).Start) c.head-p.ensures) c.rest.ensures

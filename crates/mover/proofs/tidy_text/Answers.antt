@@ -1,12 +1,15 @@
 -- Two pieces. Assumes nothing.
 use Prim.Native.Nat.{suc}
 use native.Mathlib.Omega.{arith}
+use mathlib.Core.Path.{sym}
 use mathlib.Core.Bool.{true}
 use mathlib.Core.List.{[], ◌∷◌}
 use lib.ListN.{take}
+use lib.Seq.{length-take-le}
 use Rattle.listing.specs.Put.{Room}
 use Rattle.listing.proofs.Laws.Put.{Left, pieces-left, less-left, last-left, room-left}
 use Rattle.mover.specs.Model.{head_lines, rest_text, tidy_text}
+use Rattle.mover.proofs.Laws.Lines.{lines_length-≤}
 use Rattle.mover.proofs.Laws.Texts.{tidy-pieces, tidy-short}
 use Rattle.mover.proofs.tidy_text.Goals as goal
 use Rattle.mover.proofs.tidy_text.Goals.{After-lines_end-k, Start}
@@ -20,6 +23,11 @@ parted c = let a = c.args in pieces-left _ _ _ (tidy-pieces a.s.now a.w.now _ c.
 
 room : (c : Start) → Room 0 (tidy_text c.args.w.now c.args.s.now)
 room c = let a = c.args in omega (arith, tidy-short a.s.now a.w.now, c.requires.short)
+
+pub slice_bounds-text-end : goal.slice_bounds-text-end
+slice_bounds-text-end c =
+    let s = c.args.s.now in
+    sym (length-take-le c.lines_end-k.result s (omega (arith, c.lines_end-k.ensures, lines_length-≤ (suc head_lines) s)))
 
 pub text-p-requires : goal.text-p-requires
 text-p-requires c =

@@ -8,10 +8,7 @@ use Rattle.listing.proofs.Laws.Put.{Left, pieces-left, less-left, last-left, roo
 use Rattle.mover.specs.Model.{head_lines, full_line, head_rest, rest_text, up_text}
 use Rattle.mover.proofs.Laws.Texts.{up-pieces, up-short}
 use Rattle.mover.proofs.up_text.Goals as goal
-use Rattle.mover.proofs.up_text.Goals.{After-head-p, Start}
-
-abbrev start : After-head-p → Start
-start c = c.before.before.before.before.before.before
+use Rattle.mover.proofs.up_text.Goals.{Start}
 
 parted : (c : Start) →
     let a = c.args in
@@ -25,15 +22,15 @@ room c = let a = c.args in omega (arith, up-short a.s.now a.ranges a.w.now, c.re
 
 pub full_line-q-requires : goal.full_line-q-requires
 full_line-q-requires c =
-    let s = start (goal.at.full_line-q-requires c).After-head-p in
+    let s = (goal.at.full_line-q-requires c).Start in
     room-left (less-left (parted s) c.head-p.ensures) (room s)
 
 pub rest-requires : goal.rest-requires
 rest-requires c =
-    let s = start (goal.at.rest-requires c).After-head-p in
-    let m = s.pre.0 in
+    let s = (goal.at.rest-requires c).Start in
+    let m = c.requires.0 in
     (m.short, m.tables, omega arith, room-left (less-left (less-left (parted s) c.head-p.ensures) c.full_line-q.ensures) (room s))
 
 pub returns : goal.returns
 returns c =
-    last-left (less-left (less-left (parted (start (goal.at.returns c).After-head-p)) c.head-p.ensures) c.full_line-q.ensures) c.rest.ensures
+    last-left (less-left (less-left (parted (goal.at.returns c).Start) c.head-p.ensures) c.full_line-q.ensures) c.rest.ensures

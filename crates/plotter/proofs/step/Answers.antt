@@ -1,5 +1,5 @@
 -- `plotter::step` meets its contract: by the cases of a step.
-use Rattle.std.proofs.Common.{length, sym, refl, ◌∙◌, ⊎_elim, arith}
+use Rattle.std.proofs.Common.{sym, refl, ◌∙◌, ⊎_elim, arith}
 use Rattle.plotter.specs.Port.{idle}
 use Rattle.plotter.proofs.Laws.Step.{step-empty, step-idle, step-sends, steps_of}
 use Rattle.plotter.proofs.step.Goals as goal

@@ -1,5 +1,4 @@
 -- The invariant: the words up to here are zero. Assumes nothing.
-use Prim.Native.Nat.{◌-◌}
 use native.Mathlib.Omega.{arith}
 use Rattle.sheet.proofs.Cleared.{zeroed-none, zeroed-more, zeroed-end}
 use Rattle.sheet.proofs.zero.Goals as goal

@@ -1,6 +1,6 @@
 -- The telling cases of docs/DECISIONS.md: where document 01 or 02 can be read two ways, a sheet that tells the readings apart, and sheets at
 -- the limits. Assumes nothing.
-use Prim.Native.Nat.{ℕ, zero, suc, ◌+◌}
+use Prim.Native.Nat.{ℕ, zero, suc}
 use Prim.Native.String.{String}
 use mathlib.Core.Path.{◌≡◌, refl}
 use mathlib.Core.List.{List, [], ◌∷◌, ◌++◌, map}

@@ -7,7 +7,7 @@ use mathlib.Core.Bool.{Bool, true, false, not, ◌&&◌, ◌||◌}
 use mathlib.Core.List.{[], ◌∷◌, ◌++◌}
 use lib.ListN.{length, length-append}
 use lib.Dec.{ltb}
-use Rattle.specification.specs.Parser.{Reader, Parser, give, require, ◌>>=◌, ◌>>◌, taken}
+use Rattle.specification.specs.Parser.{Reader, Parser, give, require, ◌>>=◌, ◌>>◌}
 use Rattle.specification.specs.Lines.{Declared, procedure_of}
 use Rattle.specification.specs.Ast.{Term, Formula, and, or, imp, neg, eq, compare, ex, some, all}
 use Rattle.specification.specs.Words.{FormulaWord, true_word, and_word, or_word, imp_word, not_word, eq_word, ex_word, some_word, all_word, call_word, rel_word, Word, formula_word, term_word, number_word, unknown, word_of}

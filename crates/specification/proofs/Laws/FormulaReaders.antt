@@ -8,7 +8,7 @@ use mathlib.Core.Option.{Option}
 use lib.ListN.{length}
 use lib.Dec.{ltb}
 use Rattle.specification.specs.Bytes.{Bytes, bytes, space, feed, colon}
-use Rattle.specification.specs.Parser.{Parser, give, refuse, ◌>>=◌, ◌>>◌, here}
+use Rattle.specification.specs.Parser.{Parser, give, refuse, ◌>>=◌, ◌>>◌}
 use Rattle.specification.specs.Lines.{Declared, procedure_of}
 use Rattle.specification.specs.Ast.{Procedure, Term, constant, scalar_at, local_at, parameter, element_at, apply, Formula, truth, and, or, imp, neg, eq, compare, ex, some, all, call}
 use Rattle.specification.specs.Fill.{fill}

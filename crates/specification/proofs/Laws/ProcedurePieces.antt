@@ -13,7 +13,6 @@ use Rattle.specification.specs.Number.{printℕ}
 use Rattle.specification.specs.Parser.{Reader, Parser, give, ◌>>=◌}
 use Rattle.specification.specs.Lines.{Declared}
 use Rattle.specification.specs.Ast.{Formula, Procedure}
-use Rattle.specification.specs.Formula.{formula}
 use Rattle.specification.specs.Sheet.{with_parameters, with_procedures, procedure_line, procedure_lines}
 use Rattle.specification.specs.Text.{formula_words, spelt, procedure_key, procedure_text, procedures_text}
 use Rattle.specification.specs.Tidy.{any_empty, dropped, token_count, numbered, tokens_before}

@@ -11,10 +11,10 @@ use lib.Dec.{ltb}
 use borrow.Author.Tests.{ltb-true, ltb-false}
 use Rattle.specification.specs.Lists.{Each}
 use Rattle.specification.specs.Bytes.{Bytes, bytes, Class, feed, colon, begins}
-use Rattle.specification.specs.Parser.{Reader, Parser, give, next, mark, exactly, taken}
-use Rattle.specification.specs.Lines.{count, Declared, procedure_of}
+use Rattle.specification.specs.Parser.{Reader, Parser, next, mark, exactly, taken}
+use Rattle.specification.specs.Lines.{Declared, procedure_of}
 use Rattle.specification.specs.Ast.{Procedure}
-use Rattle.specification.specs.Formula.{Locals, has, formula}
+use Rattle.specification.specs.Formula.{Locals, has}
 use Rattle.specification.specs.Sheet.{with_parameters, with_procedures, procedure_line, procedure_lines}
 use Rattle.specification.specs.WellFormed.{nowhere, Ok, line_of}
 use Rattle.specification.proofs.Laws.Parser.{Post, refusal, holds, both_post, bind-post, choose-post, pick_post}

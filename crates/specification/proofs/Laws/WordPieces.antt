@@ -25,7 +25,7 @@ use Rattle.specification.proofs.Laws.Canonical.{starts, run-split}
 use Rattle.specification.proofs.Laws.Spelling.{Belongs, word_of-spelt, number-spelt}
 use Rattle.specification.proofs.Laws.Pieces.{space-piece}
 use Rattle.specification.proofs.Laws.LinePieces.{stays}
-use Rattle.specification.proofs.Laws.Legible.{Shape, shape_of, counts-length, Deep, LegibleTerm, binders, added, Fresh}
+use Rattle.specification.proofs.Laws.Legible.{Shape, shape_of, counts-length, Deep, LegibleTerm, added, Fresh}
 use Rattle.specification.proofs.Laws.Taken.{most_tokens, Taken, taken_none, taken-both, taken-same, still-taken}
 
 -- ---- words one after the other

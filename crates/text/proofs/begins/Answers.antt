@@ -1,5 +1,4 @@
 -- The invariant: the key stands at the place where its rest stands in the rest of the part. Assumes nothing.
-use Prim.Native.Nat.{◌-◌}
 use mathlib.Core.Path.{◌∙◌, sym, ap}
 use Rattle.specification.specs.Bytes.{begins}
 use Rattle.text.proofs.Laws.Keys.{key-short, key-other, key_more, key-done}

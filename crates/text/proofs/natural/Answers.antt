@@ -1,6 +1,5 @@
 -- By the head; the rest is the digits' value. Assumes nothing.
 use mathlib.Core.Path.{◌∙◌, sym, ap}
-use borrow.Author.Tests.{not-true, not-false}
 use Rattle.text.specs.Decimal.{capped}
 use Rattle.text.proofs.Laws.Decimal.{natural-unheaded, natural-headed}
 use Rattle.text.proofs.natural.Goals as goal

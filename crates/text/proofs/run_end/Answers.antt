@@ -1,7 +1,5 @@
 -- The invariant: the run from the place ends where the run from `i` does. Assumes nothing.
-use Prim.Native.Nat.{◌-◌}
 use mathlib.Core.Path.{◌∙◌, sym}
-use borrow.Author.Tests.{not-true, not-false}
 use Rattle.text.specs.Class.{passing}
 use Rattle.text.proofs.Laws.Run.{run_more, run-stop, run_out}
 use Rattle.text.proofs.run_end.Goals as goal

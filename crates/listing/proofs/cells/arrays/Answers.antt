@@ -1,5 +1,4 @@
 -- `listing::cells::arrays` meets its contract. Assumes nothing.
-use Prim.Native.Nat.{◌-◌}
 use native.Mathlib.Omega.{arith}
 use Rattle.listing.specs.Model.{array_lines}
 use Rattle.listing.proofs.Laws.Loop.{turn-first, turn-room, turn-next, turn_last}
@@ -22,7 +21,7 @@ loop-a-smaller c = omega arith
 
 pub loop-a-preserved : goal.loop-a-preserved
 loop-a-preserved c =
-    turn-next c.loop-a.invariant c.loop-a-test.true c.array-p.ensures c.array-p.auto.0
+    turn-next c.loop-a.invariant c.loop-a-test.true c.array-p.ensures c.array-p.auto.out
 
 pub shape_of-out : goal.shape_of-out
 shape_of-out c = c.loop-a.invariant.size

@@ -18,11 +18,12 @@ parted c = pieces-left _ _ _ (element-pieces c.args.a c.args.e)
 -- what is left after the array's number
 numbered : (c : After-number-q) →
     let a = c.args in
-    Left a.out.now a.at (label_text (cell_label (element a.a a.e))) c.number-q.new.0 c.number-q.result
+    Left a.out.now a.at (label_text (cell_label (element a.a a.e))) c.number-q.new.out c.number-q.result
     ((46 ∷ []) ∷ printℕ a.e ∷ [])
 numbered c =
-    let c.before.before.before.before = c.before.before.before.before in
-    less-left (less-left (parted c.before.before.before.before.before.before.before) c.byte-p.ensures) c.number-q.ensures
+    less-left
+    (less-left (pieces-left _ _ _ (element-pieces c.args.a c.args.e)) c.byte-p.ensures)
+    c.number-q.ensures
 
 pub byte-p-requires : goal.byte-p-requires
 byte-p-requires c = room-left (parted (goal.at.byte-p-requires c).Start) c.requires

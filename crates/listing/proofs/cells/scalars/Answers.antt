@@ -1,5 +1,4 @@
 -- `listing::cells::scalars` meets its contract. Assumes nothing.
-use Prim.Native.Nat.{◌-◌}
 use native.Mathlib.Omega.{arith}
 use Rattle.listing.specs.Model.{scalar_line}
 use Rattle.listing.proofs.Laws.Loop.{turn-first, turn-room, turn-next, turn_last}
@@ -20,7 +19,7 @@ loop-i-smaller c = omega arith
 
 pub loop-i-preserved : goal.loop-i-preserved
 loop-i-preserved c =
-    turn-next c.loop-i.invariant c.loop-i-test.true c.scalar-p.ensures c.scalar-p.auto.0
+    turn-next c.loop-i.invariant c.loop-i-test.true c.scalar-p.ensures c.scalar-p.auto.out
 
 pub shape_of-out : goal.shape_of-out
 shape_of-out c = c.loop-i.invariant.size

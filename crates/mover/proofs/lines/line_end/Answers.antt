@@ -1,5 +1,4 @@
 -- The line that begins at `from` ends where the line that begins at each place within it does. Assumes nothing.
-use Prim.Native.Nat.{◌-◌}
 use native.Mathlib.Omega.{arith}
 use mathlib.Core.Path.{refl}
 use Rattle.mover.proofs.Laws.Lines.{line-feed, line-more, line-none}

@@ -1,88 +1,56 @@
 -- A chunk is put and passed: a key as it stands, or the word of the next token and its mark. Assumes nothing.
-use Prim.Native.Nat.{ℕ, ◌+◌, ◌-◌, ◌≤◌}
+use Prim.Native.Nat.{ℕ, ◌+◌, ◌≤◌}
 use native.Mathlib.Omega.{arith}
 use mathlib.Core.Path.{◌≡◌, refl, sym, ◌∙◌}
-use mathlib.Core.List.{List, [], ◌∷◌}
+use mathlib.Core.List.{[], ◌∷◌}
 use lib.ListN.{drop}
-use Rattle.specification.specs.Bytes.{Bytes}
 use Rattle.specification.specs.Moves.{longest_sheet}
 use Rattle.listing.proofs.Laws.Put.{Left, all_left, split-left, less-left, none_left, room-left}
-use Rattle.mover.specs.Model.{chunk, chunks, is_key, until_after, word_piece, rewritten}
+use Rattle.mover.specs.Model.{chunks, until_after, word_piece, rewritten}
 use Rattle.mover.specs.Steps.{kept}
 use Rattle.mover.proofs.Laws.Chunks.{part, ChunkAt, chunk-places, chunk-some, key-at, key_more, word_more, rewritten-none}
 use Rattle.mover.proofs.words.rewrite.Goals as goal
-use Rattle.mover.proofs.words.rewrite.Goals.{After-either_at, After-mark_end-next, At-loop-i, Else-either_at, Start, Then-either_at}
+use Rattle.mover.proofs.words.rewrite.Goals.{After-either_at, Else-either_at, Then-either_at}
 
 -- ---- a chunk
 
-
-abbrev Chunked : Type 0
-Chunked = After-either_at
-
-abbrev marked : Chunked → After-mark_end-next
-marked c = c.before.before.before
-
-abbrev turn : Chunked → At-loop-i
-turn c = (marked c).before.before.before
-
-abbrev start : Chunked → Start
-start c = (turn c).before.before.before.before
-
-abbrev sheet : Chunked → Bytes
-sheet c = (start c).args.s.now
-
-abbrev here : Chunked → ℕ
-here c = (turn c).loop.i
-
-abbrev end : Chunked → ℕ
-end c = (marked c).before.word-end.result
-
-abbrev next : Chunked → ℕ
-next c = (marked c).mark-end.result
-
-at : (c : Chunked) → ChunkAt (sheet c) (here c) (end c) (next c)
-at c =
-    let m = marked c in
-    record { inside = m.before.before.loop-test.taken; word = m.before.word-end.ensures; mark = m.mark-end.ensures }
-
-is-key : (c : Chunked) → is_key (chunk (part (here c) (end c) (sheet c)) (part (end c) (next c) (sheet c))) ≡ c.either-at.result
-is-key c = key-at (at c) ∙ sym c.either-at.ensures
+at : (c : After-either_at) → ChunkAt c.args.s.now c.loop-i.i c.word_end-e.result c.mark_end-next.result
+at c = record { inside = c.loop-i-test.true; word = c.word_end-e.ensures; mark = c.mark_end-next.ensures }
 
 -- its token is one that tables are asked of
-few : (c : Chunked) → (turn c).loop.token ≤ longest_sheet
-few c = let l = (turn c).loop in omega (arith, l.inv.0, l.inv.2, (start c).requires.1)
-
--- these pieces are left
-abbrev Due : Chunked → List Bytes → Type 0
-Due c pieces =
-    let a = (start c).args in
-    let l = (turn c).loop in
-    Left a.out.now a.at (rewritten a.w.now a.newer 0 0 (chunks (drop a.from a.s.now))) l.out l.p pieces
+few : (c : After-either_at) → c.loop-i.token ≤ longest_sheet
+few c = omega (arith, c.loop-i.invariant.0, c.loop-i.invariant.2, c.requires.1)
 
 key : (c : Then-either_at) →
-    let a = (start c.before).args in
-    let l = (turn c.before).loop in
-    Due c.before (part (here c.before) (next c.before) (sheet c.before) ∷ rewritten a.w.now a.newer l.token l.until (chunks (drop (next c.before) (sheet c.before))) ∷ [])
-key c =
-    let c.before = c.before in
-    let a = (start c.before).args in
-    let l = (turn c.before).loop in
-    split-left _ (key_more (at c.before) a.w.now a.newer l.token l.until (is-key c.before ∙ c.if-either_at.true)) l.inv.1
+    let a = c.args in
+    let l = c.loop-i in
+    let n = c.mark_end-next.result in
+    ChunkAt a.s.now l.i c.word_end-e.result n →
+    Left a.out.now a.at (rewritten a.w.now a.newer 0 0 (chunks (drop a.from a.s.now))) l.out l.p
+    (part l.i n a.s.now ∷ rewritten a.w.now a.newer l.token l.until (chunks (drop n a.s.now)) ∷ [])
+key c k =
+    let a = c.args in
+    let l = c.loop-i in
+    split-left _ (key_more k a.w.now a.newer l.token l.until (key-at k ∙ sym c.either_at.ensures ∙ c.if-either_at.true)) l.invariant.1
 
 word : (c : Else-either_at) →
-    let a = (start c.before).args in
-    let l = (turn c.before).loop in
+    let a = c.args in
+    let l = c.loop-i in
+    let e = c.word_end-e.result in
+    let n = c.mark_end-next.result in
+    ChunkAt a.s.now l.i e n →
     (token until : ℕ) → token ≡ l.token + 1 → until ≡ until_after a.w.now l.token l.until →
-    Due c.before
-    (word_piece a.w.now a.newer l.token l.until (part (here c.before) (end c.before) (sheet c.before))
-    ∷ kept token until (part (end c.before) (next c.before) (sheet c.before))
-    ∷ rewritten a.w.now a.newer token until (chunks (drop (next c.before) (sheet c.before)))
+    Left a.out.now a.at (rewritten a.w.now a.newer 0 0 (chunks (drop a.from a.s.now))) l.out l.p
+    (word_piece a.w.now a.newer l.token l.until (part l.i e a.s.now)
+    ∷ kept token until (part e n a.s.now)
+    ∷ rewritten a.w.now a.newer token until (chunks (drop n a.s.now))
     ∷ [])
-word c token until q u =
-    let c.before = c.before in
-    let a = (start c.before).args in
-    let l = (turn c.before).loop in
-    split-left _ (word_more (at c.before) a.w.now a.newer l.token l.until (is-key c.before ∙ c.if-either_at.false) token until q u) l.inv.1
+word c k token until q u =
+    let a = c.args in
+    let l = c.loop-i in
+    split-left _
+    (word_more k a.w.now a.newer l.token l.until (key-at k ∙ sym c.either_at.ensures ∙ c.if-either_at.false) token until q u)
+    l.invariant.1
 
 -- ---- the needs
 
@@ -102,7 +70,7 @@ pub slice_bounds-text-end : goal.slice_bounds-text-end
 slice_bounds-text-end c = (chunk-places (at (goal.at.slice_bounds-text-end c).After-either_at)).2
 
 pub text-p-requires : goal.text-p-requires
-text-p-requires c = room-left (key (goal.at.text-p-requires c).Then-either_at) (start (goal.at.text-p-requires c).After-either_at).pre.3
+text-p-requires c = room-left (key (goal.at.text-p-requires c).Then-either_at (at (goal.at.text-p-requires c).After-either_at)) c.requires.3
 
 pub slice_bounds-put_word-count : goal.slice_bounds-put_word-count
 slice_bounds-put_word-count c = (chunk-places (at (goal.at.slice_bounds-put_word-count c).After-either_at)).0
@@ -115,12 +83,12 @@ slice_bounds-put_word-end c = let q = chunk-places (at (goal.at.slice_bounds-put
 
 pub put_word-p-requires : goal.put_word-p-requires
 put_word-p-requires c =
-    let s = start (goal.at.put_word-p-requires c).After-either_at in
-    (s.pre.2, few (goal.at.put_word-p-requires c).After-either_at, room-left (word (goal.at.put_word-p-requires c).Else-either_at _ _ refl refl) s.pre.3)
+    let s = c.requires in
+    (s.2, few (goal.at.put_word-p-requires c).After-either_at, room-left (word (goal.at.put_word-p-requires c).Else-either_at (at (goal.at.put_word-p-requires c).After-either_at) _ _ refl refl) s.3)
 
 pub until_after-until-requires : goal.until_after-until-requires
 until_after-until-requires c =
-    ((start (goal.at.until_after-until-requires c).After-either_at).pre.2, few (goal.at.until_after-until-requires c).After-either_at)
+    (c.requires.2, few (goal.at.until_after-until-requires c).After-either_at)
 
 pub overflow_add-token : goal.overflow_add-token
 overflow_add-token c = omega (arith, few (goal.at.overflow_add-token c).After-either_at)
@@ -136,7 +104,7 @@ slice_bounds-put_mark-end c = (chunk-places (at (goal.at.slice_bounds-put_mark-e
 
 pub put_mark-p-requires : goal.put_mark-p-requires
 put_mark-p-requires c =
-    room-left (less-left (word (goal.at.put_mark-p-requires c).Else-either_at _ _ refl c.until_after-until.ensures) c.put_word-p.ensures) (start (goal.at.put_mark-p-requires c).After-either_at).pre.3
+    room-left (less-left (word (goal.at.put_mark-p-requires c).Else-either_at (at (goal.at.put_mark-p-requires c).After-either_at) _ _ refl c.until_after-until.ensures) c.put_word-p.ensures) c.requires.3
 
 pub loop-i-smaller-then-either_at : goal.loop-i-smaller-then-either_at
 loop-i-smaller-then-either_at c =
@@ -145,7 +113,7 @@ loop-i-smaller-then-either_at c =
 pub loop-i-preserved-then-either_at : goal.loop-i-preserved-then-either_at
 loop-i-preserved-then-either_at c =
     let q = chunk-places (at (goal.at.loop-i-preserved-then-either_at c).After-either_at) in
-    (q.2, less-left (key (goal.at.loop-i-preserved-then-either_at c).Then-either_at) c.text-p.ensures, omega (arith, (turn (goal.at.loop-i-preserved-then-either_at c).After-either_at).loop.inv.2, q.0, q.1), omega arith)
+    (q.2, less-left (key (goal.at.loop-i-preserved-then-either_at c).Then-either_at (at (goal.at.loop-i-preserved-then-either_at c).After-either_at)) c.text-p.ensures, omega (arith, c.loop-i.invariant.2, q.0, q.1), omega arith)
 
 pub loop-i-smaller : goal.loop-i-smaller
 loop-i-smaller c =
@@ -155,9 +123,9 @@ pub loop-i-preserved : goal.loop-i-preserved
 loop-i-preserved c =
     let q = chunk-places (at (goal.at.loop-i-preserved c).After-either_at) in (
       q.2,
-      less-left (less-left (word (goal.at.loop-i-preserved c).Else-either_at _ _ refl c.until_after-until.ensures) c.put_word-p.ensures) c.put_mark-p.ensures,
-      omega (arith, (turn (goal.at.loop-i-preserved c).After-either_at).loop.inv.2, chunk-some (at (goal.at.loop-i-preserved c).After-either_at)),
-      c.put_mark-p.auto.0 ∙ c.put_word-p.kept.0 ∙ (turn (goal.at.loop-i-preserved c).After-either_at).loop.inv.3,
+      less-left (less-left (word (goal.at.loop-i-preserved c).Else-either_at (at (goal.at.loop-i-preserved c).After-either_at) _ _ refl c.until_after-until.ensures) c.put_word-p.ensures) c.put_mark-p.ensures,
+      omega (arith, c.loop-i.invariant.2, chunk-some (at (goal.at.loop-i-preserved c).After-either_at)),
+      c.put_mark-p.auto.out ∙ c.put_word-p.auto.out ∙ c.loop-i.invariant.3,
     )
 
 pub shape_of-out : goal.shape_of-out

@@ -1,5 +1,4 @@
 -- Up to the place that is reached no word rounds down. Assumes nothing.
-use Prim.Native.Nat.{◌-◌}
 use mathlib.Core.Path.{sym, ◌∙◌}
 use Rattle.mover.proofs.Laws.Words.{rounding-none, rounding-here, rounding-later}
 use Rattle.mover.proofs.words.rounding.Goals as goal

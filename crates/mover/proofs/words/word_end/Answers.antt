@@ -1,5 +1,4 @@
 -- The run from the place ends where the run from `i` does. Assumes nothing.
-use Prim.Native.Nat.{◌-◌}
 use mathlib.Core.Path.{◌∙◌, sym}
 use Rattle.text.proofs.Laws.Run.{run_more, run-stop, run_out}
 use Rattle.mover.specs.Model.{in_word}

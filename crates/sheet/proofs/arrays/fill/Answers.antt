@@ -1,5 +1,4 @@
 -- The invariant: what is laid from the start on is laid from here on. Assumes nothing.
-use Prim.Native.Nat.{◌-◌}
 use mathlib.Core.Path.{refl}
 use Rattle.sheet.proofs.ArrayLine.{fill_more, fill_done}
 use Rattle.sheet.proofs.arrays.fill.Goals as goal

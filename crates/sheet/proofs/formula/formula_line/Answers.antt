@@ -8,7 +8,7 @@ use Rattle.specification.specs.Bytes.{bytes, begins}
 use Rattle.specification.specs.Lines.{Declared}
 use Rattle.specification.specs.Formula.{Locals}
 use Rattle.sheet.specs.Stack.{Bits}
-use Rattle.sheet.specs.FormulaLine.{Known, Begin, begin, Closed}
+use Rattle.sheet.specs.FormulaLine.{Known, begin, Closed}
 use Rattle.text.proofs.Laws.Keys.{begins-long}
 use Rattle.sheet.proofs.FormulaRest.{closes-refused, closes-read, within-read, keyed, rest-no-key, rest-refused, rest-long, rest_more, rest_end}
 use Rattle.sheet.proofs.formula.formula_line.Goals as goal

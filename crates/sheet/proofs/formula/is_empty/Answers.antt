@@ -1,7 +1,6 @@
 -- By the sort, by what is refused, by the code; the lower bound is the token before. Assumes nothing.
 use native.Mathlib.Omega.{arith}
 use mathlib.Core.Path.{sym, ◌∙◌}
-use borrow.Author.Tests.{not-false}
 use Rattle.sheet.proofs.Faults.{empties-other, empties-off, empties-word, empties-constant}
 use Rattle.sheet.proofs.formula.is_empty.Goals as goal
 

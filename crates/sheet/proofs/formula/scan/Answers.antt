@@ -1,5 +1,5 @@
 -- One token a turn; the invariant is `Reading`. Assumes nothing.
-use Prim.Native.Nat.{ℕ, ◌+◌, ◌-◌}
+use Prim.Native.Nat.{ℕ, ◌+◌}
 use native.Mathlib.Omega.{arith}
 use mathlib.Core.Path.{◌≡◌, ◌∙◌, sym}
 use lib.ListN.{length}
@@ -10,7 +10,7 @@ use Rattle.tables.specs.Layout.{max_locals}
 use Rattle.sheet.specs.Dues.{Due}
 use Rattle.sheet.specs.Turn.{empties}
 use Rattle.sheet.specs.Stack.{Bits, Means, Kept}
-use Rattle.sheet.specs.FormulaLine.{refuses_in, Begin, begin}
+use Rattle.sheet.specs.FormulaLine.{refuses_in, begin}
 use Rattle.sheet.proofs.Bits.{locals_in, bits_in}
 use Rattle.sheet.proofs.Loop.{Reading, Taken, reading-start, taken-last, taken-stops, taken_next, known_start, sized-start, through-start}
 use Rattle.sheet.proofs.Scan.{sized-here, May, turn-stops, may, turn-empties, turn-stands}
@@ -67,13 +67,12 @@ long-here c = (taken-some c).long ∙ c.begin.auto.w
 -- ---- the needs
 
 pub loop-d-init : goal.loop-d-init
-loop-d-init c =
-    (
-      λ B b. rw c.begin.ensures (reading-start (begin c.args.s.now c.args.d c.args.from c.args.tokens B) c.args.w.now
-          c.args.binders b c.requires.0 c.requires.3 c.requires.2),
-      omega (arith, c.begin.auto.w, c.requires.2),
-      sized-start c.args.w.now _ c.begin.ensures c.requires.1 c.requires.4,
-    )
+loop-d-init c = (
+  λ B b. rw c.begin.ensures (reading-start (begin c.args.s.now c.args.d c.args.from c.args.tokens B) c.args.w.now
+      c.args.binders b c.requires.0 c.requires.3 c.requires.2),
+  omega (arith, c.begin.auto.w, c.requires.2),
+  sized-start c.args.w.now _ c.begin.ensures c.requires.1 c.requires.4,
+)
 
 pub overflow_sub-n : goal.overflow_sub-n
 overflow_sub-n c = omega (arith, (reading (goal.at.overflow_sub-n c).At-loop-d).depth)
@@ -174,9 +173,8 @@ pub loop-d-smaller : goal.loop-d-smaller
 loop-d-smaller c = omega (arith, (may_here (goal.at.loop-d-smaller c).Else-k-ne0).number)
 
 pub loop-d-preserved : goal.loop-d-preserved
-loop-d-preserved c =
-    (
-      λ B b. taken_next (taken_here (goal.at.loop-d-preserved c).After-push-n B b) c.if-n-eq0.false (sym c.class_at.ensures ∙ c.if-class_at-ne-SPACE.false),
-      c.loop-d.invariant.1,
-      c.loop-d.invariant.2,
-    )
+loop-d-preserved c = (
+  λ B b. taken_next (taken_here (goal.at.loop-d-preserved c).After-push-n B b) c.if-n-eq0.false (sym c.class_at.ensures ∙ c.if-class_at-ne-SPACE.false),
+  c.loop-d.invariant.1,
+  c.loop-d.invariant.2,
+)

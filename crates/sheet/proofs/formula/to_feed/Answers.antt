@@ -6,7 +6,7 @@ use Rattle.specification.specs.Formula.{Locals}
 use Rattle.text.proofs.Laws.Class.{class-inside}
 use Rattle.tables.specs.Layout.{max_locals}
 use Rattle.sheet.specs.Stack.{Bits}
-use Rattle.sheet.specs.FormulaLine.{Begin, begin, Through}
+use Rattle.sheet.specs.FormulaLine.{begin, Through}
 use Rattle.sheet.proofs.Bits.{locals_in, bits_in}
 use Rattle.sheet.proofs.FormulaRest.{line_refused, scans-refused, scans-read, through-long, through-no-feed, through-feed}
 use Rattle.sheet.proofs.formula.to_feed.Goals as goal
@@ -40,13 +40,12 @@ overflow_add-result c =
     omega (arith, class-inside c.args.s.now _ feed (sym c.class_at.ensures ∙ c.if-class_at-ne-FEED.false), c.well_formed.0.1)
 
 pub returns-in-Refused : goal.returns-in-Refused
-returns-in-Refused c =
-    (
-      tt,
-      λ B b D g.
-          let x = scans-refused (begin c.args.s.now c.args.d c.args.from c.args.tokens B) c.args.w.now _ _ _ _ c.in-Refused.is (c.scan.ensures B b) in
-          (line_refused (begin c.args.s.now c.args.d c.args.from c.args.tokens B) D _ _ (x.1 D g), x.0),
-    )
+returns-in-Refused c = (
+  tt,
+  λ B b D g.
+      let x = scans-refused (begin c.args.s.now c.args.d c.args.from c.args.tokens B) c.args.w.now _ _ _ _ c.in-Refused.is (c.scan.ensures B b) in
+      (line_refused (begin c.args.s.now c.args.d c.args.from c.args.tokens B) D _ _ (x.1 D g), x.0),
+)
 
 pub returns-else-class_at-ne-FEED : goal.returns-else-class_at-ne-FEED
 unfolding class_number

@@ -1,6 +1,5 @@
 -- The invariant: for every sheet whose arrays the words have, what is laid from the start on is laid from here on. The measure is
 -- what is left of the cells. Assumes nothing.
-use Prim.Native.Nat.{◌-◌}
 use mathlib.Core.Path.{◌∙◌, sym}
 use native.Mathlib.Omega.{arith}
 use Rattle.specification.specs.Bytes.{comma, class_number}

@@ -13,13 +13,12 @@ pub overflow_add-at : goal.overflow_add-at
 overflow_add-at c = omega (arith, key_fits c.args.s.now c.args.key.now c.args.at (sym c.begins.ensures ∙ c.if-not-begins.false))
 
 pub returns-then-class_at-class : goal.returns-then-class_at-class
-returns-then-class_at-class c =
-    (
-      tt,
-      λ k q.
-          closed-with-no _ _ _ k (λ e. c.if-class_at-class.true (c.class_at.ensures ∙ e ∙ sym q)) ∙
-          line-yes _ _ _ _ _ k (sym c.begins.ensures ∙ c.if-not-begins.false) _ _ c.count_at.ensures c.in-Is.is,
-    )
+returns-then-class_at-class c = (
+  tt,
+  λ k q.
+      closed-with-no _ _ _ k (λ e. c.if-class_at-class.true (c.class_at.ensures ∙ e ∙ sym q)) ∙
+      line-yes _ _ _ _ _ k (sym c.begins.ensures ∙ c.if-not-begins.false) _ _ c.count_at.ensures c.in-Is.is,
+)
 
 pub overflow_add-result : goal.overflow_add-result
 overflow_add-result c =
@@ -29,10 +28,9 @@ pub returns-in-Refused : goal.returns-in-Refused
 returns-in-Refused c = (tt, λ k q. line-yes _ _ _ _ _ k (sym c.begins.ensures ∙ c.if-not-begins.false) _ _ c.count_at.ensures c.in-Refused.is)
 
 pub returns-else-class_at-class : goal.returns-else-class_at-class
-returns-else-class_at-class c =
-    (
-      omega (arith, class-below c.args.s.now c.in-Is.e (omega (arith, c.class_at.ensures, c.if-class_at-class.false, c.requires.1))),
-      λ k q.
-          closed-with-yes _ _ _ k (sym c.class_at.ensures ∙ c.if-class_at-class.false ∙ q) ∙
-          line-yes _ _ _ _ _ k (sym c.begins.ensures ∙ c.if-not-begins.false) _ _ c.count_at.ensures c.in-Is.is,
-    )
+returns-else-class_at-class c = (
+  omega (arith, class-below c.args.s.now c.in-Is.e (omega (arith, c.class_at.ensures, c.if-class_at-class.false, c.requires.1))),
+  λ k q.
+      closed-with-yes _ _ _ k (sym c.class_at.ensures ∙ c.if-class_at-class.false ∙ q) ∙
+      line-yes _ _ _ _ _ k (sym c.begins.ensures ∙ c.if-not-begins.false) _ _ c.count_at.ensures c.in-Is.is,
+)

@@ -1,5 +1,4 @@
 -- The invariant: the marks laid from the first cell on are laid from here on. The measure is what is left of the cells. Assumes nothing.
-use Prim.Native.Nat.{◌-◌}
 use mathlib.Core.Path.{refl}
 use native.Mathlib.Omega.{arith}
 use Rattle.sheet.proofs.RangeLine.{mark-more, mark-done}

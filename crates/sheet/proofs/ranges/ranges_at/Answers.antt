@@ -1,6 +1,5 @@
 -- The invariant: for every sheet whose arrays the words have, what is laid from the start on is laid from here on. The measure is how many
 -- ranges are left. Assumes nothing.
-use Prim.Native.Nat.{◌-◌}
 use native.Mathlib.Omega.{arith}
 use Rattle.sheet.proofs.RangeLine.{turn-first, turn_last, turn-cells, turn-refused, turn-next}
 use Rattle.sheet.proofs.ranges.ranges_at.Goals as goal

@@ -1,7 +1,6 @@
 -- None before edition 3; then the key, the ranges and the line feed, in order. Assumes nothing.
 use mathlib.Core.Path.{refl, ◌∙◌, sym}
 use native.Mathlib.Omega.{arith}
-use borrow.Author.Tests.{not-true, not-false}
 use Rattle.specification.specs.Bytes.{bytes, feed, class_number}
 use Rattle.text.proofs.Laws.Class.{class-inside}
 use Rattle.text.proofs.Laws.Keys.{key_fits}

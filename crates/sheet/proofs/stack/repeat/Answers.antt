@@ -1,5 +1,4 @@
 -- One entry a turn. Assumes nothing.
-use Prim.Native.Nat.{◌-◌}
 use native.Mathlib.Omega.{arith}
 use Rattle.sheet.proofs.Entries.{repeated-start, repeated-next, repeated-end}
 use Rattle.sheet.proofs.stack.repeat.Goals as goal
