@@ -3,7 +3,7 @@
 
     python3 bench/run.py [RUNS]     RUNS (default 5): a time is the least of so many runs
 
-The library is measured if libvodlasim_c.a stands in the folder VODLASIM_LIB, by default target/staticlib; Prolog if gplc is found.
+The library is measured if libvodlasim_c.a stands in the folder VODLASIM_LIB, by default crates/vodlasim_c/out; Prolog if gplc is found.
 """
 import os
 import re
@@ -14,7 +14,7 @@ import sys
 from pathlib import Path
 
 HERE = Path(__file__).resolve().parent
-LIBRARY = Path(os.environ.get("VODLASIM_LIB", HERE.parent / "target" / "staticlib"))
+LIBRARY = Path(os.environ.get("VODLASIM_LIB", HERE.parent / "crates" / "vodlasim_c" / "out"))
 ENGINES = ["walker"] + ["library"] * (LIBRARY / "libvodlasim_c.a").exists()
 PROLOG = shutil.which("gplc")
 BENCH = HERE / "rust" / "target" / "release" / "bench"

@@ -3,7 +3,7 @@
 
   hosts/check.py [--seconds 60] [--seed 1] [--library FILE] [--host FILE] [--box FILE]
 
-The library is target/staticlib/libvodlasim_c.a; a shared object is made of it with gcc and called in this process. With --host every
+The library is crates/vodlasim_c/out/libvodlasim_c.a; a shared object is made of it with gcc and called in this process. With --host every
 twentieth case goes through the C host as well; with --box its sheet goes through the box program, under the box's setting.
 
 Each slice is lent with guard bytes around it and rubbish in it. Looked at after each call: the report, the listing, that the output beyond
@@ -189,12 +189,12 @@ def arguments(*programs):
     parser = argparse.ArgumentParser()
     parser.add_argument("--seconds", type=float, default=60)
     parser.add_argument("--seed", type=int, default=1)
-    parser.add_argument("--library", default=str(walker.ROOT / "target/staticlib/libvodlasim_c.a"))
+    parser.add_argument("--library", default=str(walker.ROOT / "crates/vodlasim_c/out/libvodlasim_c.a"))
     for program in programs:
         parser.add_argument(program)
     given = parser.parse_args()
     if not pathlib.Path(given.library).exists():
-        parser.error("no library at %s: `rt staticlib vodlasim_c` makes it" % given.library)
+        parser.error("no library at %s: `rt lib` in crates/vodlasim_c makes it" % given.library)
     return given
 
 

@@ -89,7 +89,7 @@ def main():
     parser = argparse.ArgumentParser()
     parser.add_argument("--seconds", type=float, default=60)
     parser.add_argument("--seed", type=int, default=1)
-    parser.add_argument("--library", default=str(walker.ROOT / "target/staticlib/libvodlasim_c.a"))
+    parser.add_argument("--library", default=str(walker.ROOT / "crates/vodlasim_c/out/libvodlasim_c.a"))
     given = parser.parse_args()
     rng, until, seen = random.Random(given.seed), time.monotonic() + given.seconds, Counter()
     with tempfile.TemporaryDirectory() as folder:

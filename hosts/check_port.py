@@ -4,7 +4,7 @@ registers, and each single action from every status and control.
 
   hosts/check_port.py [--actions 100000] [--short 2000] [--seed 1] [--library FILE]
 
-The library is target/staticlib/libvodlasim_c.a, called in this process as hosts/check.py calls it. The registers and the listing are lent
+The library is crates/vodlasim_c/out/libvodlasim_c.a, called in this process as hosts/check.py calls it. The registers and the listing are lent
 between guard bytes. Looked at after each action: the four registers, how many bytes the step says it sent, that the listing is what it was,
 and all guards. After each history: the bytes sent are a beginning of the listing, and the sum register is what they add up to.
 """
@@ -68,10 +68,10 @@ def main():
     parser.add_argument("--actions", type=int, default=100000)
     parser.add_argument("--short", type=int, default=2000)
     parser.add_argument("--seed", type=int, default=1)
-    parser.add_argument("--library", default=str(check.walker.ROOT / "target/staticlib/libvodlasim_c.a"))
+    parser.add_argument("--library", default=str(check.walker.ROOT / "crates/vodlasim_c/out/libvodlasim_c.a"))
     given = parser.parse_args()
     if not pathlib.Path(given.library).exists():
-        parser.error("no library at %s: `rt staticlib vodlasim_c` makes it" % given.library)
+        parser.error("no library at %s: `rt lib` in crates/vodlasim_c makes it" % given.library)
     rng, seen = random.Random(given.seed), Counter()
     with tempfile.TemporaryDirectory() as folder:
         calls = Calls(check.load(given.library, folder))

@@ -88,7 +88,7 @@ def main():
         for sheet in (ROOT / "sheets/twill8.sheet", ROOT / "sheets/queens8.sheet"):
             pages[str(sheet)] = sheet.with_suffix(".expected").read_bytes()
         for sheet, page in pages.items():
-            programs = [[str(ROOT / "target/bin/pattern_box")]]
+            programs = [[str(ROOT / "crates/pattern_box/out/pattern_box")]]
             if host:
                 programs.append([host, sheet, "512", "1000000", "0", "4096"])
             if host and b"end=output" not in page:

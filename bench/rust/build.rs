@@ -1,4 +1,4 @@
-//! With the feature `library`: link libvodlasim_c.a from the folder VODLASIM_LIB, by default target/staticlib of the repository.
+//! With the feature `library`: link libvodlasim_c.a from the folder VODLASIM_LIB, by default crates/vodlasim_c/out of the repository.
 
 use std::{env, path::Path};
 
@@ -8,7 +8,7 @@ fn main() {
         return;
     }
     let crate_folder = env::var("CARGO_MANIFEST_DIR").unwrap();
-    let folder = env::var("VODLASIM_LIB").unwrap_or(format!("{crate_folder}/../../target/staticlib"));
+    let folder = env::var("VODLASIM_LIB").unwrap_or(format!("{crate_folder}/../../crates/vodlasim_c/out"));
     let library = Path::new(&folder).join("libvodlasim_c.a");
     println!("cargo:rerun-if-changed={}", library.display());
     println!("cargo:rustc-link-search=native={folder}");
