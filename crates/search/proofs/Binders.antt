@@ -1,49 +1,45 @@
 -- The steps into `ex`, and into the later rounds of `all`: a local's slot is kept in a record and gets other contents. Assumes nothing.
-use Prim.Native.Nat.{ℕ, zero, suc, ◌+◌, ◌-◌, ◌*◌, ◌≤◌, ◌<◌}
+use Prim.Native.Nat.{ℕ, suc, ◌+◌, ◌-◌, ◌*◌, ◌≤◌, ◌<◌}
 use native.Mathlib.Omega.{arith}
 use native.Mathlib.Numerals.{add-one}
 use mathlib.Core.Path.{◌≡◌, refl, sym, ◌∙◌, ap, subst}
 use mathlib.Core.List.{[], ◌∷◌}
-use lib.ListN.{length, get_or, set}
+use lib.ListN.{get_or, set}
 use lib.Dec.{T}
-use lib.IntN.{ℤ, pos, ◌+ℤ◌}
+use lib.IntN.{pos, ◌+ℤ◌}
 use Rattle.specification.specs.Bytes.{Bytes}
 use Rattle.specification.specs.Fill.{fill}
 use Rattle.specification.specs.Number.{in32}
-use Rattle.specification.specs.Place.{Place, local, put}
-use Rattle.specification.specs.Value.{Slot, empty, full, Valuation}
-use Rattle.specification.specs.Lines.{Declared}
-use Rattle.specification.specs.Tree.{step}
+use Rattle.specification.specs.Place.{Place, local}
+use Rattle.specification.specs.Value.{Slot, empty, full}
 use Rattle.specification.proofs.Laws.Contradiction.{contradiction}
-use Rattle.specification.proofs.Laws.Place.{SlotIn, put_same}
+use Rattle.specification.proofs.Laws.Place.{put_same}
 use Rattle.values.specs.Word.{biased, signed}
 use Rattle.values.proofs.Laws.Word.{biased-signed, signed-in32, signed_add}
-use Rattle.tables.specs.Layout.{token_slot, local_slot, path_at, max_locals, max_tokens}
-use Rattle.tables.specs.Kept.{SameSlots}
+use Rattle.tables.specs.Layout.{token_slot, local_slot, path_at, max_locals}
 use Rattle.tables.specs.Ranges.{local_mark}
 use Rattle.tables.specs.Codes.{ex_code, local_code}
 use Rattle.sheet.specs.Tables.{Words}
-use Rattle.sheet.specs.Held.{SlotAt, slot_of, Holds, operand_at}
+use Rattle.sheet.specs.Held.{SlotAt, slot_of}
 use Rattle.terms.specs.Environment.{number_of}
 use Rattle.terms.proofs.Laws.Here.{operand-kept}
-use Rattle.search.specs.Marks.{InTable, marks_in}
+use Rattle.search.specs.Marks.{InTable}
 use Rattle.search.specs.declared.Go.{Go}
 use Rattle.search.specs.Records.{had_unit}
-use Rattle.tables.specs.Layout.{plan_at, last_at}
-use Rattle.plan.specs.Next.{Next, token, place_of}
-use Rattle.search.specs.Kept.{Kept, SameStore, Pushes}
-use Rattle.search.specs.Frame.{form, again, the, bound, given, tree_items, site_in, store_in}
-use Rattle.search.specs.Site.{Site, rounds_at, grow_at, bound_site}
-use Rattle.search.specs.Pend.{Scoped, Inside, Left, Pend}
+use Rattle.tables.specs.Layout.{last_at}
+use Rattle.plan.specs.Next.{token}
+use Rattle.search.specs.Kept.{Pushes}
+use Rattle.search.specs.Frame.{form, again, the, given, tree_items, site_in, store_in}
+use Rattle.search.specs.Site.{rounds_at, grow_at}
 use Rattle.search.specs.Records as records
 use Rattle.search.specs.Records.{at, Saved, SlotRecord, RecordAt}
-use Rattle.search.specs.Path.{World, Job, Path}
-use Rattle.search.specs.Sim.{tree, Down, In}
+use Rattle.search.specs.Path.{World}
+use Rattle.search.specs.Sim.{tree, In}
 use Rattle.search.specs.Stands.{filled, body_of}
 use Rattle.search.specs.Registers.{down_go}
-use Rattle.search.specs.Steps.{Visited, Entered, Stepped, GoesOn}
+use Rattle.search.specs.Steps.{Entered, Stepped}
 use Rattle.search.proofs.Pending.{pend-bound, scoped-enter, inside-scoped}
-use Rattle.search.proofs.RecordsKept.{SameFrom, record-keep}
+use Rattle.search.proofs.RecordsKept.{record-keep}
 use Rattle.search.proofs.Slots.{in_table, slot_held, saved-here, Altered, second_word, alter}
 use Rattle.search.proofs.Changes.{kept-both, kept_refl, pushed-kept, pushed-slots, pushed-store, altered-kept, altered-store}
 use Rattle.search.proofs.Descent.{down-bound, down-pass}

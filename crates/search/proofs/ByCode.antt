@@ -18,11 +18,11 @@ use Rattle.sheet.specs.Held.{code_at, end_at, TermsAt, LocalAt, FormulaAt, heigh
 use Rattle.terms.specs.Environment.{Environment, terms_of, number_of}
 use Rattle.terms.proofs.Laws.Here.{term-ends}
 use Rattle.tables.specs.Layout.{plan_at}
-use Rattle.plan.specs.Next.{Next, end, token, place_of}
-use Rattle.plan.specs.Planned.{TermsPlanned, FormulaPlanned}
-use Rattle.search.specs.Stands.{filled, line_of, Good, Stands, body_of, Binds}
+use Rattle.plan.specs.Next.{Next, token, place_of}
+use Rattle.plan.specs.Planned.{TermsPlanned}
+use Rattle.search.specs.Stands.{filled, Good, Stands, body_of, Binds}
 use Rattle.search.proofs.Quantified.{formula-ends}
-use Rattle.search.proofs.Subformulas.{TermsIn, Parts, Joined, Choice, Implied, Atom, Compared, Says}
+use Rattle.search.proofs.Subformulas.{TermsIn, Parts, Atom, Compared, Says}
 
 -- ---- the scope under a binder
 

@@ -1,10 +1,9 @@
 -- The step into a call: its procedure's formula comes next, where the parameters stand for the call's arguments as they are now. Assumes nothing.
 use Prim.Native.Nat.{ℕ, zero, suc, ◌+◌, ◌-◌, ◌≤◌, ◌<◌}
 use native.Mathlib.Omega.{arith}
-use native.Mathlib.Numerals.{add-one}
 use mathlib.Core.Path.{◌≡◌, refl, sym, ◌∙◌, ap}
 use mathlib.Core.List.{List, [], ◌∷◌, map}
-use mathlib.Core.Logic.{◌⊎◌, inl, inr}
+use mathlib.Core.Logic.{inl, inr}
 use mathlib.Core.Option.{Option, none, some as just}
 use borrow.Author.Tests.{eqb-true, eqb-false, eq-eqb, ne_eqb}
 use mathlib.Core.Bool.{Bool, true, false}
@@ -28,7 +27,6 @@ use Rattle.tables.specs.Codes.{call_code, procedure_code}
 use Rattle.tables.specs.Layout.{token_slot, proc_at, path_at, max_tokens, max_procs}
 use Rattle.tables.specs.Kept.{SameSlots}
 use Rattle.sheet.specs.Tables.{Words}
-use Rattle.sheet.specs.Held.{operand_at, BodyAt}
 use Rattle.terms.specs.Environment.{frozen, Level, Environment, terms_of, number_of}
 use Rattle.terms.specs.Calls.{level_of}
 use Rattle.terms.proofs.Laws.Here.{code_here, operand-kept, token-ends}
@@ -40,7 +38,7 @@ use Rattle.search.specs.Kept.{Kept, FrameSaved, FrameSet}
 use Rattle.terms.specs.Environment as frames
 use Rattle.terms.specs.Environment.{Results, flag_of}
 use Rattle.plan.specs.Next.{Next, end, token, back, place_of, Plain}
-use Rattle.search.specs.Store.{Call, Store, Active, with, call_store, resolve, back_of}
+use Rattle.search.specs.Store.{Call, Store, with, call_store, resolve, back_of}
 use Rattle.search.specs.Frame.{Item, form, again, the, tree_items, site_in, store_in}
 use Rattle.search.specs.Site.{RestAt, son_site, grow_at}
 use Rattle.search.specs.Stands.{filled, Stands}

@@ -1,6 +1,6 @@
 -- A node is entered and its first son is due: one law for each kind of frame. Each takes the equation of the node's tree and the words after the node's
 -- record is pushed, and gives the invariant for the son. Assumes nothing.
-use Prim.Native.Nat.{ℕ, suc, ◌+◌, ◌≤◌, ◌<◌}
+use Prim.Native.Nat.{ℕ, suc, ◌+◌, ◌<◌}
 use native.Mathlib.Omega.{arith}
 use native.Mathlib.Numerals.{add-one}
 use mathlib.Core.Path.{◌≡◌, refl, sym, ◌∙◌, ap, subst}
@@ -24,7 +24,7 @@ use Rattle.search.specs.Marks.{InTable, marks_in, Marks}
 use Rattle.search.specs.declared.Go.{Go}
 use Rattle.search.specs.Kept.{Kept, SameStore}
 use Rattle.search.specs.Walk.{sons_from, within, walk}
-use Rattle.search.specs.Frame.{Item, form, What, the, tree_items, tree_what, Question, son_of, Frame, pass, other, bound, began, given, range, asks, called, here, below, len, size_of, top_of, inner_in, site_in, store_in}
+use Rattle.search.specs.Frame.{Item, form, What, the, tree_items, tree_what, Question, son_of, Frame, pass, other, bound, began, given, range, asks, called, here, below, len, size_of, inner_in, site_in, store_in}
 use Rattle.search.specs.Site.{son_site, bound_mark, bound_site, inner_site, given_site}
 use Rattle.search.specs.Records.{bit, RecordAt}
 use Rattle.search.specs.Store.{Call}

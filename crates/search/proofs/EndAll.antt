@@ -1,15 +1,15 @@
 -- Going up: the topmost record is an `all`'s, whose local's slot and last value are as they were. Assumes nothing.
 use Prim.Native.Nat.{ℕ, suc, ◌+◌, ◌-◌, ◌≤◌, ◌<◌}
 use native.Mathlib.Omega.{arith}
-use mathlib.Core.Path.{◌≡◌, refl, sym, ◌∙◌, ap, subst}
+use mathlib.Core.Path.{◌≡◌, refl, sym, ◌∙◌, ap}
 use mathlib.Core.Bool.{Bool, true, false}
-use mathlib.Core.List.{List, [], ◌∷◌}
-use lib.ListN.{length, get_or, set}
+use mathlib.Core.List.{List, ◌∷◌}
+use lib.ListN.{get_or, set}
 use lib.Dec.{eqb}
 use lib.IntN.{ℤ}
 use borrow.Author.Tests.{eqb-true, eqb-false}
 use Rattle.specification.specs.Bytes.{Bytes}
-use Rattle.specification.specs.Place.{Place, local, put}
+use Rattle.specification.specs.Place.{local}
 use Rattle.specification.specs.Value.{full, Valuation}
 use Rattle.tables.specs.Layout.{cells_at, firsts_at, token_slot, local_slot, path_at, max_locals}
 use Rattle.tables.specs.Codes.{all_code}
@@ -17,16 +17,16 @@ use Rattle.sheet.specs.Tables.{Words}
 use Rattle.sheet.specs.Held.{slot_of}
 use Rattle.terms.proofs.Laws.Here.{operand-here}
 use Rattle.search.specs.declared.Go.{Go}
-use Rattle.tables.specs.Layout.{lasts_at, last_at}
+use Rattle.tables.specs.Layout.{last_at}
 use Rattle.search.specs.Kept.{Lasts}
-use Rattle.search.specs.Store.{Store, with, last_store}
+use Rattle.search.specs.Store.{Store, last_store}
 use Rattle.search.specs.Frame.{Frame, began, top_of, site_in, store_in}
 use Rattle.search.specs.Records.{at}
 use Rattle.search.specs.Path.{World, Stored, Path}
-use Rattle.search.specs.Sim.{yes, no, Up, Yes}
+use Rattle.search.specs.Sim.{yes, Up, Yes}
 use Rattle.search.specs.Registers.{drop_go}
 use Rattle.search.specs.Climb.{Rises, Rose, Wins, Fell}
-use Rattle.search.proofs.Pending.{with-same, with-other}
+use Rattle.search.proofs.Pending.{with-other}
 use Rattle.search.proofs.RecordsKept.{top-low}
 use Rattle.search.proofs.Sites.{bound-other}
 use Rattle.search.proofs.Slots.{in_table, Altered, alter}

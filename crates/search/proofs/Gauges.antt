@@ -1,7 +1,7 @@
 -- The one limit and the tallies, where a visit is counted by going one deeper. Assumes nothing.
-use Prim.Native.Nat.{ℕ, suc, ◌+◌, ◌-◌, ◌≤◌, ◌<◌, min}
+use Prim.Native.Nat.{ℕ, ◌<◌}
 use native.Mathlib.Omega.{arith}
-use mathlib.Core.Path.{◌≡◌, refl, sym, ◌∙◌, ap}
+use mathlib.Core.Path.{◌≡◌, ap}
 use Rattle.specification.specs.Run.{tallies, add_node}
 use Rattle.search.specs.declared.Go.{Go}
 use Rattle.search.specs.Path.{World}

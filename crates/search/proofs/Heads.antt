@@ -1,11 +1,9 @@
 -- What is due at a node that is entered, by the code of its token: the items and their tree. Assumes nothing.
-use Prim.Native.Nat.{ℕ, suc, ◌+◌, ◌≤◌, ◌<◌}
+use Prim.Native.Nat.{ℕ, suc, ◌≤◌, ◌<◌}
 use native.Mathlib.Omega.{arith}
-use mathlib.Core.Path.{◌≡◌, refl, sym, ◌∙◌, ap, subst}
-use mathlib.Core.Bool.{Bool}
+use mathlib.Core.Path.{◌≡◌, refl, sym, ◌∙◌, ap}
 use mathlib.Core.List.{List, [], ◌∷◌}
 use mathlib.Core.Logic.{◌⊎◌, inl, inr}
-use mathlib.Core.Option.{some as just}
 use lib.ListN.{get_or}
 use lib.IntN.{ℤ}
 use Rattle.specification.specs.Bytes.{Bytes}
@@ -13,8 +11,7 @@ use Rattle.specification.specs.Ast.{Formula}
 use Rattle.specification.specs.Value.{Valuation}
 use Rattle.specification.proofs.Laws.Contradiction.{contradiction}
 use Rattle.tables.specs.Layout.{token_slot, max_tokens, max_procs}
-use Rattle.tables.specs.Codes.{all_code, local_code, call_code, first_formula, last_formula}
-use Rattle.tables.specs.Kept.{SameTokens}
+use Rattle.tables.specs.Codes.{all_code, local_code, first_formula, last_formula}
 use Rattle.sheet.specs.Tables.{Words}
 use Rattle.sheet.specs.Held.{code_at}
 use Rattle.terms.specs.Environment.{Environment, number_of}
@@ -23,12 +20,12 @@ use Rattle.search.specs.declared.Go.{Go}
 use Rattle.tables.specs.Layout.{plan_at}
 use Rattle.tables.specs.Frames.{frame_slot}
 use Rattle.tables.specs.Leaves.{end_place, failure_place, success_place, error_place, empty_code, failure_code, success_code, error_code, return_code, kind_at, token_at}
-use Rattle.plan.specs.Next.{Next, end, token, back, place_of, From}
+use Rattle.plan.specs.Next.{Next, end, token, back, place_of}
 use Rattle.search.specs.Stands.{filled, Stands, Binds}
-use Rattle.search.specs.Store.{Call, Store, resolve, back_of, EnvIn}
+use Rattle.search.specs.Store.{Store, EnvIn}
 use Rattle.search.specs.Frame.{Item, form, again, What, the, success, failure, error, tree_items, site_in, store_in}
-use Rattle.search.specs.Pend.{Scoped, Inside, Left, FormNext, AgainNext, Pend}
-use Rattle.search.specs.Path.{World, Tables, Job}
+use Rattle.search.specs.Pend.{Scoped, Inside, Left, Pend}
+use Rattle.search.specs.Path.{World, Job}
 use Rattle.tables.specs.Leaves.{Leaves}
 use Rattle.search.specs.Sim.{tree, In}
 use Rattle.search.specs.Site.{grow_at}

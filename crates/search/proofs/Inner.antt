@@ -1,23 +1,20 @@
 -- The steps into `imp` and `not`, whose sons are judged by an inner tree, and the leaves of inner trees. Assumes nothing.
-use Prim.Native.Nat.{ℕ, suc, ◌+◌, ◌-◌, ◌≤◌, ◌<◌}
+use Prim.Native.Nat.{ℕ, suc, ◌+◌, ◌<◌}
 use native.Mathlib.Omega.{arith}
 use native.Mathlib.Numerals.{add-one}
-use mathlib.Core.Path.{◌≡◌, refl, sym, ◌∙◌, ap, subst}
-use mathlib.Core.Bool.{Bool, true, false}
+use mathlib.Core.Path.{◌≡◌, refl, sym, ◌∙◌, ap}
 use mathlib.Core.List.{[], ◌∷◌}
-use lib.ListN.{length, get_or}
 use Rattle.specification.specs.Bytes.{Bytes}
 use Rattle.specification.specs.Ast.{Formula}
 use Rattle.specification.specs.Fill.{fill}
 use Rattle.specification.specs.Tree.{enquire}
-use Rattle.tables.specs.Layout.{token_slot, path_at, max_tokens}
+use Rattle.tables.specs.Layout.{max_tokens}
 use Rattle.tables.specs.Codes.{imp_code, not_code}
 use Rattle.sheet.specs.Tables.{Words}
-use Rattle.sheet.specs.Held.{code_at}
 use Rattle.terms.specs.Environment.{number_of}
 use Rattle.search.specs.declared.Go.{Go}
 use Rattle.tables.specs.Layout.{plan_at}
-use Rattle.plan.specs.Next.{Next, end, token, place_of}
+use Rattle.plan.specs.Next.{end, token, place_of}
 use Rattle.search.specs.Kept.{Pushes}
 use Rattle.search.specs.Frame.{form, the, tree_items, Question, denying, implying, site_in, store_in}
 use Rattle.search.specs.Site.{grow_at}

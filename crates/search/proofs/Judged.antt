@@ -1,36 +1,33 @@
 -- Going up: the topmost record is that of a node with an inner tree, whose verdict is known. Assumes nothing.
-use Prim.Native.Nat.{ℕ, suc, ◌+◌, ◌-◌, ◌*◌, ◌/◌, ◌≤◌, ◌<◌}
+use Prim.Native.Nat.{ℕ, suc, ◌+◌, ◌-◌, ◌/◌, ◌<◌}
 use native.Mathlib.Omega.{arith}
 use mathlib.Core.Path.{◌≡◌, refl, sym, ◌∙◌, ap, subst}
 use mathlib.Core.Bool.{Bool, true, false}
-use mathlib.Core.List.{List, [], ◌∷◌}
+use mathlib.Core.List.{List, ◌∷◌}
 use mathlib.Core.Logic.{◌⊎◌, inl, inr}
-use lib.ListN.{length, get_or, set}
+use lib.ListN.{set}
 use Rattle.specification.specs.Bytes.{Bytes}
 use Rattle.specification.specs.Lines.{Declared}
-use Rattle.specification.specs.Ast.{Formula}
 use Rattle.specification.specs.Arithmetic.{undecided_inside}
 use Rattle.specification.specs.Value.{Valuation}
-use Rattle.specification.specs.Tree.{Tree, failure_leaf, error_leaf, Verdict, succeeds, fails, undecided}
-use Rattle.tables.specs.Layout.{cells_at, token_slot, path_at, max_tokens}
+use Rattle.specification.specs.Tree.{failure_leaf, error_leaf, succeeds, fails, undecided}
+use Rattle.tables.specs.Layout.{cells_at, token_slot, path_at}
 use Rattle.tables.specs.Kept.{SameSlots}
 use Rattle.tables.specs.Codes.{imp_code, not_code}
 use Rattle.sheet.specs.Tables.{Words}
 use Rattle.sheet.specs.Held.{code_at, end_at, Holds}
-use Rattle.terms.specs.Environment.{Environment, number_of}
+use Rattle.terms.specs.Environment.{number_of}
 use Rattle.terms.proofs.Laws.Here.{code_here, operand-here}
 use Rattle.search.specs.Marks.{marks_in, Marks}
 use Rattle.search.specs.declared.Go.{Go}
-use Rattle.tables.specs.Layout.{plan_at}
 use Rattle.tables.specs.Leaves.{failure_place, error_place}
-use Rattle.plan.specs.Next.{Next, token, place_of}
+use Rattle.plan.specs.Next.{token}
 use Rattle.search.specs.Kept.{Kept, SameStore}
-use Rattle.search.specs.Walk.{flagged}
 use Rattle.search.specs.Site.{Site}
-use Rattle.search.specs.Frame.{Item, form, What, the, failure, error, tree_items, Question, denying, implying, son_of, Frame, pass, asks, len, top_of, site_in, store_in}
+use Rattle.search.specs.Frame.{Item, form, the, failure, error, tree_items, Question, denying, implying, son_of, Frame, pass, asks, len, top_of, site_in, store_in}
 use Rattle.search.specs.Records.{at, bit}
 use Rattle.search.specs.Path.{World, Job, Path}
-use Rattle.search.specs.Sim.{yes, no, Down, Up, Yes}
+use Rattle.search.specs.Sim.{yes, Down, Up, Yes}
 use Rattle.search.specs.Climb.{around_go, Set, Rose, Granted}
 use Rattle.search.proofs.Sites.{site-depth}
 use Rattle.search.proofs.Slots.{holds-keep, marks-keep}

@@ -1,11 +1,9 @@
 -- The leaves: of an inner tree and failure leaves, after which the search goes up, and those of the main tree that have a block. Assumes nothing.
-use Prim.Native.Nat.{ℕ, suc, ◌+◌, ◌-◌, ◌≤◌, ◌<◌}
+use Prim.Native.Nat.{ℕ, suc}
 use native.Mathlib.Omega.{arith}
-use mathlib.Core.Path.{◌≡◌, refl, sym, ◌∙◌, ap, subst}
+use mathlib.Core.Path.{◌≡◌, refl, sym, ◌∙◌}
 use mathlib.Core.Bool.{Bool, true, false}
-use mathlib.Core.List.{List}
 use mathlib.Core.Logic.{◌⊎◌, inl, inr}
-use lib.ListN.{get_or}
 use Rattle.specification.specs.declared.Tallies.{Tallies}
 use Rattle.specification.specs.Bytes.{Bytes}
 use Rattle.specification.specs.Run.{add_node, add_fail, arrive}
@@ -13,11 +11,11 @@ use Rattle.sheet.specs.Tables.{Words}
 use Rattle.search.specs.declared.Go.{Go}
 use Rattle.tables.specs.Leaves.{success_code, failure_code, error_code}
 use Rattle.search.specs.Walk.{leaf, within}
-use Rattle.search.specs.Frame.{What, success, failure, error, inner_in, site_in}
+use Rattle.search.specs.Frame.{inner_in}
 use Rattle.search.specs.Records.{bit}
-use Rattle.search.specs.Path.{World, conditions_of}
-use Rattle.search.specs.Sim.{tree, yes, no, In, Up, Yes, IsLeaf, Leaf, Sim, up, block}
-use Rattle.search.specs.Registers.{tallied, Tallied, Gauge, out_go, leaf_go}
+use Rattle.search.specs.Path.{World}
+use Rattle.search.specs.Sim.{no, In, Up, Yes, IsLeaf, up, block}
+use Rattle.search.specs.Registers.{tallied, Tallied, out_go, leaf_go}
 use Rattle.search.specs.Steps.{Entered, Stepped}
 use Rattle.search.specs.States.{main_tree, down_mode, up_mode, block_mode}
 use Rattle.search.proofs.Sites.{inner-main, inner-inside}

@@ -1,12 +1,12 @@
 -- Going up: the topmost record is a call's, and its procedure's frame is as the call found it. Assumes nothing.
-use Prim.Native.Nat.{ℕ, suc, ◌+◌, ◌-◌, ◌*◌, ◌≤◌, ◌<◌}
+use Prim.Native.Nat.{ℕ, suc, ◌+◌, ◌-◌, ◌≤◌, ◌<◌}
 use native.Mathlib.Omega.{arith}
 use mathlib.Core.Path.{◌≡◌, refl, sym, ◌∙◌, ap, subst}
 use mathlib.Core.Bool.{Bool, true, false}
-use mathlib.Core.List.{List, [], ◌∷◌}
+use mathlib.Core.List.{List, ◌∷◌}
 use mathlib.Core.Logic.{◌⊎◌, inl, inr}
 use mathlib.Core.Option.{some as just}
-use lib.ListN.{length, get_or}
+use lib.ListN.{length}
 use lib.Dec.{eqb, leb}
 use borrow.Author.Tests.{eqb-true, eqb-false, leb-true, leb-false}
 use Rattle.specification.specs.Bytes.{Bytes}
@@ -21,15 +21,15 @@ use Rattle.search.specs.Marks.{marks_in, Marks}
 use Rattle.search.specs.declared.Go.{Go}
 use Rattle.tables.specs.Frames.{frame_words, frame_slot}
 use Rattle.search.specs.Kept.{Kept, FrameBack}
-use Rattle.search.specs.Store.{Call, Store, root_store, with, call_store}
-use Rattle.search.specs.Site.{Site, root_site}
+use Rattle.search.specs.Store.{Call, Store}
+use Rattle.search.specs.Site.{Site}
 use Rattle.search.specs.Frame.{Frame, called, top_of, site_in, store_in}
 use Rattle.search.specs.Records.{at, FrameKept}
 use Rattle.search.specs.Path.{World, Framed, Stored, Path}
-use Rattle.search.specs.Sim.{yes, no, Up, Yes}
+use Rattle.search.specs.Sim.{yes, Up, Yes}
 use Rattle.search.specs.Registers.{drop_go}
 use Rattle.search.specs.Climb.{Rises, Rose, Wins, Fell}
-use Rattle.search.proofs.Pending.{with-same, with-other}
+use Rattle.search.proofs.Pending.{with-other}
 use Rattle.search.proofs.RecordsKept.{top-low}
 use Rattle.search.proofs.Slots.{holds-keep, marks-keep}
 use Rattle.search.proofs.Paths.{framed-keep, path-pop}

@@ -1,9 +1,9 @@
 -- Going up: the topmost record is a `some`'s, and its local gets the next value, or none is left. Assumes nothing.
-use Prim.Native.Nat.{ℕ, zero, suc, ◌+◌, ◌-◌, ◌≤◌, ◌<◌}
+use Prim.Native.Nat.{ℕ, suc, ◌+◌, ◌-◌, ◌≤◌, ◌<◌}
 use native.Mathlib.Omega.{arith}
 use native.Mathlib.Numerals.{add-one}
 use mathlib.Core.Path.{◌≡◌, refl, sym, ◌∙◌, ap, subst}
-use mathlib.Core.List.{List, [], ◌∷◌}
+use mathlib.Core.List.{List, ◌∷◌}
 use lib.ListN.{length, get_or, set, length-set}
 use lib.Dec.{T}
 use lib.Seq.{get_or-set_same, get_or-set_other}
@@ -17,17 +17,17 @@ use Rattle.specification.proofs.Laws.Contradiction.{contradiction}
 use Rattle.specification.proofs.Laws.Place.{put_same, put_other, valid-put}
 use Rattle.values.specs.Word.{signed, biased}
 use Rattle.values.proofs.Laws.Word.{biased-signed, signed-in32, signed_add}
-use Rattle.tables.specs.Layout.{cells_at, token_slot, local_slot, path_at, max_locals, max_tokens}
+use Rattle.tables.specs.Layout.{cells_at, token_slot, local_slot, path_at}
 use Rattle.tables.specs.Codes.{some_code}
 use Rattle.sheet.specs.Tables.{Words}
 use Rattle.sheet.specs.Held.{slot_of, Holds, SlotAt}
 use Rattle.terms.specs.Environment.{Environment, number_of}
 use Rattle.terms.proofs.Laws.Here.{operand-kept}
-use Rattle.search.specs.Marks.{InTable, marks_in, Marks}
+use Rattle.search.specs.Marks.{InTable, marks_in}
 use Rattle.search.specs.declared.Go.{Go}
-use Rattle.plan.specs.Next.{Next, token, place_of}
+use Rattle.plan.specs.Next.{token}
 use Rattle.search.specs.Walk.{sons_from}
-use Rattle.search.specs.Frame.{Item, form, the, Frame, range, here, below, len, size_of, top_of, site_in, store_in}
+use Rattle.search.specs.Frame.{Item, form, the, Frame, range, len, top_of, site_in, store_in}
 use Rattle.search.specs.Stands.{body_of, LeftAfter}
 use Rattle.search.specs.Records.{at}
 use Rattle.search.specs.Path.{World, Path}

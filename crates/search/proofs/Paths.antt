@@ -1,14 +1,13 @@
 -- The path as a whole: its tables and its store are kept where their words are, and it gains, changes or loses its topmost frame. Assumes nothing.
-use Prim.Native.Nat.{ℕ, suc, ◌+◌, ◌*◌, ◌≤◌, ◌<◌}
+use Prim.Native.Nat.{ℕ, ◌+◌, ◌*◌, ◌≤◌, ◌<◌}
 use native.Mathlib.Omega.{arith}
-use mathlib.Core.Path.{◌≡◌, refl, sym, ◌∙◌, ap, subst}
+use mathlib.Core.Path.{◌≡◌, refl, ◌∙◌, subst}
 use mathlib.Core.List.{List, [], ◌∷◌}
-use mathlib.Core.Option.{some as just}
-use lib.ListN.{length, get_or}
+use lib.ListN.{get_or}
 use Rattle.specification.specs.Lines.{Declared}
 use Rattle.specification.specs.Value.{Valuation}
 use Rattle.specification.specs.WellFormed.{Valid}
-use Rattle.tables.specs.Layout.{first_slot, proc_slot, node_slot, path_at, max_procs, max_parameters}
+use Rattle.tables.specs.Layout.{first_slot, proc_slot, node_slot, max_parameters}
 use Rattle.tables.specs.Ranges.{range_slot}
 use Rattle.tables.proofs.Laws.Ranges.{SameRanges}
 use Rattle.sheet.specs.Tables.{Words}
@@ -21,8 +20,7 @@ use Rattle.search.specs.Kept.{Kept, SameStore}
 use Rattle.search.specs.Store.{Call, Store}
 use Rattle.search.specs.Frame.{Frame, pass, other, bound, began, given, range, asks, called, here, below, len, size_of, top_of, site_in, store_in}
 use Rattle.search.specs.Records.{RecordAt, Stack}
-use Rattle.search.specs.Path.{World, Procedures, Framed, Stored, Chain, Tables, Path}
-use Rattle.tables.specs.Leaves.{Leaves}
+use Rattle.search.specs.Path.{World, Framed, Stored, Tables, Path}
 use Rattle.search.proofs.RecordsKept.{stack-keep}
 
 -- ---- tables

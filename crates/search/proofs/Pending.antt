@@ -1,8 +1,8 @@
 -- What stays of a list that comes next: where a local that is not in scope is bound, where a bare place gets a value, and where an earlier procedure is
 -- called. Assumes nothing.
-use Prim.Native.Nat.{ℕ, suc, ◌≤◌, ◌<◌}
+use Prim.Native.Nat.{ℕ, ◌≤◌, ◌<◌}
 use native.Mathlib.Omega.{arith}
-use mathlib.Core.Path.{◌≡◌, refl, sym, ◌∙◌, ap}
+use mathlib.Core.Path.{◌≡◌, refl, ◌∙◌, ap}
 use mathlib.Core.Bool.{Bool, true, false, not}
 use mathlib.Core.List.{List, [], ◌∷◌}
 use mathlib.Core.Option.{some as just}
@@ -18,11 +18,11 @@ use Rattle.specification.proofs.Laws.Contradiction.{contradiction}
 use Rattle.specification.proofs.Laws.Place.{put_other}
 use Rattle.values.specs.Word.{signed}
 use Rattle.sheet.specs.Tables.{Words}
-use Rattle.terms.specs.Environment.{Level, Environment, number_of}
+use Rattle.terms.specs.Environment.{Environment, number_of}
 use Rattle.plan.specs.Next.{Next, end, token, back, From}
-use Rattle.search.specs.Store.{Call, Store, with, last_store, call_store, resolve, back_of, Active, EnvIn}
+use Rattle.search.specs.Store.{Call, Store, with, last_store, call_store, resolve, back_of, EnvIn}
 use Rattle.search.specs.Frame.{Item, form, again}
-use Rattle.search.specs.Pend.{Scoped, Inside, Left, FormNext, AgainNext, Pend}
+use Rattle.search.specs.Pend.{Scoped, Inside, Left, Pend}
 
 -- ---- functions of numbers
 

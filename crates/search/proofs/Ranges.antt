@@ -1,51 +1,46 @@
 -- The steps into `some` and `all` whose bounds have values: no value between them, or the first value. Assumes nothing.
-use Prim.Native.Nat.{ℕ, zero, suc, ◌+◌, ◌-◌, ◌*◌, ◌≤◌, ◌<◌}
+use Prim.Native.Nat.{ℕ, suc, ◌+◌, ◌-◌, ◌≤◌, ◌<◌}
 use native.Mathlib.Omega.{arith}
 use native.Mathlib.Numerals.{add-one}
-use mathlib.Core.Path.{◌≡◌, refl, sym, ◌∙◌, ap, subst}
+use mathlib.Core.Path.{◌≡◌, refl, sym, ◌∙◌, ap}
 use mathlib.Core.List.{[], ◌∷◌}
-use mathlib.Core.Option.{some as just}
-use lib.ListN.{length, get_or, set}
+use lib.ListN.{get_or, set}
 use lib.Dec.{T, eqb}
 use mathlib.Core.Bool.{Bool, true, false}
 use borrow.Author.Tests.{eqb-true, eqb-false}
-use lib.IntN.{ℤ, pos, ◌+ℤ◌}
+use lib.IntN.{pos, ◌+ℤ◌}
 use Rattle.specification.specs.Bytes.{Bytes}
 use Rattle.specification.specs.Fill.{fill}
 use Rattle.specification.specs.Number.{in32}
 use Rattle.specification.specs.Arithmetic.{count}
-use Rattle.specification.specs.Place.{Place, local, put}
-use Rattle.specification.specs.Value.{Slot, empty, full, Valuation, pair_of}
-use Rattle.specification.specs.Tree.{step, bounded, sons}
-use Rattle.specification.proofs.Laws.Contradiction.{contradiction}
-use Rattle.specification.proofs.Laws.Place.{SlotIn, put_same}
+use Rattle.specification.specs.Place.{local, put}
+use Rattle.specification.specs.Value.{full, pair_of}
+use Rattle.specification.specs.Tree.{bounded, sons}
+use Rattle.specification.proofs.Laws.Place.{put_same}
 use Rattle.values.specs.Word.{biased, signed}
 use Rattle.values.proofs.Laws.Word.{biased-signed, signed-in32, signed-count, signed_add}
-use Rattle.tables.specs.Layout.{token_slot, local_slot, firsts_at, path_at, max_locals, max_tokens}
-use Rattle.tables.specs.Kept.{SameSlots}
+use Rattle.tables.specs.Layout.{token_slot, local_slot, firsts_at, path_at, max_locals}
 use Rattle.tables.specs.Codes.{some_code, all_code}
 use Rattle.sheet.specs.Tables.{Words}
 use Rattle.sheet.specs.Held.{slot_of}
 use Rattle.terms.specs.Environment.{number_of}
 use Rattle.terms.proofs.Laws.Here.{operand-kept}
 use Rattle.search.specs.declared.Go.{Go}
-use Rattle.tables.specs.Layout.{plan_at, lasts_at, last_at}
+use Rattle.tables.specs.Layout.{last_at}
 use Rattle.tables.specs.Leaves.{failure_place}
-use Rattle.plan.specs.Next.{Next, token, place_of}
-use Rattle.search.specs.Kept.{Kept, SameStore, Pushes, Lasts}
+use Rattle.plan.specs.Next.{token}
+use Rattle.search.specs.Kept.{Pushes, Lasts}
 use Rattle.search.specs.Store.{Store, with, last_store}
-use Rattle.search.specs.Frame.{form, again, the, failure, began, range, tree_items, site_in, store_in}
+use Rattle.search.specs.Frame.{form, again, the, failure, tree_items, site_in, store_in}
 use Rattle.search.specs.Site.{rounds_at, grow_at, bound_site}
-use Rattle.search.specs.Stands.{filled, body_of, LeftAfter}
+use Rattle.search.specs.Stands.{filled, body_of}
 use Rattle.search.specs.Pend.{Inside}
-use Rattle.search.specs.Records as records
 use Rattle.search.specs.Records.{at, Saved}
 use Rattle.search.specs.Path.{World, Stored}
 use Rattle.search.specs.Sim.{tree, In}
 use Rattle.search.specs.Registers.{down_go}
-use Rattle.search.specs.Steps.{Entered, Stepped, GoesOn, OneLeaf, Valued}
-use Rattle.search.proofs.Pending.{with-same, with-other, pend-bound, pend-last, env-last, scoped-enter, inside-scoped}
-use Rattle.search.proofs.RecordsKept.{SameFrom, record-keep}
+use Rattle.search.specs.Steps.{Stepped, GoesOn, OneLeaf, Valued}
+use Rattle.search.proofs.Pending.{with-same, with-other, pend-bound, pend-last, env-last, inside-scoped}
 use Rattle.search.proofs.Sites.{site-depth}
 use Rattle.search.proofs.Slots.{in_table, Altered, alter}
 use Rattle.search.proofs.Changes.{kept-both, pushed-kept, pushed-slots, pushed-store, altered-kept, altered-store, lasts-kept, lasts-slots}

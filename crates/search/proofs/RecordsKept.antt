@@ -1,30 +1,18 @@
 -- What the words of records say stays where these words stay; and so do the tables and the store. Assumes nothing.
-use Prim.Native.Nat.{ℕ, suc, ◌+◌, ◌≤◌, ◌<◌}
+use Prim.Native.Nat.{ℕ, ◌+◌, ◌≤◌, ◌<◌}
 use native.Mathlib.Omega.{arith}
-use mathlib.Core.Path.{◌≡◌, refl, sym, ◌∙◌, ap}
+use mathlib.Core.Path.{◌≡◌, ◌∙◌}
 use mathlib.Core.List.{List, [], ◌∷◌}
-use mathlib.Core.Option.{some as just}
-use lib.ListN.{length, get_or}
-use lib.IntN.{ℤ}
+use lib.ListN.{length}
 use Rattle.specification.specs.Lines.{Declared}
 use Rattle.specification.specs.Place.{Place, local}
 use Rattle.specification.specs.Value.{Valuation}
-use Rattle.tables.specs.Layout.{first_slot, proc_slot, path_at, max_procs, max_locals, max_parameters}
-use Rattle.tables.specs.Ranges.{range_slot}
-use Rattle.tables.proofs.Laws.Ranges.{SameRanges}
+use Rattle.tables.specs.Layout.{path_at}
 use Rattle.sheet.specs.Tables.{Words}
-use Rattle.sheet.proofs.Ranged.{ranges-keep}
-use Rattle.terms.specs.Environment.{Level, Environment}
-use Rattle.tables.specs.Frames.{frames_at, frame_slot, argument_slot}
-use Rattle.tables.specs.Layout.{lasts_at}
-use Rattle.tables.specs.Leaves.{end_place, error_place}
-use Rattle.search.specs.Kept.{Kept, SameStore}
-use Rattle.search.specs.Store.{Call, Store}
+use Rattle.search.specs.Store.{Store}
 use Rattle.search.specs.Site.{Site}
 use Rattle.search.specs.Frame.{Frame, pass, other, bound, began, given, range, asks, called, size_of, top_of, site_in, store_in}
-use Rattle.search.specs.Records.{at, SlotRecord, FrameKept, CallRecord, RecordAt, Stack}
-use Rattle.search.specs.Path.{World, Procedures, Tables}
-use Rattle.tables.specs.Leaves.{Leaves}
+use Rattle.search.specs.Records.{at, SlotRecord, RecordAt, Stack}
 
 -- ---- records
 

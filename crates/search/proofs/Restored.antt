@@ -1,47 +1,35 @@
 -- Going up: a record that keeps a slot is gone, and the slot is as it was. Assumes nothing.
-use Prim.Native.Nat.{ℕ, zero, suc, ◌+◌, ◌-◌, ◌*◌, ◌/◌, ◌%◌, ◌≤◌, ◌<◌}
+use Prim.Native.Nat.{ℕ, ◌+◌, ◌-◌, ◌*◌, ◌/◌, ◌%◌, ◌≤◌, ◌<◌}
 use native.Mathlib.Omega.{arith}
 use mathlib.Core.Path.{◌≡◌, refl, sym, ◌∙◌, ap, subst}
-use mathlib.Core.Bool.{Bool}
-use mathlib.Core.List.{List, [], ◌∷◌}
+use mathlib.Core.List.{List, ◌∷◌}
 use lib.ListN.{length, get_or, set}
-use lib.IntN.{ℤ, pos, ◌+ℤ◌}
 use Rattle.specification.specs.Bytes.{Bytes}
-use Rattle.specification.specs.Ast.{Formula}
-use Rattle.specification.specs.Lines.{Declared}
 use Rattle.specification.specs.Place.{Place, local, put}
-use Rattle.specification.specs.Value.{Slot, empty, full, Valuation}
-use Rattle.specification.proofs.Laws.Place.{put_same, put_other}
-use Rattle.tables.specs.Layout.{cells_at, firsts_at, token_slot, local_slot, path_at, node_slot}
+use Rattle.specification.specs.Value.{Slot, full, Valuation}
+use Rattle.specification.proofs.Laws.Place.{put_other}
+use Rattle.tables.specs.Layout.{cells_at, firsts_at, path_at}
 use Rattle.tables.specs.Kept.{SameSlots}
-use Rattle.tables.specs.Codes.{some_code, all_code}
 use Rattle.sheet.specs.Tables.{Words}
-use Rattle.sheet.specs.Held.{slot_of, Holds, operand_at}
-use Rattle.terms.specs.Environment.{Environment}
-use Rattle.terms.proofs.Laws.Here.{operand-here, operand-kept}
-use Rattle.search.specs.Marks.{InTable, marks_in, Marks}
+use Rattle.sheet.specs.Held.{slot_of, Holds}
+use Rattle.search.specs.Marks.{marks_in, Marks}
 use Rattle.search.specs.declared.Go.{Go}
 use Rattle.search.specs.Records.{had_unit}
-use Rattle.tables.specs.Layout.{last_at}
-use Rattle.search.specs.Kept.{Kept, SameStore, Lasts}
-use Rattle.search.specs.Store.{Store}
-use Rattle.search.specs.Walk.{sons_from}
-use Rattle.search.specs.Frame.{Item, Frame, pass, bound, began, given, range, here, below, len, size_of, top_of, site_in, store_in}
-use Rattle.search.specs.Site.{Site}
+use Rattle.search.specs.Kept.{Kept}
+use Rattle.search.specs.Frame.{Frame, here, below, size_of, top_of, site_in, store_in}
 use Rattle.search.specs.Records as records
 use Rattle.search.specs.Records.{at, SlotRecord}
 use Rattle.search.specs.Path.{World, Stored, Path}
-use Rattle.search.specs.Sim.{yes, no, Up, Yes, Sim, up}
+use Rattle.search.specs.Sim.{yes, no, Up, Yes, up}
 use Rattle.search.specs.Registers.{drop_go}
-use Rattle.search.specs.Climb.{strip, Set, Rises, Rose, Wins, Fell}
-use Rattle.search.specs.States.{up_mode}
+use Rattle.search.specs.Climb.{Rises, Rose, Wins, Fell}
 use Rattle.search.proofs.RecordsKept.{top-low}
 use Rattle.search.proofs.Sites.{bound-other}
 use Rattle.search.proofs.Slots.{in_table, holds-keep, holds-back, marks-keep, marks-off, altered-marks, Altered, second_word, alter}
-use Rattle.search.proofs.Changes.{kept_refl, kept-both, altered-kept, altered-store, lasts-kept}
-use Rattle.search.proofs.Paths.{path-pop, stored-keep, top-few}
-use Rattle.search.proofs.Stripped.{Strip, Left, up-strip, yes-strip}
-use Rattle.search.proofs.Tops.{top-undo, top-some, top-all}
+use Rattle.search.proofs.Changes.{kept_refl, kept-both, altered-kept, altered-store}
+use Rattle.search.proofs.Paths.{path-pop, stored-keep}
+use Rattle.search.proofs.Stripped.{Left, up-strip, yes-strip}
+use Rattle.search.proofs.Tops.{top-undo}
 
 -- ---- the path without its topmost frame, whose slot is put back
 

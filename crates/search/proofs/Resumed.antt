@@ -1,36 +1,28 @@
 -- Going up: the topmost record's node has another son. Assumes nothing.
-use Prim.Native.Nat.{ℕ, zero, suc, ◌+◌, ◌-◌, ◌*◌, ◌≤◌, ◌<◌, min}
+use Prim.Native.Nat.{ℕ, suc, ◌+◌, ◌-◌, ◌≤◌, ◌<◌}
 use native.Mathlib.Omega.{arith}
-use native.Mathlib.Numerals.{add-one}
-use mathlib.Core.Path.{◌≡◌, refl, sym, ◌∙◌, ap, subst}
+use mathlib.Core.Path.{◌≡◌, refl, ◌∙◌, ap, subst}
 use mathlib.Core.Bool.{Bool}
 use mathlib.Core.List.{List, [], ◌∷◌}
-use lib.ListN.{length, get_or, set}
-use lib.Dec.{T}
-use lib.IntN.{ℤ, pos, ◌+ℤ◌}
 use Rattle.specification.specs.Bytes.{Bytes}
-use Rattle.specification.specs.Ast.{Formula}
-use Rattle.specification.specs.Number.{in32}
-use Rattle.specification.specs.Place.{Place, local, put}
-use Rattle.specification.specs.Value.{Slot, empty, full, Valuation}
 use Rattle.specification.specs.Run.{tallies}
-use Rattle.tables.specs.Layout.{cells_at, token_slot, local_slot, path_at, node_slot, max_tokens}
-use Rattle.tables.specs.Codes.{or_code, some_code}
+use Rattle.tables.specs.Layout.{cells_at, token_slot, path_at}
+use Rattle.tables.specs.Codes.{or_code}
 use Rattle.sheet.specs.Tables.{Words}
-use Rattle.sheet.specs.Held.{slot_of, Holds, operand_at, end_at}
-use Rattle.terms.specs.Environment.{Environment, number_of}
+use Rattle.sheet.specs.Held.{Holds, end_at}
+use Rattle.terms.specs.Environment.{number_of}
 use Rattle.terms.proofs.Laws.Here.{operand-here}
-use Rattle.search.specs.Marks.{InTable, marks_in, Marks}
+use Rattle.search.specs.Marks.{marks_in, Marks}
 use Rattle.search.specs.declared.Go.{Go}
-use Rattle.plan.specs.Next.{Next, token, place_of}
-use Rattle.search.specs.Walk.{walk, sons_from}
-use Rattle.search.specs.Frame.{Item, form, What, the, Frame, pass, other, bound, began, given, range, asks, called, here, below, len, size_of, top_of, inner_in, site_in, store_in}
+use Rattle.plan.specs.Next.{token}
+use Rattle.search.specs.Walk.{walk}
+use Rattle.search.specs.Frame.{form, What, the, Frame, pass, other, bound, began, given, range, asks, called, below, len, top_of, inner_in, site_in, store_in}
 use Rattle.search.specs.Records.{at, bit}
-use Rattle.search.specs.Path.{World, conditions_of, Job, Stored, Path}
-use Rattle.search.specs.Sim.{yes, no, tree, Down, Up, Yes, Over, Sim, down, done}
+use Rattle.search.specs.Path.{World, conditions_of, Job, Path}
+use Rattle.search.specs.Sim.{yes, no, tree, Down, Up, Yes, Over, down, done}
 use Rattle.search.specs.Registers.{tallied, Tallied, Gauge, out_go, drop_go, resume_go}
 use Rattle.search.specs.Climb.{strip, Set, Rises, Rose, Wins, Fell}
-use Rattle.search.specs.States.{up_mode, down_mode, done_mode}
+use Rattle.search.specs.States.{done_mode}
 use Rattle.search.proofs.RecordsKept.{top-low}
 use Rattle.search.proofs.Restored.{yes-again, fell}
 use Rattle.search.proofs.Sites.{site-depth}

@@ -1,39 +1,32 @@
 -- The steps to a node's one son, what comes next or a leaf, and the steps into the empty list, `true`, `and` and `or`. Assumes nothing.
-use Prim.Native.Nat.{ℕ, suc, ◌+◌, ◌*◌, ◌≤◌, ◌<◌}
+use Prim.Native.Nat.{ℕ, suc, ◌+◌, ◌≤◌, ◌<◌}
 use native.Mathlib.Omega.{arith}
 use native.Mathlib.Numerals.{add-one}
 use mathlib.Core.Path.{◌≡◌, refl, sym, ◌∙◌, ap}
-use mathlib.Core.Bool.{true, false}
 use mathlib.Core.List.{[], ◌∷◌}
 use mathlib.Core.Logic.{inl, inr}
-use lib.ListN.{length, get_or, set, length-set}
-use lib.Seq.{get_or-set_same, get_or-set_other}
-use lib.Dec.{eqb}
+use lib.ListN.{length, get_or, set}
 use borrow.Author.Tests.{eq-eqb, ne_eqb}
 use Rattle.specification.specs.Bytes.{Bytes}
 use Rattle.specification.specs.Fill.{fill}
 use Rattle.specification.specs.Arithmetic.{undecided_inside}
 use Rattle.specification.specs.Value.{Valuation}
-use Rattle.specification.specs.Tree.{step}
 use Rattle.tables.specs.Kept.{SameSlots}
 use Rattle.tables.specs.Codes.{true_code, and_code, or_code}
-use Rattle.tables.specs.Layout.{token_slot, node_slot, path_at, max_tokens, max_path}
+use Rattle.tables.specs.Layout.{token_slot, path_at}
 use Rattle.sheet.specs.Tables.{Words}
-use Rattle.sheet.specs.Held.{code_at}
 use Rattle.terms.specs.Environment.{number_of}
 use Rattle.search.specs.declared.Go.{Go}
 use Rattle.tables.specs.Layout.{plan_at}
-use Rattle.tables.specs.Leaves.{success_place, error_place, empty_code, kind_at, token_at}
-use Rattle.plan.specs.Next.{Next, token, place_of}
-use Rattle.search.specs.Kept.{Kept, SameStore, Pushes}
+use Rattle.tables.specs.Leaves.{success_place, error_place, empty_code}
+use Rattle.plan.specs.Next.{token, place_of}
+use Rattle.search.specs.Kept.{SameStore, Pushes}
 use Rattle.search.specs.Store.{Store}
-use Rattle.search.specs.Frame.{form, again, What, the, success, failure, error, tree_items, len, top_of, site_in, store_in}
-use Rattle.search.specs.Site.{grow_at, done_at}
-use Rattle.search.specs.Pend.{Scoped, Pend}
-use Rattle.search.specs.Records.{OrRecord}
-use Rattle.search.specs.Path.{World, Job, Path}
+use Rattle.search.specs.Frame.{form, again, What, the, success, failure, error, tree_items, top_of, site_in, store_in}
+use Rattle.search.specs.Site.{grow_at}
+use Rattle.search.specs.Path.{World, Job}
 use Rattle.search.specs.Sim.{Down, In, down}
-use Rattle.search.specs.Registers.{tallied, down_go}
+use Rattle.search.specs.Registers.{down_go}
 use Rattle.search.specs.Steps.{Visited, Entered, Stepped, GoesOn, OneLeaf, Errs}
 use Rattle.search.specs.States.{given_tree}
 use Rattle.search.proofs.Sites.{site-depth}

@@ -1,19 +1,16 @@
 -- Frames that have no record do not matter for going up: what is left to visit, the records, the site's register and marks and the store are the same
 -- without them. Assumes nothing.
-use Prim.Native.Nat.{ℕ, suc, ◌+◌, ◌≤◌, ◌<◌}
+use Prim.Native.Nat.{ℕ}
 use native.Mathlib.Omega.{arith}
-use mathlib.Core.Path.{◌≡◌, refl, sym, ◌∙◌, ap, subst}
+use mathlib.Core.Path.{◌≡◌, refl, sym, subst}
 use mathlib.Core.Bool.{Bool}
 use mathlib.Core.List.{List, [], ◌∷◌}
 use Rattle.specification.specs.Bytes.{Bytes}
-use Rattle.specification.specs.Lines.{Declared}
 use Rattle.specification.specs.Value.{Valuation}
 use Rattle.sheet.specs.Tables.{Words}
-use Rattle.search.specs.Marks.{marks_in, Marks}
 use Rattle.search.specs.declared.Go.{Go}
-use Rattle.search.specs.Frame.{Frame, pass, other, bound, began, given, range, asks, called, len, top_of, site_in, store_in}
-use Rattle.search.specs.Records.{Stack}
-use Rattle.search.specs.Path.{World, Stored, Chain, Path}
+use Rattle.search.specs.Frame.{Frame, pass, other, bound, began, given, range, asks, called, site_in}
+use Rattle.search.specs.Path.{World, Chain, Path}
 use Rattle.search.specs.Sim.{yes, no, Up, Yes}
 use Rattle.search.specs.Climb.{strip}
 

@@ -14,7 +14,7 @@ use Rattle.sheet.specs.Tables.{Words}
 use Rattle.sheet.specs.Codes.{rel_code}
 use Rattle.sheet.specs.Held.{operand_at, end_at, TermsAt, LocalAt, height}
 use Rattle.terms.specs.Environment.{Environment, terms_of, number_of, CallAt, Arguments}
-use Rattle.search.specs.Stands.{filled, line_of, Stands, body_of, Binds}
+use Rattle.search.specs.Stands.{filled, Stands, body_of, Binds}
 use Rattle.tables.specs.Layout.{plan_at}
 use Rattle.plan.specs.Next.{Next, end, token, place_of}
 use Rattle.plan.specs.Planned.{TermsPlanned, ArgumentsPlanned}

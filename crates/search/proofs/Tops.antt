@@ -1,32 +1,28 @@
 -- The topmost frame that has a record, by the record's last word: a slot, or a token with its code. Assumes nothing.
-use Prim.Native.Nat.{ℕ, suc, ◌+◌, ◌-◌, ◌*◌, ◌≤◌, ◌<◌}
+use Prim.Native.Nat.{ℕ, suc, ◌+◌, ◌-◌, ◌≤◌, ◌<◌}
 use native.Mathlib.Omega.{arith}
 use mathlib.Core.Path.{◌≡◌, refl, sym, ◌∙◌, ap}
 use mathlib.Core.Bool.{Bool}
 use mathlib.Core.List.{List, [], ◌∷◌}
 use mathlib.Core.Logic.{◌⊎◌, inl, inr}
-use lib.ListN.{length, get_or}
+use lib.ListN.{length}
 use lib.IntN.{ℤ}
 use Rattle.specification.specs.Lines.{Declared}
 use Rattle.specification.specs.Ast.{Formula}
 use Rattle.specification.specs.Place.{Place, local}
 use Rattle.specification.specs.Value.{Slot, Valuation}
-use Rattle.specification.proofs.Laws.Contradiction.{contradiction}
 use Rattle.tables.specs.Layout.{cells_at, token_slot, path_at, max_tokens}
 use Rattle.tables.specs.Codes.{or_code, imp_code, not_code, some_code, all_code, call_code}
 use Rattle.sheet.specs.Tables.{Words}
-use Rattle.sheet.specs.Held.{code_at, slot_of}
+use Rattle.sheet.specs.Held.{code_at}
 use Rattle.terms.specs.Environment.{Environment}
 use Rattle.terms.proofs.Laws.Here.{code_here}
-use Rattle.search.specs.Marks.{InTable}
-use Rattle.search.specs.Records.{had_unit}
 use Rattle.search.specs.Store.{Call}
 use Rattle.search.specs.Frame.{Item, Question, denying, implying, Frame, pass, other, bound, began, given, range, asks, called, len, size_of, top_of, site_in}
 use Rattle.search.specs.Records.{at, SlotRecord}
 use Rattle.search.specs.Site.{Site}
 use Rattle.search.specs.Path.{World, Tables, Path}
 use Rattle.search.specs.Climb.{strip}
-use Rattle.search.proofs.RecordsKept.{top-low}
 use Rattle.search.proofs.Slots.{in_table}
 
 -- what the last word of a record says of its frame

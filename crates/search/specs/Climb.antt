@@ -1,5 +1,5 @@
 -- The contracts of going up, from record to record. Assumes nothing.
-use Rattle.std.specs.Prelude.{ℕ, ◌-◌, ◌≤◌, ◌<◌, ◌≡◌, ◌⊎◌, List, [], ◌∷◌, get_or}
+use Rattle.std.specs.Prelude.{ℕ, ◌-◌, ◌<◌, ◌≡◌, List, [], ◌∷◌, get_or}
 use Rattle.specification.specs.Bytes.{Bytes}
 use Rattle.sheet.specs.Tables.{Words}
 use Rattle.search.specs.declared.Go.{Go}

@@ -9,14 +9,14 @@ use Rattle.specification.specs.Run.{Conditions, conditions, Run}
 use Rattle.tables.specs.Layout.{token_slot, node_slot, proc_at, max_cells, max_arrays, max_procs, max_locals, max_path}
 use Rattle.tables.specs.Kept.{SameTokens}
 use Rattle.sheet.specs.Tables.{Words}
-use Rattle.sheet.specs.Held.{Holds, ArraysAt, RangesAt, BodyAt, Shallow}
+use Rattle.sheet.specs.Held.{Holds, ArraysAt, RangesAt, BodyAt}
 use Rattle.specification.specs.Lines.{procedure_of}
-use Rattle.search.specs.Marks.{InTable, Known, marks_in, Marks}
-use Rattle.tables.specs.Frames.{frame_slot, argument_slot, back_at, call_at, tags_at}
+use Rattle.search.specs.Marks.{marks_in, Marks}
+use Rattle.tables.specs.Frames.{argument_slot, back_at, call_at, tags_at}
 use Rattle.tables.specs.Layout.{last_at}
 use Rattle.tables.specs.Leaves.{Leaves, failure_place, success_place, error_place, kind_at, token_at}
 use Rattle.plan.specs.Next.{Next, back, place_of, Plain}
-use Rattle.plan.specs.Planned.{Line, FormulaPlanned}
+use Rattle.plan.specs.Planned.{FormulaPlanned}
 use Rattle.terms.specs.Environment.{Calls, Results, flag_of}
 use Rattle.search.specs.Store.{Call, Store}
 use Rattle.search.specs.Frame.{What, the, success, failure, error, Frame, here, below, len, top_of, site_in, store_in}

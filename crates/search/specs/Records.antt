@@ -1,7 +1,7 @@
 -- How the work words hold the path: a record for each frame that has something to do or to take back. Meaning is given by recursion on the frames,
 -- never on memory. Assumes nothing.
 use Rattle.std.specs.Prelude.{ℕ, suc, ◌+◌, ◌*◌, ◌≤◌, ◌<◌, ◌≡◌, Bool, true, false, List, [], ◌∷◌, length, get_or, ℤ, pos, ◌+ℤ◌}
-use Rattle.std.proofs.Math.Option.{Option, none, some as just}
+use Rattle.std.proofs.Math.Option.{some as just}
 use Rattle.specification.specs.Lines.{Declared}
 use Rattle.specification.specs.Ast.{Formula}
 use Rattle.specification.specs.Place.{Place, local}
@@ -12,9 +12,8 @@ use Rattle.tables.specs.Codes.{or_code, imp_code, not_code, some_code, all_code,
 use Rattle.sheet.specs.Tables.{Words}
 use Rattle.sheet.specs.Held.{code_at, end_at, operand_at, slot_of}
 use Rattle.terms.specs.Environment.{Environment, number_of}
-use Rattle.search.specs.Marks.{InTable, Known, marks_in, Marks}
+use Rattle.search.specs.Marks.{InTable, marks_in}
 use Rattle.tables.specs.Layout.{plan_at}
-use Rattle.tables.specs.Frames.{argument_slot}
 use Rattle.plan.specs.Next.{Next, place_of, Plain}
 use Rattle.terms.specs.Environment.{Calls, Results}
 use Rattle.search.specs.Stands.{Stands, Binds, LeftAfter}

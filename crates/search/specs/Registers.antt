@@ -1,5 +1,5 @@
 -- The registers, and the values that the functions of src/registers.rt make. Assumes nothing.
-use Rattle.std.specs.Prelude.{ℕ, ◌+◌, ◌-◌, ◌*◌, ◌≤◌, ◌<◌, min, ◌≡◌, eqb}
+use Rattle.std.specs.Prelude.{ℕ, ◌+◌, ◌-◌, ◌≤◌, ◌<◌, min, ◌≡◌, eqb}
 use Rattle.specification.specs.declared.Tallies.{Tallies}
 use Rattle.specification.specs.Bytes.{pick}
 use Rattle.specification.specs.Run.{tallies, add_node, add_answer, add_error, add_fail}

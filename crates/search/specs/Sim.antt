@@ -1,5 +1,5 @@
 -- The invariant of the search: what is left to visit gives the run's result. b are the bytes that the listing has so far. Assumes nothing.
-use Rattle.std.specs.Prelude.{ℕ, suc, ◌+◌, ◌<◌, ◌≡◌, Bool, false, List}
+use Rattle.std.specs.Prelude.{suc, ◌<◌, ◌≡◌, Bool, false, List}
 use Rattle.specification.specs.Bytes.{Bytes}
 use Rattle.specification.specs.Value.{Valuation}
 use Rattle.specification.specs.Tree.{Tree}

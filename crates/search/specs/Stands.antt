@@ -1,6 +1,6 @@
 -- A formula that stands in the tables with its plan, in an environment that says what its parameters stand for; the formula under a quantifier, and the
 -- values left to it. Assumes nothing.
-use Rattle.std.specs.Prelude.{ℕ, suc, ◌-◌, ◌≤◌, ◌<◌, ◌≡◌, [], ◌∷◌, T, ℤ, pos, ◌+ℤ◌}
+use Rattle.std.specs.Prelude.{ℕ, suc, ◌-◌, ◌≤◌, ◌<◌, ◌≡◌, T, ℤ, pos, ◌+ℤ◌}
 use Rattle.specification.specs.Lines.{Declared}
 use Rattle.specification.specs.Ast.{Formula}
 use Rattle.specification.specs.Fill.{fill}
@@ -11,7 +11,7 @@ use Rattle.sheet.specs.Tables.{Words}
 use Rattle.sheet.specs.Held.{end_at, LocalAt, FormulaAt, Shallow}
 use Rattle.terms.specs.Environment.{Environment, terms_of, number_of}
 use Rattle.tables.specs.Layout.{plan_at}
-use Rattle.plan.specs.Next.{Next, token, place_of}
+use Rattle.plan.specs.Next.{Next}
 use Rattle.plan.specs.Planned.{Line, FormulaPlanned}
 use Rattle.terms.specs.Environment.{pointer_of}
 

@@ -1,20 +1,18 @@
 -- The contracts of the functions that enter a node. A requires holds some world for safety; an ensures goes from the invariant before to the invariant
 -- after, in every world. Assumes nothing.
-use Rattle.std.specs.Prelude.{ℕ, suc, ◌+◌, ◌≤◌, ◌<◌, ◌≡◌, Bool, ◌⊎◌, List, ◌∷◌, get_or, eqb}
+use Rattle.std.specs.Prelude.{ℕ, suc, ◌+◌, ◌≤◌, ◌<◌, ◌≡◌, ◌⊎◌, List, ◌∷◌, get_or, eqb}
 use Rattle.specification.specs.Bytes.{Bytes, pick}
 use Rattle.specification.specs.Ast.{Term, Formula, truth, and, or, imp, neg, eq, compare, ex, some, all, call}
 use Rattle.specification.specs.Fill.{fill_term}
 use Rattle.specification.specs.Value.{Side, val, side}
-use Rattle.specification.specs.Tree.{step, check}
+use Rattle.specification.specs.Tree.{step}
 use Rattle.values.specs.Word.{signed}
 use Rattle.tables.specs.Codes.{eq_code, ge_code, some_code, all_code}
 use Rattle.sheet.specs.Tables.{Words}
 use Rattle.terms.specs.Environment.{Environment, terms_of}
 use Rattle.search.specs.declared.Go.{Go}
-use Rattle.tables.specs.Leaves.{error_place, return_code}
-use Rattle.plan.specs.Next.{Next, place_of}
-use Rattle.search.specs.Frame.{Item, form, What, the, error, site_in, store_in}
-use Rattle.search.specs.Pend.{Pend}
+use Rattle.tables.specs.Leaves.{return_code}
+use Rattle.search.specs.Frame.{Item, form, What, the, error, store_in}
 use Rattle.search.specs.Path.{World, Job}
 use Rattle.search.specs.Sim.{tree, son, In, Sim}
 use Rattle.search.specs.Registers.{tallied}

@@ -1,5 +1,5 @@
 -- The contracts of the functions that go up, beside those of search/specs/Climb. Assumes nothing.
-use Rattle.std.specs.Prelude.{ℕ, ◌+◌, ◌-◌, ◌*◌, ◌/◌, ◌%◌, ◌≤◌, ◌<◌, ◌≡◌, Bool, true, false, ◌⊎◌, List, set, leb, eqb}
+use Rattle.std.specs.Prelude.{ℕ, ◌+◌, ◌-◌, ◌/◌, ◌%◌, ◌≤◌, ◌<◌, ◌≡◌, Bool, true, false, ◌⊎◌, List, set, leb, eqb}
 use Rattle.specification.specs.Bytes.{Bytes, pick}
 use Rattle.specification.specs.Value.{Valuation}
 use Rattle.specification.specs.Run.{going}
@@ -11,8 +11,8 @@ use Rattle.search.specs.Frame.{Frame}
 use Rattle.search.specs.Records.{at, had_unit}
 use Rattle.search.specs.Path.{World, Path}
 use Rattle.search.specs.Sim.{Up, Yes, Sim}
-use Rattle.search.specs.Registers.{drop_go, Tallied}
-use Rattle.search.specs.Climb.{Set, Rises, Wins}
+use Rattle.search.specs.Registers.{drop_go}
+use Rattle.search.specs.Climb.{Set, Rises}
 use Rattle.search.specs.States.{up_mode}
 
 -- ---- the topmost record

@@ -1,5 +1,5 @@
 -- The contracts of the functions that enter a formula with two terms, by what these are. Assumes nothing.
-use Rattle.std.specs.Prelude.{ℕ, ◌+◌, ◌-◌, ◌/◌, ◌≤◌, ◌<◌, ◌≡◌, Bool, true, false, List, ◌∷◌, ◌⊎◌, length, get_or, ltb, eqb}
+use Rattle.std.specs.Prelude.{ℕ, ◌+◌, ◌-◌, ◌/◌, ◌≤◌, ◌<◌, ◌≡◌, Bool, true, false, List, ◌∷◌, ◌⊎◌, length, ltb, eqb}
 use Rattle.specification.specs.Bytes.{Bytes, pick}
 use Rattle.specification.specs.Ast.{Term, Formula}
 use Rattle.specification.specs.Fill.{fill_term}

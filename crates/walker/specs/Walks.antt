@@ -1,14 +1,14 @@
 -- The contracts of the walk from leaf to leaf: the search goes on, with nothing written. Assumes nothing.
-use Rattle.std.specs.Prelude.{ℕ, suc, ◌≤◌, ◌<◌, ◌≡◌}
+use Rattle.std.specs.Prelude.{◌≤◌, ◌<◌, ◌≡◌}
 use Rattle.specification.specs.Bytes.{Bytes}
 use Rattle.specification.specs.Run.{output, stopped}
 use Rattle.sheet.specs.Tables.{Words}
 use Rattle.search.specs.declared.Go.{Go}
 use Rattle.search.specs.Path.{World}
-use Rattle.search.specs.Sim.{Sim, Leaf, Over, Stopped}
+use Rattle.search.specs.Sim.{Leaf, Over, Stopped}
 use Rattle.search.specs.Registers.{tallied}
 use Rattle.search.specs.Climb.{Set}
-use Rattle.search.specs.States.{down_mode, up_mode, block_mode, done_mode, stopped_mode, full_mode}
+use Rattle.search.specs.States.{block_mode, done_mode, stopped_mode, full_mode}
 use Rattle.walker.specs.declared.State.{State}
 use Rattle.walker.specs.declared.Task.{Task}
 use Rattle.walker.specs.Loop.{Going}

@@ -7,7 +7,7 @@ use borrow.Author.Tests.{lt-ltb, le-ltb}
 use mathlib.Core.List.{List}
 use lib.ListN.{length}
 use lib.IntN.{ℤ, pos, negsuc}
-use Rattle.specification.specs.Lines.{Declared, cells, first_of, length_of}
+use Rattle.specification.specs.Lines.{Declared, first_of, length_of}
 use Rattle.specification.specs.Ast.{Term}
 use Rattle.specification.specs.Place.{cell}
 use Rattle.specification.specs.Value.{Valuation, val, bare, err, element_side}

@@ -1,16 +1,15 @@
 -- The step into an `imp` or a `not`, for both at once. Assumes nothing.
-use Prim.Native.Nat.{ℕ, ◌+◌, ◌<◌}
+use Prim.Native.Nat.{◌+◌, ◌<◌}
 use native.Mathlib.Omega.{arith}
 use mathlib.Core.Path.{◌≡◌}
 use mathlib.Core.List.{[], ◌∷◌}
 use mathlib.Core.Logic.{inl, inr}
-use Rattle.tables.specs.Codes.{imp_code, not_code}
 use Rattle.sheet.specs.Tables.{Words}
 use Rattle.search.specs.declared.Go.{Go}
 use Rattle.search.specs.Kept.{Pushes}
 use Rattle.search.specs.Registers.{down_go}
 use Rattle.search.specs.States.{inner_root}
-use Rattle.search.specs.Steps.{Visited, Entered, Stepped}
+use Rattle.search.specs.Steps.{Visited, Stepped}
 use Rattle.search.proofs.Heads.{at-form}
 use Rattle.search.proofs.Inner.{imp-down, not-down}
 use Rattle.walker.specs.Steps.{Asking}

@@ -1,7 +1,7 @@
 -- What the functions that take the topmost record back make of words and registers, from what they read. Assumes nothing.
 use Prim.Native.Nat.{ℕ, ◌+◌, ◌-◌, ◌/◌, ◌%◌, ◌≤◌}
 use native.Mathlib.Omega.{arith}
-use mathlib.Core.Path.{◌≡◌, refl, sym, ◌∙◌, ap}
+use mathlib.Core.Path.{◌≡◌, refl, ◌∙◌, ap}
 use lib.ListN.{set}
 use Rattle.tables.specs.Layout.{local_slot, last_slot, path_at}
 use Rattle.sheet.specs.Tables.{Words}

@@ -13,10 +13,9 @@ use Rattle.specification.specs.declared.Setting.{Setting}
 use Rattle.specification.specs.declared.Tallies.{Tallies}
 use Rattle.specification.specs.Bytes.{Bytes, pick}
 use Rattle.specification.specs.Value.{Valuation}
-use Rattle.specification.specs.Leaves.{answer, error}
 use Rattle.specification.specs.Listing.{block_of, block_text}
-use Rattle.specification.specs.Run.{tallies, add_node, add_answer, add_error, arrive, block, output, stopped}
-use Rattle.tables.specs.Leaves.{success_place, error_place, rise_place}
+use Rattle.specification.specs.Run.{tallies, add_answer, add_error, arrive, block, output, stopped}
+use Rattle.tables.specs.Leaves.{success_place}
 use Rattle.sheet.specs.Tables.{Words}
 use Rattle.listing.specs.declared.Head.{Head}
 use Rattle.listing.specs.declared.Written.{Written}
@@ -25,15 +24,14 @@ use Rattle.listing.specs.Model.{head_of}
 use Rattle.listing.specs.Block as blocks
 use Rattle.search.specs.declared.Go.{Go}
 use Rattle.search.specs.Walk as walks
-use Rattle.search.specs.Frame.{What, the, success, failure, error as error_what, inner_in, store_in}
+use Rattle.search.specs.Frame.{What, the, success, failure, error as error_what, store_in}
 use Rattle.search.specs.Path.{World, conditions_of, Job}
-use Rattle.search.specs.Sim.{yes, no, tree, Up, IsLeaf, Leaf}
+use Rattle.search.specs.Sim.{yes, no, tree, IsLeaf, Leaf}
 use Rattle.search.specs.Registers.{tallied, Tallied, leaf_go, rise_go, counted, node_tally, answer_tally, error_tally, max_word}
-use Rattle.search.specs.States.{down_mode, full_mode}
+use Rattle.search.specs.States.{down_mode}
 use Rattle.search.proofs.Gauges.{room-budget}
 use Rattle.walker.specs.declared.State.{State}
 use Rattle.walker.specs.declared.Task.{Task}
-use Rattle.walker.specs.Steps.{Visits}
 use Rattle.walker.specs.Loop.{rising, Going, goes}
 use Rattle.walker.specs.Walks.{Goes, starts, overflows}
 use Rattle.walker.specs.Blocks.{LeafDue, HeadDue, head_due, visited_leaf, passed_tallies, passed_go, full_go, Output, Fixed, BlockDue, Wrote, Blocked}

@@ -2,22 +2,19 @@
 -- head is set. Assumes nothing.
 use Prim.Native.Nat.{ℕ, suc, ◌+◌, ◌-◌, ◌*◌, ◌/◌, ◌<◌, ◌≤◌}
 use native.Mathlib.Omega.{arith}
-use mathlib.Core.Path.{◌≡◌, refl, sym, ◌∙◌, ap}
-use mathlib.Core.List.{List, [], ◌∷◌}
+use mathlib.Core.Path.{◌≡◌, ◌∙◌, ap}
+use mathlib.Core.List.{[], ◌∷◌}
 use mathlib.Core.Logic.{◌⊎◌, inl, inr}
-use lib.ListN.{length, get_or, set}
+use lib.ListN.{length, get_or}
 use Rattle.specification.specs.Bytes.{Bytes}
 use Rattle.specification.specs.Value.{Valuation}
 use Rattle.tables.specs.Layout.{token_slot, proc_slot, proc_at, path_at, dues_at, opens_at, max_tokens, max_procs, max_parameters}
 use Rattle.tables.specs.Codes.{call_code, procedure_code}
-use Rattle.tables.specs.Frames.{frames_at, frame_words, frame_slot, argument_slot, call_at, back_at, tags_at}
+use Rattle.tables.specs.Frames.{frames_at, frame_words, frame_slot, argument_slot, tags_at}
 use Rattle.tables.specs.Kept.{SameTokens}
 use Rattle.sheet.specs.Tables.{Words}
-use Rattle.plan.specs.Next.{place_of}
-use Rattle.plan.specs.Planned.{ArgumentsPlanned}
 use Rattle.plan.proofs.Laws.Carried.{arguments-planned-same}
 use Rattle.terms.specs.Environment.{Environment, number_of, pointer_of, Results, flag_of, Memory}
-use Rattle.terms.specs.Results as results
 use Rattle.terms.specs.Calls.{Fresh, Settles, Settled, level_of, Call, Arrives, Arrived}
 use Rattle.terms.proofs.Laws.Here.{token-ends, code_here, operand-kept, call-here}
 use Rattle.search.specs.declared.Go.{Go}
@@ -37,7 +34,7 @@ use Rattle.walker.specs.Frames.{Saves, Saved, Returns}
 use Rattle.walker.proofs.Laws.Memory.{memory-in}
 use Rattle.terms.proofs.Laws.Environment.{memory-same, memory_kept}
 use Rattle.terms.proofs.Laws.Entered.{entered-results, entered-flags}
-use Rattle.walker.proofs.Laws.Headed.{Headed, headed}
+use Rattle.walker.proofs.Laws.Headed.{Headed}
 
 -- what is due stands before the path
 place-low : {c : World} {w : Words} {σ : Store} {α : Valuation} {due : ℕ} (x : What) → Head c σ α due w x → due + 3 < path_at

@@ -1,40 +1,33 @@
 -- What is due: the node or leaf that is visited, going up, and the end of a procedure's formula, which leads to what comes after its call; which codes
 -- there are, and that each turn of the loop leaves fewer. Assumes nothing.
-use Prim.Native.Nat.{ℕ, suc, ◌+◌, ◌-◌, ◌*◌, ◌≤◌, ◌<◌}
+use Prim.Native.Nat.{ℕ, ◌≤◌, ◌<◌}
 use native.Mathlib.Omega.{arith}
-use mathlib.Core.Path.{◌≡◌, refl, sym, ◌∙◌, ap, subst}
+use mathlib.Core.Path.{◌≡◌, refl, sym, ◌∙◌, ap}
 use mathlib.Core.Bool.{Bool, true, false}
 use mathlib.Core.Logic.{◌⊎◌, inl, inr}
-use mathlib.Core.List.{List, [], ◌∷◌}
-use mathlib.Core.Option.{Option, none, some as just}
-use lib.ListN.{length, get_or}
+use mathlib.Core.List.{[], ◌∷◌}
+use lib.ListN.{get_or}
 use lib.Dec.{ltb, eqb, leb}
-use borrow.Author.Tests.{ltb-true, ltb-false, eqb-true, eqb-false, leb-true, leb-false, eq-eqb, ne_eqb, lt-ltb, le-ltb}
+use borrow.Author.Tests.{eqb-true, eqb-false, leb-true, leb-false, eq-eqb, ne_eqb}
 use Rattle.specification.specs.Bytes.{Bytes, pick}
-use Rattle.specification.specs.Lines.{Declared}
 use Rattle.specification.specs.Value.{Valuation}
-use Rattle.tables.specs.Layout.{token_slot, lasts_at, max_tokens, max_procs}
-use Rattle.tables.specs.Codes.{true_code, and_code, or_code, imp_code, not_code, ex_code, call_code, local_code, eq_code, ge_code, some_code, all_code}
+use Rattle.tables.specs.Layout.{token_slot, lasts_at}
+use Rattle.tables.specs.Codes.{not_code, ex_code, call_code, local_code, ge_code, some_code}
 use Rattle.tables.specs.Frames.{frames_at, frame_slot}
-use Rattle.tables.specs.Leaves.{end_place, success_place, failure_place, error_place, rise_place, empty_code, success_code, failure_code, error_code, return_code, rise_code}
+use Rattle.tables.specs.Leaves.{end_place, success_place, failure_place, error_place, rise_place, success_code, failure_code, error_code, return_code, rise_code}
 use Rattle.sheet.specs.Tables.{Words}
-use Rattle.plan.specs.Next.{Next, end, token, back, place_of, Plain}
 use Rattle.search.specs.declared.Go.{Go}
-use Rattle.search.specs.Frame.{Item, form, again, What, the, success, failure, error, site_in, store_in}
-use Rattle.search.specs.Store.{Call, Store, resolve, back_of}
-use Rattle.search.specs.Pend.{Pend}
-use Rattle.search.specs.Path.{World, Job}
-use Rattle.specification.proofs.Laws.Contradiction.{contradiction}
+use Rattle.search.specs.Frame.{form, again, What, the, success, failure, error, store_in}
+use Rattle.search.specs.Store.{Store}
+use Rattle.search.specs.Path.{World}
 use Rattle.search.specs.Sim.{Down, In, Up, Sim, down, up, block, done, stopped}
-use Rattle.search.specs.Registers.{tallied, to_go, out_go}
-use Rattle.search.specs.Climb.{Set}
-use Rattle.search.specs.Steps.{Visited, Entered, Stepped, HasTerms}
+use Rattle.search.specs.Steps.{Stepped, HasTerms}
 use Rattle.search.specs.States.{down_mode, up_mode}
 use Rattle.terms.proofs.Laws.Here.{code_here}
 use Rattle.search.proofs.ByCode.{code-range}
-use Rattle.search.proofs.Heads.{Head, here, head, at_return}
+use Rattle.search.proofs.Heads.{Head, here, head}
 use Rattle.search.proofs.Gauges.{room-budget}
-use Rattle.walker.specs.Loop.{Due, visit, rising, Dues, pending_at, pending, measure, Came}
+use Rattle.walker.specs.Loop.{Due, visit, rising, Dues, pending_at, pending, Came}
 
 -- ---- places
 

@@ -1,11 +1,10 @@
 -- An inner tree has succeeded: the node that asked for it is on the path, so a record is there until its own is reached. It is told by a world whose
 -- budget is spent, in which that node's son stops the run. Assumes nothing.
-use Prim.Native.Nat.{ℕ, suc, ◌+◌, ◌-◌, ◌≤◌, ◌<◌}
+use Prim.Native.Nat.{ℕ}
 use native.Mathlib.Omega.{arith}
-use mathlib.Core.Path.{◌≡◌, refl, sym, ◌∙◌, ap, subst}
-use mathlib.Core.Bool.{Bool, true, false}
+use mathlib.Core.Path.{◌≡◌, refl, sym, ◌∙◌, ap}
+use mathlib.Core.Bool.{true}
 use mathlib.Core.List.{List, [], ◌∷◌}
-use lib.Dec.{eqb}
 use borrow.Author.Tests.{eq-eqb}
 use Rattle.specification.specs.declared.Tallies.{Tallies}
 use Rattle.specification.specs.Bytes.{Bytes}
@@ -13,15 +12,13 @@ use Rattle.specification.specs.Value.{Valuation}
 use Rattle.specification.specs.Run.{Conditions, setting, add_node, spent, Run, going, stopped}
 use Rattle.specification.proofs.Laws.Contradiction.{contradiction}
 use Rattle.tables.specs.Layout.{path_at}
-use Rattle.tables.specs.Leaves.{success_code}
 use Rattle.sheet.specs.Tables.{Words}
 use Rattle.search.specs.declared.Go.{Go}
-use Rattle.search.specs.Walk.{Next, gated, within}
-use Rattle.search.specs.Frame.{Frame, pass, other, bound, began, given, range, asks, called, len, top_of, inner_in, site_in}
+use Rattle.search.specs.Walk.{Next, gated}
+use Rattle.search.specs.Frame.{Frame, pass, other, bound, began, given, range, asks, called, top_of, inner_in}
 use Rattle.search.specs.Path.{World, conditions_of, Path}
-use Rattle.search.specs.Registers.{tallied, Tallied, leaf_go}
+use Rattle.search.specs.Registers.{tallied, leaf_go}
 use Rattle.search.specs.Sim.{yes, In, Yes}
-use Rattle.search.specs.Steps.{Entered}
 use Rattle.search.specs.Climb.{strip, Wins, Fell}
 use Rattle.search.specs.States.{main_tree}
 use Rattle.search.proofs.RecordsKept.{top-low}

@@ -1,18 +1,18 @@
 -- The loop: a turn is a visit, going up and the limit; what is due after it, and that fewer turns are left. Assumes nothing.
 use Prim.Native.Nat.{ℕ, suc, ◌+◌, ◌-◌, ◌*◌, ◌≤◌, ◌<◌}
 use native.Mathlib.Omega.{arith}
-use mathlib.Core.Path.{◌≡◌, refl, sym, ◌∙◌, ap, subst}
+use mathlib.Core.Path.{◌≡◌, refl, sym, ◌∙◌, ap}
 use mathlib.Core.Bool.{Bool, true, false}
 use mathlib.Core.Logic.{◌⊎◌, inl, inr}
 use lib.ListN.{get_or}
-use lib.Dec.{ltb, eqb}
+use lib.Dec.{eqb}
 use borrow.Author.Tests.{eq-eqb, ne_eqb, eqb-true, eqb-false}
 use Rattle.specification.specs.Bytes.{Bytes, pick}
-use Rattle.tables.specs.Leaves.{rise_place, rise_code}
+use Rattle.tables.specs.Leaves.{rise_code}
 use Rattle.sheet.specs.Tables.{Words}
 use Rattle.search.specs.declared.Go.{Go}
 use Rattle.search.specs.Path.{World}
-use Rattle.search.specs.Sim.{Down, In, Up, Sim, down, up, block, done, stopped}
+use Rattle.search.specs.Sim.{Down, Up, Sim, up, stopped}
 use Rattle.search.specs.Registers.{tallied, out_go}
 use Rattle.search.specs.Climb.{Set, Rises}
 use Rattle.search.specs.States.{down_mode, up_mode, stopped_mode}
@@ -20,7 +20,7 @@ use Rattle.search.proofs.Gauges.{room-budget}
 use Rattle.search.proofs.Visits.{down-in}
 use Rattle.walker.specs.Steps.{SteppedWithin}
 use Rattle.walker.specs.Climbing.{Climbed}
-use Rattle.walker.specs.Loop.{Due, visit, rising, Dues, pending_at, pending, measure, Came, Simulates, Risen, limit, Turned, Going, goes, left, Advanced}
+use Rattle.walker.specs.Loop.{Due, visit, rising, Dues, pending, measure, Came, Simulates, Risen, limit, Turned, Going, goes, left}
 use Rattle.walker.proofs.Laws.Due.{not-rise, sim-up, sim-down, down-place, due_in, due-up, pending-most, pending-up, pending-down, pending-rise}
 
 -- ---- visits with the limits, and the way up

@@ -1,18 +1,14 @@
 -- The words of a path hold what terms are valued from: the valuation, the arrays, and each environment whose calls are the store's. Assumes nothing.
-use Prim.Native.Nat.{ℕ, suc, ◌+◌, ◌<◌}
+use Prim.Native.Nat.{ℕ}
 use native.Mathlib.Omega.{arith}
-use mathlib.Core.Path.{◌≡◌, refl, sym, ◌∙◌}
+use mathlib.Core.Path.{refl}
 use mathlib.Core.List.{List, [], ◌∷◌}
-use mathlib.Core.Option.{some as just}
-use lib.ListN.{get_or}
-use Rattle.specification.specs.Lines.{Declared}
 use Rattle.specification.specs.Value.{Valuation}
-use Rattle.tables.specs.Layout.{token_slot, plan_at, max_tokens}
 use Rattle.tables.specs.Kept.{SameTokens}
 use Rattle.sheet.specs.Tables.{Words}
-use Rattle.terms.specs.Environment.{Level, Environment, pointer_of, Calls, LevelAt, EnvAt, Memory}
+use Rattle.terms.specs.Environment.{Environment, pointer_of, LevelAt, EnvAt, Memory}
 use Rattle.terms.proofs.Laws.Here.{calls-here}
-use Rattle.search.specs.Store.{Call, Store, Active, EnvIn}
+use Rattle.search.specs.Store.{Call, Store, EnvIn}
 use Rattle.search.specs.Frame.{Frame, store_in}
 use Rattle.search.specs.Path.{World, Framed, Stored, Path}
 

@@ -1,32 +1,31 @@
 -- Where the words of the topmost record lie, and which token and local they name, by the record's last word. Assumes nothing.
-use Prim.Native.Nat.{ℕ, suc, ◌+◌, ◌-◌, ◌*◌, ◌/◌, ◌%◌, ◌≤◌, ◌<◌}
+use Prim.Native.Nat.{ℕ, suc, ◌+◌, ◌-◌, ◌*◌, ◌%◌, ◌≤◌, ◌<◌}
 use native.Mathlib.Omega.{arith}
-use mathlib.Core.Path.{◌≡◌, refl, sym, ◌∙◌, ap}
-use mathlib.Core.Bool.{Bool}
-use mathlib.Core.List.{List, [], ◌∷◌}
+use mathlib.Core.Path.{◌≡◌, refl, ◌∙◌, ap}
+use mathlib.Core.List.{List, ◌∷◌}
 use mathlib.Core.Logic.{◌⊎◌, inl, inr}
-use lib.ListN.{length, get_or}
+use lib.ListN.{length}
 use Rattle.specification.specs.Place.{Place, local}
 use Rattle.specification.specs.Value.{Valuation}
-use Rattle.tables.specs.Layout.{cells_at, token_slot, path_at, max_locals, max_tokens}
+use Rattle.tables.specs.Layout.{cells_at, token_slot, path_at, max_locals}
 use Rattle.tables.specs.Codes.{or_code, imp_code, not_code, some_code, all_code}
 use Rattle.sheet.specs.Tables.{Words}
 use Rattle.sheet.specs.Held.{slot_of}
 use Rattle.terms.proofs.Laws.Here.{operand-here}
 use Rattle.search.specs.declared.Go.{Go}
-use Rattle.search.specs.Frame.{Frame, len, size_of, top_of, site_in}
+use Rattle.search.specs.Frame.{Frame, size_of, top_of, site_in}
 use Rattle.search.specs.Records.{at, had_unit, SlotRecord}
 use Rattle.search.specs.Path.{World, Path}
-use Rattle.search.specs.Climb.{strip, Set, Rises}
+use Rattle.search.specs.Climb.{Rises}
 use Rattle.search.proofs.RecordsKept.{top-low}
 use Rattle.search.proofs.Sites.{site-depth}
 use Rattle.search.proofs.Slots.{in_table}
 use Rattle.search.proofs.Paths.{top-few}
 use Rattle.search.proofs.Stripped.{Strip, stripped}
 use Rattle.search.proofs.Tops.{top-undo, top-other, top-some, top-all, top-asks}
-use Rattle.search.proofs.NextValue.{some-token, some-depth, some-local}
+use Rattle.search.proofs.NextValue.{some-depth, some-local}
 use Rattle.search.proofs.Judged.{ask-token}
-use Rattle.walker.specs.Climbing.{Topped, KeepsSlot, OfCode, OfAsking, RisesFrom, RisesTo}
+use Rattle.walker.specs.Climbing.{Topped, KeepsSlot, OfCode, OfAsking, RisesTo}
 
 -- ---- a record of n words
 

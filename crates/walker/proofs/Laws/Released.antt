@@ -1,12 +1,9 @@
 -- Going up after an inner tree has succeeded: the laws of `search`, from what the functions read. Assumes nothing.
-use Prim.Native.Nat.{ℕ, ◌+◌, ◌-◌, ◌≤◌, ◌<◌}
-use native.Mathlib.Omega.{arith}
+use Prim.Native.Nat.{ℕ, ◌-◌, ◌≤◌, ◌<◌}
 use mathlib.Core.Path.{◌≡◌, refl, sym, ◌∙◌, ap}
-use mathlib.Core.Bool.{Bool, true, false}
-use mathlib.Core.Logic.{◌⊎◌, inl, inr}
-use lib.ListN.{length}
+use mathlib.Core.Bool.{true, false}
 use Rattle.specification.specs.Bytes.{Bytes}
-use Rattle.tables.specs.Layout.{cells_at, path_at}
+use Rattle.tables.specs.Layout.{cells_at}
 use Rattle.tables.specs.Codes.{or_code, some_code, all_code, call_code}
 use Rattle.sheet.specs.Tables.{Words}
 use Rattle.search.specs.declared.Go.{Go}
@@ -20,9 +17,8 @@ use Rattle.search.proofs.Resumed.{fell-other}
 use Rattle.search.proofs.NextValue.{fell-closed}
 use Rattle.search.proofs.EndAll.{fell-ended}
 use Rattle.search.proofs.Leave.{fell-left}
-use Rattle.walker.specs.Climbing.{Topped, KeepsSlot, OfCode, OfAsking, Undone, Closed, Ended, WinsInside, asking, Releases, WinsFrom, Unwound}
+use Rattle.walker.specs.Climbing.{KeepsSlot, OfCode, Undone, Closed, Ended, WinsInside, asking, Releases, WinsFrom, Unwound}
 use Rattle.walker.specs.Frames.{Left}
-use Rattle.walker.proofs.Laws.Reach.{top-reach}
 use Rattle.walker.proofs.Laws.Inside.{wins, wins-top, wins-fell}
 use Rattle.walker.proofs.Laws.AskingTest.{asking-yes, asking-no}
 use Rattle.walker.proofs.Laws.Risen.{top-codes, only-call, asking-of, lasts-set, last-there}

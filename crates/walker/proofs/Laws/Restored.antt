@@ -1,15 +1,15 @@
 -- The frame of a procedure comes back from a call's record, which is the topmost. Assumes nothing.
-use Prim.Native.Nat.{ℕ, suc, ◌+◌, ◌-◌, ◌*◌, ◌<◌, ◌≤◌}
+use Prim.Native.Nat.{ℕ, suc, ◌+◌, ◌-◌, ◌<◌, ◌≤◌}
 use native.Mathlib.Omega.{arith}
-use mathlib.Core.Path.{◌≡◌, refl, sym, ◌∙◌, ap}
+use mathlib.Core.Path.{◌≡◌, refl, ◌∙◌, ap}
 use mathlib.Core.List.{List, ◌∷◌}
 use mathlib.Core.Logic.{◌⊎◌, inl, inr}
 use mathlib.Core.Option.{some as just}
 use lib.ListN.{length, get_or, set}
 use Rattle.specification.specs.Value.{Valuation}
-use Rattle.tables.specs.Layout.{cells_at, token_slot, path_at, max_procs, max_tokens}
+use Rattle.tables.specs.Layout.{cells_at, token_slot, path_at}
 use Rattle.tables.specs.Codes.{call_code, procedure_code}
-use Rattle.tables.specs.Frames.{frame_words, frame_slot, argument_slot, tags_at, back_at, call_at}
+use Rattle.tables.specs.Frames.{frame_words, frame_slot, argument_slot, tags_at}
 use Rattle.sheet.specs.Tables.{Words}
 use Rattle.terms.specs.Environment.{flag_of}
 use Rattle.terms.proofs.Laws.Here.{code_here}
@@ -27,7 +27,7 @@ use Rattle.search.proofs.Stripped.{stripped}
 use Rattle.search.proofs.Tops.{top-call}
 use Rattle.search.proofs.Leave.{call-number, call-width}
 use Rattle.walker.specs.Climbing.{OfCode}
-use Rattle.walker.specs.Frames.{Filled, Flagged, Refilled, Slots, Refills, Reflags, Restores, top_number, top_width, Left}
+use Rattle.walker.specs.Frames.{Flagged, Refilled, Slots, Refills, Reflags, Restores, top_number, top_width, Left}
 use Rattle.walker.proofs.Laws.Headed.{Headed, headed}
 
 -- where the set is the frame's own, the first words are right already

@@ -1,31 +1,29 @@
 -- The end of a procedure's formula, which is no node: what comes after the call is due, and the loop turns once for it. Assumes nothing.
-use Prim.Native.Nat.{ℕ, suc, ◌+◌, ◌-◌, ◌*◌, ◌≤◌, ◌<◌}
+use Prim.Native.Nat.{ℕ, suc, ◌+◌, ◌<◌}
 use native.Mathlib.Omega.{arith}
 use mathlib.Core.Path.{◌≡◌, refl, sym, ◌∙◌, ap, subst}
 use mathlib.Core.List.{List, [], ◌∷◌}
 use lib.ListN.{get_or}
-use lib.Dec.{ltb, eqb}
 use borrow.Author.Tests.{ne_eqb, lt-ltb, le-ltb}
-use Rattle.specification.specs.Bytes.{Bytes, pick}
+use Rattle.specification.specs.Bytes.{Bytes}
 use Rattle.specification.specs.Lines.{Declared}
 use Rattle.specification.specs.Value.{Valuation}
-use Rattle.tables.specs.Layout.{token_slot, lasts_at, max_tokens, max_procs}
+use Rattle.tables.specs.Layout.{token_slot, lasts_at}
 use Rattle.tables.specs.Frames.{frames_at, frame_slot}
-use Rattle.tables.specs.Leaves.{end_place, rise_place, return_code, rise_code}
+use Rattle.tables.specs.Leaves.{rise_place, return_code, rise_code}
 use Rattle.sheet.specs.Tables.{Words}
-use Rattle.plan.specs.Next.{Next, end, token, back, place_of, From, Plain}
+use Rattle.plan.specs.Next.{Next, back, place_of, From}
 use Rattle.search.specs.declared.Go.{Go}
-use Rattle.search.specs.Frame.{Item, form, again, What, the, site_in, store_in}
+use Rattle.search.specs.Frame.{Item, form, again, store_in}
 use Rattle.search.specs.Store.{Store, resolve}
 use Rattle.search.specs.Pend.{Pend}
 use Rattle.search.specs.Path.{World, Job}
-use Rattle.search.specs.Sim.{Down, In, Sim, down}
-use Rattle.search.specs.Registers.{tallied, Gauge, to_go}
-use Rattle.search.specs.States.{down_mode, up_mode}
+use Rattle.search.specs.Sim.{Down, In, down}
+use Rattle.search.specs.Registers.{to_go}
 use Rattle.search.proofs.Heads.{Return, at_return}
 use Rattle.search.proofs.Called.{pend-plain, frame_back}
 use Rattle.search.proofs.Visits.{in-at}
-use Rattle.walker.specs.Loop.{Due, Dues, pending_at, pending, measure, Came}
+use Rattle.walker.specs.Loop.{Dues, pending_at, Came}
 use Rattle.walker.proofs.Laws.Due.{due_in, down-pending}
 
 -- ---- what a procedure's end leads to stands for the same items

@@ -5,14 +5,14 @@ use mathlib.Core.Path.{◌≡◌, refl, sym, ◌∙◌, ap}
 use mathlib.Core.Bool.{Bool, true, false}
 use mathlib.Core.List.{List, [], ◌∷◌}
 use mathlib.Core.Logic.{◌⊎◌, inl, inr}
-use lib.ListN.{length, get_or, set, length-set}
+use lib.ListN.{length, set, length-set}
 use lib.Dec.{eqb}
 use borrow.Author.Tests.{eq-eqb, eqb-true}
 use lib.Seq.{get_or-set_same, get_or-set_other}
 use Rattle.specification.specs.Bytes.{Bytes}
 use Rattle.specification.specs.Arithmetic.{undecided_inside}
 use Rattle.specification.specs.Value.{Valuation}
-use Rattle.tables.specs.Layout.{cells_at, local_slot, last_slot, path_at, max_locals}
+use Rattle.tables.specs.Layout.{cells_at, local_slot, last_slot, path_at}
 use Rattle.tables.specs.Codes.{or_code, imp_code, not_code, some_code, all_code, call_code}
 use Rattle.tables.specs.Leaves.{failure_place, error_place}
 use Rattle.sheet.specs.Tables.{Words}
@@ -21,8 +21,8 @@ use Rattle.search.specs.Frame.{Frame, pass, other, bound, began, given, range, a
 use Rattle.search.specs.Kept.{Lasts}
 use Rattle.search.specs.Records.{at}
 use Rattle.search.specs.Path.{World, Path}
-use Rattle.search.specs.Registers.{Tallied, out_go, drop_go, resume_go}
-use Rattle.search.specs.Sim.{Up, Yes, Sim, down, up, block, done, stopped}
+use Rattle.search.specs.Registers.{Tallied, out_go, resume_go}
+use Rattle.search.specs.Sim.{Up, Sim, down, up, block, done, stopped}
 use Rattle.search.specs.Climb.{around_go, strip, Set, Rises, Rose, Granted}
 use Rattle.search.specs.States.{up_mode, done_mode}
 use Rattle.search.proofs.Tops.{last-kind}
@@ -34,7 +34,7 @@ use Rattle.search.proofs.Leave.{rose-left}
 use Rattle.search.proofs.Judged.{rose-failed, rose-undecided, granted-second, granted-failure}
 use Rattle.walker.specs.Climbing.{Topped, KeepsSlot, OfCode, OfAsking, Undone, Closed, Ended, RisesFrom, RisesTo, Arounds, Judges, Grants, Climbed}
 use Rattle.walker.specs.Frames.{Left}
-use Rattle.walker.proofs.Laws.Reach.{bare, asks-path, asks-lies, all-lies, rises-top, rises-code}
+use Rattle.walker.proofs.Laws.Reach.{bare, asks-path, all-lies, rises-top, rises-code}
 
 -- ---- the code of a topmost record's token
 

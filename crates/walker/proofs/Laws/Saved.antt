@@ -1,12 +1,11 @@
 -- The record of a call that is entered, and where its procedure returns to. Assumes nothing.
-use Prim.Native.Nat.{ℕ, ◌+◌, ◌<◌, ◌≤◌}
+use Prim.Native.Nat.{ℕ, ◌+◌, ◌<◌}
 use native.Mathlib.Omega.{arith}
 use mathlib.Core.Path.{◌≡◌, refl, sym, ◌∙◌, ap}
 use mathlib.Core.List.{[], ◌∷◌}
-use lib.ListN.{length, get_or}
+use lib.ListN.{get_or}
 use borrow.Author.Tests.{eq-eqb, ne_eqb}
-use Rattle.tables.specs.Layout.{path_at}
-use Rattle.tables.specs.Frames.{frame_slot, argument_slot, call_at, back_at, tags_at}
+use Rattle.tables.specs.Frames.{frame_slot, call_at, back_at, tags_at}
 use Rattle.tables.specs.Leaves.{return_code}
 use Rattle.sheet.specs.Tables.{Words}
 use Rattle.search.specs.Kept.{Pushes}

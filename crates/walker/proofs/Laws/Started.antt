@@ -1,27 +1,25 @@
 -- The plan of the tables, the start of the walk, the leaves that it comes to and its end. Assumes nothing.
-use Prim.Native.Nat.{ℕ, suc, ◌+◌, ◌-◌, ◌*◌, ◌≤◌, ◌<◌, min}
+use Prim.Native.Nat.{ℕ, suc, ◌-◌, ◌≤◌, ◌<◌}
 use native.Mathlib.Omega.{arith}
 use native.Mathlib.Numerals.{add-one}
 use mathlib.Core.Path.{◌≡◌, refl, sym, ap, ◌∙◌, subst}
 use mathlib.Core.Bool.{Bool, true, false}
 use mathlib.Core.List.{[], ◌∷◌, ◌++◌}
-use mathlib.Core.Option.{Option, none, some as just}
-use lib.ListN.{length, drop, get_or}
-use lib.Dec.{eqb, ltb}
+use lib.ListN.{length, drop}
+use lib.Dec.{eqb}
 use borrow.Author.Tests.{eq-eqb, ne_eqb, eqb-true, eqb-false, lt-ltb}
 use Rattle.specification.specs.declared.End.{End}
 use Rattle.specification.specs.declared.Tallies.{Tallies}
 use Rattle.specification.specs.declared.Outcome.TheVariants.{Ran}
 use Rattle.specification.specs.Bytes.{Bytes, pick}
 use Rattle.specification.specs.Sheet.{Sheet}
-use Rattle.specification.specs.Lines.{procedure_of}
 use Rattle.specification.specs.Place.{cell, local}
 use Rattle.specification.specs.WellFormed.{nowhere}
 use Rattle.specification.specs.Run.{Conditions, conditions, tallies, going, stopped, spent, path, output}
 use Rattle.specification.specs.Outcome.{ran, result_of, start, run_of, output_after}
 use Rattle.specification.proofs.Laws.Start.{start-valid}
 use Rattle.specification.proofs.Laws.Contradiction.{contradiction}
-use Rattle.tables.specs.Layout.{max_tokens, token_slot, path_at}
+use Rattle.tables.specs.Layout.{max_tokens, token_slot}
 use Rattle.sheet.specs.Tables.{Words}
 use Rattle.sheet.specs.Held.{proc_at, end_at, InOrder}
 use Rattle.sheet.proofs.Ranged.{ranges-keep}

@@ -1,12 +1,12 @@
 -- A formula whose terms their plan does not tell: its tokens, what the full evaluation is asked of them, and what it says. Assumes nothing.
-use Prim.Native.Nat.{ℕ, suc, ◌+◌, ◌-◌, ◌/◌, ◌≤◌, ◌<◌}
+use Prim.Native.Nat.{ℕ, suc, ◌+◌, ◌/◌, ◌≤◌, ◌<◌}
 use native.Mathlib.Omega.{arith}
 use native.Mathlib.Numerals.{add-one}
 use mathlib.Core.Path.{◌≡◌, refl, sym, ◌∙◌, ap, subst}
 use mathlib.Core.Bool.{Bool, true, false}
 use mathlib.Core.List.{[]}
 use mathlib.Core.Logic.{inl, inr}
-use lib.ListN.{length, get_or}
+use lib.ListN.{length}
 use lib.Dec.{ltb}
 use borrow.Author.Tests.{ltb-true, ltb-false, lt-ltb, le-ltb}
 use Rattle.specification.specs.Bytes.{Bytes}
@@ -24,11 +24,11 @@ use Rattle.terms.proofs.Laws.Here as kept
 use Rattle.search.specs.declared.Go.{Go}
 use Rattle.search.specs.Path.{World}
 use Rattle.search.specs.Sim.{In}
-use Rattle.search.specs.Steps.{Entered, Stepped, HasTerms}
+use Rattle.search.specs.Steps.{Entered, HasTerms}
 use Rattle.walker.specs.Terms.{Knows, Decides, first_term, end_of_terms, Searches, NoneIn, Found}
 use Rattle.walker.proofs.Laws.Terms.{Spans, TermsHere, terms-here, each}
 use Rattle.walker.proofs.Laws.Told.{both-here, spans-after}
-use Rattle.walker.proofs.Laws.Spare.{kept_back, in-spare, entered-spare, stepped-spare}
+use Rattle.walker.proofs.Laws.Spare.{kept_back, in-spare, entered-spare}
 use Rattle.walker.proofs.Laws.Parameters.{no-parameter, ParameterAt, either, parameter-at, one-procedure}
 
 -- one token more without a parameter

@@ -1,10 +1,10 @@
 -- A visit by the code of what is due: what each function asks, and what it makes of the loop. Assumes nothing.
-use Prim.Native.Nat.{ℕ, suc, ◌+◌, ◌≤◌, ◌<◌}
+use Prim.Native.Nat.{ℕ, ◌+◌, ◌<◌}
 use native.Mathlib.Omega.{arith}
 use mathlib.Core.Path.{◌≡◌, sym, ◌∙◌}
 use lib.ListN.{length, get_or}
 use Rattle.tables.specs.Codes.{true_code, and_code, or_code, imp_code, not_code, ex_code, call_code, local_code}
-use Rattle.tables.specs.Leaves.{rise_place, empty_code, success_code, failure_code, error_code, return_code, rise_code}
+use Rattle.tables.specs.Leaves.{empty_code, success_code, failure_code, error_code, return_code, rise_code}
 use Rattle.sheet.specs.Tables.{Words}
 use Rattle.search.specs.declared.Go.{Go}
 use Rattle.search.specs.Steps.{Entered, Stepped, HasTerms}

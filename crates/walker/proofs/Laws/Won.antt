@@ -1,9 +1,8 @@
 -- A success leaf: in the main tree it has a block; in an inner tree the records above that of the node that asked go, and that node's son is due.
 -- Assumes nothing.
-use Prim.Native.Nat.{ℕ, suc, ◌+◌, ◌-◌, ◌≤◌}
+use Prim.Native.Nat.{ℕ, suc}
 use native.Mathlib.Omega.{arith}
-use mathlib.Core.Path.{◌≡◌, refl, sym, ◌∙◌, ap, subst}
-use lib.ListN.{get_or}
+use mathlib.Core.Path.{◌≡◌, sym, ◌∙◌, ap, subst}
 use Rattle.specification.specs.Bytes.{Bytes}
 use Rattle.specification.specs.declared.Tallies.{Tallies}
 use Rattle.specification.specs.Run.{add_node}
@@ -13,7 +12,7 @@ use Rattle.search.specs.declared.Go.{Go}
 use Rattle.search.specs.Path.{World}
 use Rattle.search.specs.Sim.{In, Yes, down}
 use Rattle.search.specs.Registers.{tallied, leaf_go, out_go}
-use Rattle.search.specs.Climb.{Set, Granted}
+use Rattle.search.specs.Climb.{Granted}
 use Rattle.search.specs.Steps.{Entered, Stepped}
 use Rattle.search.specs.States.{main_tree, won_mode, block_mode}
 use Rattle.search.proofs.LeafSteps.{answers, inner-won}

@@ -1,5 +1,4 @@
 -- `arguments::arguments` meets its contract. The invariant: the arguments passed have their slots. The measure: the tokens left. Assumes nothing.
-use Prim.Native.Nat.{◌-◌}
 use native.Mathlib.Omega.{arith}
 use native.Mathlib.Numerals.{add-one}
 use Rattle.terms.proofs.Laws.Filling.{filling-start, filling-few, filling-token, filling-argues, filling-next, filling-end}

@@ -1,5 +1,4 @@
 -- `calls::active` meets its contract. The invariant: n calls are passed. The measure: how many more there can be. Assumes nothing.
-use Prim.Native.Nat.{◌-◌}
 use native.Mathlib.Omega.{arith}
 use Rattle.terms.proofs.Laws.Chain.{passing-start, passing-asks, passing-few, passing-next, passing-end}
 use Rattle.terms.proofs.calls.active.Goals as goal

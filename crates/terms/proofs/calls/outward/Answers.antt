@@ -1,5 +1,5 @@
 -- `calls::outward` meets its contract. The invariant: q points to what is i calls further out. The measure: the calls left. Assumes nothing.
-use Prim.Native.Nat.{ℕ, ◌-◌}
+use Prim.Native.Nat.{ℕ}
 use native.Mathlib.Omega.{arith}
 use mathlib.Core.Path.{◌≡◌, subst}
 use Rattle.terms.specs.Calls.{Reached}

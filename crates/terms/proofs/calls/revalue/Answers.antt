@@ -1,6 +1,5 @@
 -- `calls::revalue` meets its contract. The invariant: the parameters passed have their results where they are open. The measure: the tokens
 -- left. Assumes nothing.
-use Prim.Native.Nat.{◌-◌}
 use native.Mathlib.Omega.{arith}
 use mathlib.Core.Path.{refl}
 use Rattle.terms.proofs.Laws.Revalue.{revalues-active, call-read}

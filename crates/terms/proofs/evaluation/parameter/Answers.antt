@@ -5,7 +5,7 @@ use Rattle.terms.proofs.evaluation.parameter.Goals as goal
 
 pub result-requires : goal.result-requires
 result-requires c =
-    parameter-after c.kept-at.ensures c.kept-at.auto.0 c.requires.0
+    parameter-after c.kept-at.ensures c.kept-at.auto.w c.requires.0
 
 pub returns : goal.returns
 returns c =

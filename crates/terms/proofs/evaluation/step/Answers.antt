@@ -12,8 +12,6 @@ use Rattle.terms.proofs.evaluation.step.Goals.{After-operand, After-place-arg-1}
 at_local : (c : After-operand) →
     (local_slot c.operand.result + 1 < dues_at) × Room c.args.w.now dues_at c.args.s.at
 at_local c =
-    let c.before.before.before = c.before.before.before in
-    let c.before.before.before.before.before = c.before.before.before.before.before in
     let a = c.args in
     let k = c.if-k-eq-LOCAL.true in
     place-asked a.w.now a.s a.i a.env c.code-k.ensures c.operand.ensures locals_at (omega (arith, k)) c.requires
@@ -21,21 +19,18 @@ at_local c =
 at-scalar : (c : After-place-arg-1) →
     (cell_slot c.operand-n.result + 1 < dues_at) × Room c.args.w.now dues_at c.args.s.at
 at-scalar c =
-    let c.before.before.before = c.before.before.before in
-    let c.before.before.before.before.before.before.before = c.before.before.before.before.before.before.before in
-    let c.before.before.before.before.before.before.before.before = c.before.before.before.before.before.before.before.before in
     let a = c.args in
     let k = c.if-k-eq-SCALAR.true in
     place-asked a.w.now a.s a.i a.env c.code-k.ensures c.operand-n.ensures cells_at (omega (arith, k)) c.requires
 
 pub overflow_mul-operand : goal.overflow_mul-operand
-overflow_mul-operand c = omega (arith, (at_local c).0)
+overflow_mul-operand c = omega (arith, (at_local (goal.at.overflow_mul-operand c).After-operand).0)
 
 pub overflow_add-operand : goal.overflow_add-operand
-overflow_add-operand c = omega (arith, (at_local c).0)
+overflow_add-operand c = omega (arith, (at_local (goal.at.overflow_add-operand c).After-operand).0)
 
 pub place-requires : goal.place-requires
-place-requires c = at_local c
+place-requires c = at_local (goal.at.place-requires c).After-operand
 
 pub returns-then-k-eq-LOCAL : goal.returns-then-k-eq-LOCAL
 returns-then-k-eq-LOCAL c =
@@ -65,13 +60,13 @@ returns-then-k-eq-ARRAY c =
     array-stepped a.w.now a.s a.i a.env c.code-k.ensures c.operand-n.ensures c.if-k-eq-ARRAY.true c.element.ensures
 
 pub overflow_mul-n : goal.overflow_mul-n
-overflow_mul-n c = omega (arith, (at-scalar c).0)
+overflow_mul-n c = omega (arith, (at-scalar (goal.at.overflow_mul-n c).After-place-arg-1).0)
 
 pub overflow_add-n : goal.overflow_add-n
-overflow_add-n c = omega (arith, (at-scalar c).0)
+overflow_add-n c = omega (arith, (at-scalar (goal.at.overflow_add-n c).After-place-arg-1).0)
 
 pub place-requires-then-k-eq-SCALAR : goal.place-requires-then-k-eq-SCALAR
-place-requires-then-k-eq-SCALAR c = at-scalar c
+place-requires-then-k-eq-SCALAR c = at-scalar (goal.at.place-requires-then-k-eq-SCALAR c).After-place-arg-1
 
 pub returns-then-k-eq-SCALAR : goal.returns-then-k-eq-SCALAR
 returns-then-k-eq-SCALAR c =

@@ -19,7 +19,7 @@ loop-q-smaller c = turns-fall c.loop-q-test.true c.turn-q.ensures
 pub loop-q-preserved : goal.loop-q-preserved
 loop-q-preserved c =
     let v = c.loop-q.invariant in (
-      c.turn-q.auto.0 ∙ v.0,
+      c.turn-q.auto.w ∙ v.0,
       omega (arith, v.1, c.turn-q.ensures.least),
       λ x b s i. going_next s c.turn-q.ensures (going-due (v.2 x b s i) c.loop-q-test.true),
     )

@@ -1,5 +1,4 @@
 -- `calls::copy` meets its contract. The invariant: which words are there.
-use Prim.Native.Nat.{◌-◌}
 use native.Mathlib.Omega.{arith}
 use mathlib.Core.Path.{◌≡◌}
 use Rattle.walker.proofs.Laws.Filled.{fill_none, copy_step}

@@ -1,5 +1,4 @@
 -- `calls::flag` meets its contract. The invariant: which words are there.
-use Prim.Native.Nat.{◌-◌}
 use native.Mathlib.Omega.{arith}
 use mathlib.Core.Path.{◌≡◌}
 use Rattle.walker.proofs.Laws.Filled.{fill_none, flag-step}

@@ -15,7 +15,7 @@ loop-q-smaller c = climbs-less c.loop-q-test.true c.rise-q.ensures
 pub loop-q-preserved : goal.loop-q-preserved
 loop-q-preserved c =
     let v = c.loop-q.invariant in
-    (climbs-more v.0 c.loop-q-test.true c.rise-q.ensures, c.rise-q.auto.0 ∙ v.1)
+    (climbs-more v.0 c.loop-q-test.true c.rise-q.ensures, c.rise-q.auto.w ∙ v.1)
 
 pub shape_of-w : goal.shape_of-w
 shape_of-w c = c.loop-q.invariant.1

@@ -1,7 +1,6 @@
 -- `climb::unwind` meets its contract.
 use borrow.Author.Rules.{rules}
 use native.Mathlib.Omega.{arith}
-use borrow.Author.Tests.{not-true, not-false}
 use mathlib.Core.Path.{refl, sym, ◌∙◌}
 use Rattle.walker.proofs.Laws.Reach.{top-reach}
 use Rattle.walker.proofs.Laws.Inside.{wins-top, wins-fell}

@@ -1,11 +1,7 @@
 -- `machine::block` meets its contract: skipped, written or without room.
 use native.Mathlib.Omega.{arith}
-use Rattle.walker.proofs.Laws.Blocks.{ leaf-due, head-due, listing-ready, start-inside, blocked-skipped, blocked-written, blocked-full, written-inside, told,
+use Rattle.walker.proofs.Laws.Blocks.{leaf-due, head-due, listing-ready, start-inside, blocked-skipped, blocked-written, blocked-full, written-inside, told}
 use Rattle.walker.proofs.machine.block.Goals as goal
-
-}
-use Rattle.walker.proofs.machine.block.Statement.{statement}
-use Rattle.walker.proofs.machine.block.Tie as tie
 
 pub overflow_add-t : goal.overflow_add-t
 overflow_add-t c =

@@ -11,7 +11,7 @@ advance-requires c =
     onward-goings c.requires c.if-g-eq-FULL.false
 
 pub shape_of-w : goal.shape_of-w
-shape_of-w c = c.advance.auto.0
+shape_of-w c = c.advance.auto.w
 
 pub returns : goal.returns
 returns c =

@@ -52,13 +52,13 @@ loop-s-preserved c =
     let a = c.requires in
     let h = c.args.out.now in
     let v = c.loop-s.invariant in (
-      c.onward-s.auto.0 ∙ v.0,
+      c.onward-s.auto.w ∙ v.0,
       c.block-b.ensures.size ∙ v.1,
       (λ y x p r. reached-next h x p (v.2 y x p r) c.loop-s-test.true c.block-b.ensures c.onward-s.ensures),
     )
 
 pub shape_of-w : goal.shape_of-w
-shape_of-w c = c.loop-s.invariant.0 ∙ c.advance-first.auto.0
+shape_of-w c = c.loop-s.invariant.0 ∙ c.advance-first.auto.w
 
 pub shape_of-out : goal.shape_of-out
 shape_of-out c = c.loop-s.invariant.1
@@ -68,6 +68,6 @@ returns c =
     let a = c.requires in
     let h = c.args.out.now in
     let v = c.loop-s.invariant in
-    finished a.sheet a.prepared c.loop-s-test.false (v.0 ∙ c.advance-first.auto.0) v.1
+    finished a.sheet a.prepared c.loop-s-test.false (v.0 ∙ c.advance-first.auto.w) v.1
     (λ x p. v.2 _ x p (reached-first h x p (omega (arith, c.well_formed.1.1.0)) (omega arith) c.start.ensures c.limited-g.ensures
     c.advance-first.ensures c.state-s.ensures))

@@ -1,5 +1,5 @@
 -- `unvalued::procedure` meets its contract. The invariant: no parameter stands in the tokens passed.
-use Prim.Native.Nat.{◌+◌, ◌-◌}
+use Prim.Native.Nat.{◌+◌}
 use native.Mathlib.Omega.{arith}
 use mathlib.Core.Path.{refl, sym, ◌∙◌, ap}
 use mathlib.Core.Logic.{inl, inr}
