@@ -40,4 +40,4 @@ returns-in-Read c =
     let (e, h) = rw (c.is_strict.ensures, c.edition_of.ensures) at c.admit.ensures in
     moved-answers a.way a.sheet.now a.work.now a.output.now _ _ _ _ _ _ _ _
     (sym c.in-Read.is ∙ e) h c.moved-moved.ensures
-    (c.clear.ensures ∙ ap (λ n. replicate n 0) c.admit.auto.1.1.1.0)
+    (c.clear.ensures ∙ ap (λ n. replicate n 0) c.admit.auto.work)
