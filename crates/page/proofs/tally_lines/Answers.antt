@@ -8,7 +8,7 @@ use Rattle.listing.specs.Put.{Room}
 use Rattle.listing.proofs.Laws.Put.{Left, pieces-left, less-left, last-left, room-left}
 use Rattle.page.proofs.Lines.{tally_pieces, tally-bound}
 use Rattle.page.proofs.tally_lines.Goals as goal
-use Rattle.page.proofs.tally_lines.Goals.{After-field, After-field-p, After-field-q, After-field-s, After-struct_known-1, Start}
+use Rattle.page.proofs.tally_lines.Goals.{After-struct_known-1, Start}
 
 -- the four lines
 parted : (c : Start) →
@@ -24,18 +24,8 @@ bound c =
 room : (c : After-struct_known-1) → let a = c.args in Room a.at (tally_lines a.t)
 room c = omega (arith, bound c, c.requires)
 
--- the line before one
-abbrev first : After-field-q → After-field-p
-first c = c.before.before.before.before.before.before
-
-abbrev second : After-field-s → After-field-q
-second c = c.before.before.before.before.before.before
-
-abbrev third : After-field → After-field-s
-third c = c.before.before.before.before.before.before
-
 pub field-p-requires : goal.field-p-requires
-field-p-requires c = room-left (parted (goal.at.field-p-requires c).Start) (room c)
+field-p-requires c = room-left (parted (goal.at.field-p-requires c).Start) (room (goal.at.field-p-requires c).After-struct_known-1)
 
 pub field-q-requires : goal.field-q-requires
 field-q-requires c =
@@ -43,28 +33,20 @@ field-q-requires c =
 
 pub field-s-requires : goal.field-s-requires
 field-s-requires c =
-    let at_field = first (goal.at.field-s-requires c).After-field-q in
-    let known = at_field.before in
-    room-left (less-left (less-left (parted known.before.before.before.before) at_field.field.ensures) c.field-q.ensures) (room known)
+    room-left
+    (less-left (less-left (parted (goal.at.field-s-requires c).Start) c.field-p.ensures) c.field-q.ensures)
+    (room (goal.at.field-s-requires c).After-struct_known-1)
 
 pub field-requires : goal.field-requires
 field-requires c =
-    let at-field2 = second (goal.at.field-requires c).After-field-s in
-    let at_field = first at-field2 in
-    let known = at_field.before in
     room-left
-    (less-left (less-left (less-left (parted known.before.before.before.before) at_field.field.ensures) at-field2.field2.ensures) c.field-s.ensures)
-    (room known)
+    (less-left (less-left (less-left (parted (goal.at.field-requires c).Start) c.field-p.ensures) c.field-q.ensures) c.field-s.ensures)
+    (room (goal.at.field-requires c).After-struct_known-1)
 
 pub returns : goal.returns
 returns c =
-    let at-field3 = third (goal.at.returns c).After-field in
-    let at-field2 = second at-field3 in
-    let at_field = first at-field2 in
-    let known = at_field.before in
-    let start = known.before.before.before.before in
     let p =
     last-left
-    (less-left (less-left (less-left (parted start) at_field.field.ensures) at-field2.field2.ensures) at-field3.field3.ensures)
+    (less-left (less-left (less-left (parted (goal.at.returns c).Start) c.field-p.ensures) c.field-q.ensures) c.field-s.ensures)
     c.field.ensures in
-    record { text = p; short = omega (arith, p.end, bound known, start.pre) }
+    record { text = p; short = omega (arith, p.end, bound (goal.at.returns c).After-struct_known-1, c.requires) }
