@@ -1,7 +1,7 @@
 -- The law of parts alone shuts out wrong boxes: one that numbers blocks anew in each part (numbered-anew), and one whose skip counts answers only
 -- (answers-only). Each law is about the blocks that such a box writes in two parts and in one run, for whatever sheet and however it came to
 -- write them. Assumes nothing.
-use Prim.Native.Nat.{ℕ, ◌+◌, ◌≤◌, ◌<◌}
+use Prim.Native.Nat.{ℕ, ◌≤◌, ◌<◌}
 use native.Mathlib.Omega.{arith}
 use mathlib.Core.Path.{◌≡◌, refl, sym, ◌∙◌, ap}
 use mathlib.Core.List.{List, [], ◌∷◌, ◌++◌}

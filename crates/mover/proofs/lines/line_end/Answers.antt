@@ -24,11 +24,10 @@ pub loop-i-smaller : goal.loop-i-smaller
 loop-i-smaller c = omega arith
 
 pub loop-i-preserved : goal.loop-i-preserved
-loop-i-preserved c =
-    (
-      omega arith,
-      omega (arith, c.loop-i.invariant.1, line-more c.args.s.now c.loop-i.i c.loop-i-test.true c.if-s-i-eq10.false),
-    )
+loop-i-preserved c = (
+  omega arith,
+  omega (arith, c.loop-i.invariant.1, line-more c.args.s.now c.loop-i.i c.loop-i-test.true c.if-s-i-eq10.false),
+)
 
 pub returns : goal.returns
 returns c =

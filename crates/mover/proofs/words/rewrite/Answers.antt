@@ -54,7 +54,6 @@ word c k token until q u =
 
 -- ---- the needs
 
-
 pub loop-i-init : goal.loop-i-init
 loop-i-init c =
     let a = c.args in

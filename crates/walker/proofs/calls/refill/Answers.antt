@@ -93,12 +93,11 @@ pub loop-i-smaller : goal.loop-i-smaller
 loop-i-smaller c = omega (arith, c.loop-i-test.true)
 
 pub loop-i-preserved : goal.loop-i-preserved
-loop-i-preserved c =
-    (
-      omega (arith, c.loop-i-test.true),
-      refill-step c.requires c.loop-i.invariant.1 c.loop-i-test.true
-          c.at-x.ensures c.argument.ensures c.put.ensures,
-    )
+loop-i-preserved c = (
+  omega (arith, c.loop-i-test.true),
+  refill-step c.requires c.loop-i.invariant.1 c.loop-i-test.true
+      c.at-x.ensures c.argument.ensures c.put.ensures,
+)
 
 pub shape_of-w : goal.shape_of-w
 shape_of-w c = c.loop-i.invariant.1.size
