@@ -13,42 +13,67 @@ ghost use Rattle.std.specs.Prelude.{◌≡◌, ◌<◌, length};
 use listing::put;
 use page::CLOSING;
 use specification::{Outcome, Setting};
+use std::io::Read;
 
-fn main() {
-    let mut input = [0u8; 655360];
+// The bytes of the longest input.
+const INPUT: usize = 655360;
+
+fn main(rt: HostRuntime) {
+    let mut cases = [0u8; INPUT];
     let mut work = [0u32; 399360];
     let mut output = [0u8; 65536];
     let mut lines = [0u8; CLOSING];
-    run_input(&mut input, &mut work, &mut output, &mut lines);
+    run_input(
+        &mut rt.stdin(),
+        &rt,
+        &mut cases,
+        &mut work,
+        &mut output,
+        &mut lines,
+    );
 }
 
-fn run_input(input: &mut [u8], work: &mut [u32], output: &mut [u8], lines: &mut [u8; CLOSING]) {
-    let n = console::read(input);
-    run_cases(&input[..n], work, output, lines);
+fn run_input(
+    input: &mut impl Read,
+    rt: &impl Print,
+    cases: &mut [u8; INPUT],
+    work: &mut [u32],
+    output: &mut [u8],
+    lines: &mut [u8; CLOSING],
+) {
+    let n = console::read(input, cases);
+    run_cases(rt, &cases[..n], work, output, lines);
 }
 
-fn run_cases(cases: &[u8], work: &mut [u32], output: &mut [u8], lines: &mut [u8; CLOSING]) {
+fn run_cases(
+    rt: &impl Print,
+    cases: &[u8],
+    work: &mut [u32],
+    output: &mut [u8],
+    lines: &mut [u8; CLOSING],
+) {
     let mut at = 0;
     let mut n: usize = 0;
     while at < cases.len() {
         n += 1;
-        if !print_number(n) {
+        if !print_number(rt, n) {
             return;
         }
-        at = run_case(cases, at, work, output, lines);
+        at = run_case(rt, cases, at, work, output, lines);
     }
 }
 
 // The line before a case's page: five bytes, twenty digits at most, a line feed.
-fn print_number(n: usize) -> bool {
+fn print_number(rt: &impl Print, n: usize) -> bool {
     let mut line = [0u8; 26];
     let count = put::field(&mut line, 0, b"case ", n as u64);
-    let sent = console::write(&line[..count]);
+    let sent = console::write(rt, &line[..count]);
     sent.whole
 }
 
 // Runs the case at a place and answers the place after it: the end of the input where no whole case stands there, or a byte is lost.
 fn run_case(
+    rt: &impl Print,
     cases: &[u8],
     at: usize,
     work: &mut [u32],
@@ -64,13 +89,13 @@ fn run_case(
     let start = header.sheet;
     let end = header.end;
     if cases.len() < end {
-        return malformed(cases);
+        return malformed(rt, cases);
     }
     if work.len() < words {
-        return malformed(cases);
+        return malformed(rt, cases);
     }
     if output.len() < size {
-        return malformed(cases);
+        return malformed(rt, cases);
     }
     let setting = Setting {
         path: header.path,
@@ -78,6 +103,7 @@ fn run_case(
         skip: header.skip,
     };
     if run_sheet(
+        rt,
         &cases[start..end],
         setting,
         &mut work[..words],
@@ -89,15 +115,16 @@ fn run_case(
     cases.len()
 }
 
-fn malformed(cases: &[u8]) -> usize
+fn malformed(rt: &impl Print, cases: &[u8]) -> usize
     ensures { result ≡ length cases.now }
 {
-    console::write(b"malformed\n");
+    console::write(rt, b"malformed\n");
     cases.len()
 }
 
 // Whether all was printed.
 fn run_sheet(
+    rt: &impl Print,
     sheet: &[u8],
     setting: Setting,
     work: &mut [u32],
@@ -109,14 +136,14 @@ fn run_sheet(
     let outcome = vodlasim::run(sheet, setting, work, output);
     let listing = page::written(outcome);
     let closing = page::closing(outcome, lines);
-    let sent = console::write_page(output, listing, lines, closing);
+    let sent = console::write_page(rt, output, listing, lines, closing);
     if !sent.whole {
         return false;
     }
     if is_clean(outcome, work, output) {
         return true;
     }
-    let dirty = console::write(b"dirty\n");
+    let dirty = console::write(rt, b"dirty\n");
     dirty.whole
 }
 

@@ -14,6 +14,7 @@ ghost use Rattle.std.specs.Prelude.{◌≡◌, ◌≤◌, ◌<◌, length};
 
 use listing::put;
 use specification::Move;
+use std::io::Read;
 
 // The bytes of a case's first line.
 const HEADER: usize = 23;
@@ -23,55 +24,55 @@ const WORDS: usize = 6400;
 
 const OUTPUT: usize = 4352;
 
-fn main() {
-    let mut input = [0u8; 393216];
-    move_input(&mut input);
+fn main(rt: HostRuntime) {
+    let mut cases = [0u8; 393216];
+    move_input(&mut rt.stdin(), &rt, &mut cases);
 }
 
-fn move_input(input: &mut [u8]) {
-    let n = console::read(input);
-    move_cases(&input[..n]);
+fn move_input(input: &mut impl Read, rt: &impl Print, cases: &mut [u8]) {
+    let n = console::read(input, cases);
+    move_cases(rt, &cases[..n]);
 }
 
-fn move_cases(cases: &[u8]) {
+fn move_cases(rt: &impl Print, cases: &[u8]) {
     let mut at = 0;
     while at < cases.len() {
-        at = move_case(cases, at);
+        at = move_case(rt, cases, at);
     }
 }
 
 // Moves the sheet of the case at a place and answers the place after it: the end of the input where no whole case stands there, or a byte is
 // lost.
-fn move_case(cases: &[u8], at: usize) -> usize
+fn move_case(rt: &impl Print, cases: &[u8], at: usize) -> usize
     requires { at < length cases.now }
     ensures { at < result }
 {
     if cases.len() - at < HEADER {
-        return malformed(cases);
+        return malformed(rt, cases);
     }
     let start = at + HEADER;
     let words = decimal::number(cases, at + 5);
     let room = decimal::number(cases, at + 11);
     let size = decimal::number(cases, at + 17);
     if cases.len() - start < size {
-        return malformed(cases);
+        return malformed(rt, cases);
     }
     let end = start + size;
-    if move_sheet(cases[at], &cases[start..end], words, room) {
+    if move_sheet(rt, cases[at], &cases[start..end], words, room) {
         return end + 1;
     }
     cases.len()
 }
 
-fn malformed(cases: &[u8]) -> usize
+fn malformed(rt: &impl Print, cases: &[u8]) -> usize
     ensures { result ≡ length cases.now }
 {
-    console::write(b"malformed\n");
+    console::write(rt, b"malformed\n");
     cases.len()
 }
 
 // Whether there was so much to lend, and all was printed.
-fn move_sheet(way: u8, sheet: &[u8], words: usize, room: usize) -> bool {
+fn move_sheet(rt: &impl Print, way: u8, sheet: &[u8], words: usize, room: usize) -> bool {
     let mut work = [0u32; WORDS];
     let mut output = [0u8; OUTPUT];
     if WORDS < words {
@@ -80,17 +81,17 @@ fn move_sheet(way: u8, sheet: &[u8], words: usize, room: usize) -> bool {
     if OUTPUT < room {
         return false;
     }
-    move_lent(way, sheet, &mut work[..words], &mut output[..room])
+    move_lent(rt, way, sheet, &mut work[..words], &mut output[..room])
 }
 
-fn move_lent(way: u8, sheet: &[u8], work: &mut [u32], output: &mut [u8]) -> bool {
+fn move_lent(rt: &impl Print, way: u8, sheet: &[u8], work: &mut [u32], output: &mut [u8]) -> bool {
     rubbish::fill_words(work);
     rubbish::fill_bytes(output);
     let moved = moved(way, sheet, work, output);
-    if !print_move(moved, output) {
+    if !print_move(rt, moved, output) {
         return false;
     }
-    print_kept(is_kept(moved, work, output))
+    print_kept(rt, is_kept(moved, work, output))
 }
 
 fn moved(way: u8, sheet: &[u8], work: &mut [u32], output: &mut [u8]) -> Move {
@@ -120,47 +121,47 @@ fn written(moved: Move) -> usize {
 
 // ---- what is printed; each function tells whether all of it went out
 
-fn print_move(moved: Move, output: &[u8]) -> bool {
+fn print_move(rt: &impl Print, moved: Move, output: &[u8]) -> bool {
     match moved {
-        Move::Refused { number, place } => print_refusal(number, place),
-        Move::Moved { written } => print_moved(written, output),
+        Move::Refused { number, place } => print_refusal(rt, number, place),
+        Move::Moved { written } => print_moved(rt, written, output),
     }
 }
 
-fn print_refusal(number: u32, place: usize) -> bool {
-    if !print_field(b"refused=", number as u64) {
+fn print_refusal(rt: &impl Print, number: u32, place: usize) -> bool {
+    if !print_field(rt, b"refused=", number as u64) {
         return false;
     }
-    print_field(b"at=", place as u64)
+    print_field(rt, b"at=", place as u64)
 }
 
 // A sheet that is said to be longer than the output is not printed.
-fn print_moved(written: usize, output: &[u8]) -> bool {
-    if !print_field(b"moved=", written as u64) {
+fn print_moved(rt: &impl Print, written: usize, output: &[u8]) -> bool {
+    if !print_field(rt, b"moved=", written as u64) {
         return false;
     }
     if output.len() < written {
         return false;
     }
-    let sent = console::write(&output[..written]);
+    let sent = console::write(rt, &output[..written]);
     sent.whole
 }
 
-fn print_kept(kept: bool) -> bool {
+fn print_kept(rt: &impl Print, kept: bool) -> bool {
     let sent = if kept {
-        console::write(b"kept\n")
+        console::write(rt, b"kept\n")
     } else {
-        console::write(b"lost\n")
+        console::write(rt, b"lost\n")
     };
     sent.whole
 }
 
 // A line: a key of at most eight bytes, twenty digits at most, a line feed.
-fn print_field(key: &[u8], n: u64) -> bool
+fn print_field(rt: &impl Print, key: &[u8], n: u64) -> bool
     requires { length key.now ≤ 8 }
 {
     let mut line = [0u8; 29];
     let count = put::field(&mut line, 0, key, n);
-    let sent = console::write(&line[..count]);
+    let sent = console::write(rt, &line[..count]);
     sent.whole
 }

@@ -14,39 +14,40 @@ mod hex;
 ghost use Rattle.std.specs.Prelude.{◌≡◌, ◌≤◌, ◌<◌, length};
 
 use plotter::{Port, Stepped};
+use std::io::Read;
 
 // The bytes of a case's first line.
 const HEADER: usize = 17;
 
-fn main() {
-    let mut input = [0u8; 32768];
-    play_input(&mut input);
+fn main(rt: HostRuntime) {
+    let mut cases = [0u8; 32768];
+    play_input(&mut rt.stdin(), &rt, &mut cases);
 }
 
-fn play_input(input: &mut [u8]) {
-    let n = console::read(input);
-    play_cases(&input[..n]);
+fn play_input(input: &mut impl Read, rt: &impl Print, cases: &mut [u8]) {
+    let n = console::read(input, cases);
+    play_cases(rt, &cases[..n]);
 }
 
-fn play_cases(cases: &[u8]) {
+fn play_cases(rt: &impl Print, cases: &[u8]) {
     let mut at = 0;
     while at < cases.len() {
-        at = play_case(cases, at);
+        at = play_case(rt, cases, at);
     }
 }
 
 // Plays the case at a place and answers the place after it: the end of the input where no whole case stands there, or a byte is lost.
-fn play_case(cases: &[u8], at: usize) -> usize
+fn play_case(rt: &impl Print, cases: &[u8], at: usize) -> usize
     requires { at < length cases.now }
     ensures { at < result }
 {
     if cases.len() - at < HEADER {
-        return malformed(cases);
+        return malformed(rt, cases);
     }
     let listing = at + HEADER;
     let size = wide(hex::byte(cases, at + 12)) * 256 + wide(hex::byte(cases, at + 14));
     if cases.len() - listing <= size {
-        return malformed(cases);
+        return malformed(rt, cases);
     }
     let port = Port {
         status: hex::byte(cases, at),
@@ -54,7 +55,7 @@ fn play_case(cases: &[u8], at: usize) -> usize
         data: hex::byte(cases, at + 6),
         sum: hex::byte(cases, at + 9),
     };
-    play_script(cases, listing, listing + size, port)
+    play_script(rt, cases, listing, listing + size, port)
 }
 
 fn wide(b: u8) -> usize
@@ -63,15 +64,15 @@ fn wide(b: u8) -> usize
     b as usize
 }
 
-fn malformed(cases: &[u8]) -> usize
+fn malformed(rt: &impl Print, cases: &[u8]) -> usize
     ensures { result ≡ length cases.now }
 {
-    console::write(b"malformed\n");
+    console::write(rt, b"malformed\n");
     cases.len()
 }
 
 // Plays the letters behind a listing, which stands between two places, to the end of their line, and answers the place after it.
-fn play_script(cases: &[u8], listing: usize, end: usize, port: Port) -> usize
+fn play_script(rt: &impl Print, cases: &[u8], listing: usize, end: usize, port: Port) -> usize
     requires { (listing ≤ end) × (end < length cases.now) }
     ensures { end < result }
 {
@@ -79,14 +80,14 @@ fn play_script(cases: &[u8], listing: usize, end: usize, port: Port) -> usize
     let mut unsent = listing;
     let mut letter = b'=';
     let mut at = end + 1;
-    while print_registers(letter, now) {
+    while print_registers(rt, letter, now) {
         if cases.len() <= at {
             return at;
         }
         letter = cases[at];
         at += 1;
         if letter == b'\n' {
-            return after_script(cases, at, end - unsent);
+            return after_script(rt, cases, at, end - unsent);
         }
         now = action(letter, now.port, &cases[unsent..end]);
         unsent += now.sent;
@@ -95,11 +96,15 @@ fn play_script(cases: &[u8], listing: usize, end: usize, port: Port) -> usize
 }
 
 // Prints what is left of a listing: the place after its script, or the end of the input where a byte is lost.
-fn after_script(cases: &[u8], at: usize, left: usize) -> usize
+fn after_script(rt: &impl Print, cases: &[u8], at: usize, left: usize) -> usize
     requires { at ≤ length cases.now }
     ensures { at ≤ result }
 {
-    if print_left(left) { at } else { cases.len() }
+    if print_left(rt, left) {
+        at
+    } else {
+        cases.len()
+    }
 }
 
 // What a letter's action leaves.
@@ -128,7 +133,7 @@ fn event(letter: u8, port: Port) -> Port {
 
 // ---- what is printed; each function tells whether all of it went out
 
-fn print_registers(letter: u8, now: Stepped) -> bool {
+fn print_registers(rt: &impl Print, letter: u8, now: Stepped) -> bool {
     let port = now.port;
     let line = [
         letter,
@@ -148,11 +153,11 @@ fn print_registers(letter: u8, now: Stepped) -> bool {
         hex::low((now.sent % 16) as u8),
         b'\n',
     ];
-    let sent = console::write(&line);
+    let sent = console::write(rt, &line);
     sent.whole
 }
 
-fn print_left(n: usize) -> bool {
+fn print_left(rt: &impl Print, n: usize) -> bool {
     let high = (n / 256 % 256) as u8;
     let low = (n % 256) as u8;
     let line = [
@@ -167,6 +172,6 @@ fn print_left(n: usize) -> bool {
         hex::low(low),
         b'\n',
     ];
-    let sent = console::write(&line);
+    let sent = console::write(rt, &line);
     sent.whole
 }

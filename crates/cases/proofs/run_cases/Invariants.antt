@@ -5,8 +5,8 @@ use lib.ListN.{length}
 use Rattle.cases.proofs.run_cases.Given as goal
 
 abbrev pub invariant-loop-at : goal.invariant-loop-at
-invariant-loop-at l =
+invariant-loop-at g l =
     (l.n ≤ l.at) × (length l.work ≡ length l.initial.work) × (length l.output ≡ length l.initial.output)
 
 abbrev pub decreases-loop-at : goal.decreases-loop-at
-decreases-loop-at l = length l.cases - l.at
+decreases-loop-at g l = length l.cases - l.at

@@ -1,11 +1,10 @@
 -- `console::read` meets its contract: the loop has read n bytes into a slice that keeps its length.
-use Prim.Native.Nat.{◌-◌}
-use borrow.Author.Rules.{rules}
-use Rattle.io.proofs.Counting.{prefix_len_of_le}
+use native.Mathlib.Omega.{arith}
+use Rattle.console.proofs.Parts.{part_length}
 use Rattle.console.proofs.read.Goals as goal
 
-pub returns-then-got-eq0 : goal.returns-then-got-eq0
-returns-then-got-eq0 c = prefix_len_of_le _ _ (search rules)
+pub returns-then-got-eq0-clause-first : goal.returns-then-got-eq0-clause-first
+returns-then-got-eq0-clause-first g c = part_length _ _ (omega arith)
 
-pub returns : goal.returns
-returns c = prefix_len_of_le _ _ (search rules)
+pub returns-clause-first : goal.returns-clause-first
+returns-clause-first g c = part_length _ _ (omega arith)

@@ -4,7 +4,7 @@ use lib.ListN.{length}
 use Rattle.move_cases.proofs.move_cases.Given as goal
 
 abbrev pub invariant-loop-at : goal.invariant-loop-at
-invariant-loop-at l = Unit {0}
+invariant-loop-at g l = Unit {0}
 
 abbrev pub decreases-loop-at : goal.decreases-loop-at
-decreases-loop-at l = length l.cases - l.at
+decreases-loop-at g l = length l.cases - l.at

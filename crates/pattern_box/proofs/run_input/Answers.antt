@@ -3,4 +3,4 @@ use Rattle.page.proofs.Box.{paged-inside}
 use Rattle.pattern_box.proofs.run_input.Goals as goal
 
 pub write_page-requires : goal.write_page-requires
-write_page-requires c = paged-inside c.run_box-page.ensures
+write_page-requires g c = paged-inside c.run_box-page.ensures

@@ -4,7 +4,7 @@ use lib.ListN.{length}
 use Rattle.port_cases.proofs.play_script.Given as goal
 
 abbrev pub invariant-loop-now : goal.invariant-loop-now
-invariant-loop-now l = (l.unsent ≤ l.end) × (l.end < l.at)
+invariant-loop-now g l = (l.unsent ≤ l.end) × (l.end < l.at)
 
 abbrev pub decreases-loop-now : goal.decreases-loop-now
-decreases-loop-now l = length l.cases - l.at
+decreases-loop-now g l = length l.cases - l.at
