@@ -53,6 +53,7 @@ pub mod ReadBounds
 pub mod Steady
 -- of the tree and the plain reading
 pub mod Place
+pub mod Exact
 pub mod Division
 pub mod Value
 pub mod Lasting
@@ -68,6 +69,7 @@ pub mod Decide
 pub mod Clauses
 pub mod Calls
 -- of the run
+pub mod Settled
 pub mod Stops
 pub mod Run
 pub mod Leaves

@@ -17,7 +17,8 @@ use Rattle.specification.specs.Visits.{Event, node, leaf, Visit}
 use Rattle.specification.specs.Run.{tallies, block_count, Conditions, conditions, Stop, spent, path, output, Run, going, stopped, scan}
 use Rattle.specification.specs.Lists.{Each}
 use Rattle.specification.proofs.Laws.Lists.{Begins}
-use Rattle.specification.proofs.Laws.Stops.{unless, due_text, added, added_under, counted, counted-nodes, at_stop, Meets, Passes}
+use Rattle.specification.proofs.Laws.Settled.{unless}
+use Rattle.specification.proofs.Laws.Stops.{due_text, added, added_under, counted, counted-nodes, at_stop, Meets, Passes}
 use Rattle.specification.proofs.Laws.Run.{written_by, then-is-++, scan-append, scan-stops, scan-passes, scan-going, scan-induction, scan-nodes, scan-grows}
 use Rattle.specification.proofs.Laws.Leaves.{leaf_of, leaves_in}
 

@@ -19,6 +19,7 @@ use Rattle.specification.specs.Ast.{Op, quo, rem, div, modulo}
 use Rattle.specification.specs.Words.{term_word, op_word, unknown, common_words, older_division, first_rounding, division, own_words, words, name_of, find, word_of}
 use Rattle.specification.specs.Arithmetic.{outside32, zero_divisor, Computed, value, fault, fit, divided, floor_z, remains, compute}
 use Rattle.specification.proofs.Laws.Contradiction.{contradiction}
+use Rattle.specification.proofs.Laws.Exact.{divisor, quo-exact, rem-exact, div-exact, mod-exact}
 use Rattle.specification.proofs.Laws.Rounding.{makes-up, remains-is, remainder_is, remainder-less, Within, within-less, within-sign, floor-within, floor-only, SignsAgree, Divides, floor-quotient, left-remainder}
 
 -- ---- the words
@@ -65,65 +66,34 @@ fit-in z t = go (in32 z) t
     go true t = refl
     go false t = absurd t
 
-fitted : (z r : ℤ) → fit z ≡ value r → z ≡ r
-unfolding fit
-fitted z r e = go (in32 z) e
-  where
-    go : (b : Bool) → pick b (value z) (fault outside32) ≡ value r → z ≡ r
-    go true q = cc
-    go false q = contradiction cc
-
 -- a divisor that is not 0 divides
 pub divided-nonzero : (b : ℤ) (c : Computed) → (b ≡ pos zero → ⊥) → divided b c ≡ c
 divided-nonzero (pos zero) c n = absurd (n refl)
 divided-nonzero (pos (suc b)) c n = refl
 divided-nonzero (negsuc b) c n = refl
 
--- what it says that a division has a value: the divisor is not 0, and the value is the exact one
-divisor : (b z r : ℤ) → divided b (fit z) ≡ value r → b ≡ pos zero → ⊥
-divisor b z r e q = let f : fault zero_divisor ≡ value r = sym (ap (λ y. divided y (fit z)) q) ∙ e in contradiction cc
-
-exact : (b z r : ℤ) → divided b (fit z) ≡ value r → z ≡ r
-exact b z r e = fitted z r (sym (divided-nonzero b (fit z) (divisor b z r e)) ∙ e)
-
 module _ (a b : ℤ) where
-  quo-exact : (q : ℤ) → Gives quo a b q → quot_z a b ≡ q
-  unfolding compute
-  quo-exact q g = exact b (quot_z a b) q g
-
-  rem-exact : (r : ℤ) → Gives rem a b r → remains a b (quot_z a b) ≡ r
-  unfolding compute
-  rem-exact r g = exact b (remains a b (quot_z a b)) r g
-
-  div-exact : (q : ℤ) → Gives div a b q → floor_z a b ≡ q
-  unfolding compute
-  div-exact q g = exact b (floor_z a b) q g
-
-  mod-exact : (r : ℤ) → Gives modulo a b r → remains a b (floor_z a b) ≡ r
-  unfolding compute
-  mod-exact r g = exact b (remains a b (floor_z a b)) r g
-
   -- ---- a = b × (a div b) + a mod b
 
   -- also where the quotient itself is outside 32 bits
   pub mod-leaves : (r : ℤ) → Gives modulo a b r → a ≡ b *ℤ floor_z a b +ℤ r
-  mod-leaves r g = makes-up a b (floor_z a b) ∙ ap (λ z. b *ℤ floor_z a b +ℤ z) (mod-exact r g)
+  mod-leaves r g = makes-up a b (floor_z a b) ∙ ap (λ z. b *ℤ floor_z a b +ℤ z) (mod-exact a b r g)
 
   pub rem-leaves : (r : ℤ) → Gives rem a b r → a ≡ b *ℤ quot_z a b +ℤ r
-  rem-leaves r g = makes-up a b (quot_z a b) ∙ ap (λ z. b *ℤ quot_z a b +ℤ z) (rem-exact r g)
+  rem-leaves r g = makes-up a b (quot_z a b) ∙ ap (λ z. b *ℤ quot_z a b +ℤ z) (rem-exact a b r g)
 
   pub div-mod : (q r : ℤ) → Gives div a b q → Gives modulo a b r → a ≡ b *ℤ q +ℤ r
-  div-mod q r g h = mod-leaves r h ∙ ap (λ z. b *ℤ z +ℤ r) (div-exact q g)
+  div-mod q r g h = mod-leaves r h ∙ ap (λ z. b *ℤ z +ℤ r) (div-exact a b q g)
 
   pub quo-rem : (q r : ℤ) → Gives quo a b q → Gives rem a b r → a ≡ b *ℤ q +ℤ r
-  quo-rem q r g h = rem-leaves r h ∙ ap (λ z. b *ℤ z +ℤ r) (quo-exact q g)
+  quo-rem q r g h = rem-leaves r h ∙ ap (λ z. b *ℤ z +ℤ r) (quo-exact a b q g)
 
   -- ---- where a rest lies
 
   module _ (r : ℤ) (g : Gives modulo a b r) where
     mod-within : Within b r
     unfolding compute
-    mod-within = subst (Within b) (mod-exact r g) (floor-within a b (divisor b (remains a b (floor_z a b)) r g))
+    mod-within = subst (Within b) (mod-exact a b r g) (floor-within a b (divisor b _ r g))
 
     -- from 0 up to the divisor, which is not included
     pub mod-above : pos zero <ℤ b → (pos zero ≤ℤ r) × (r <ℤ b)
@@ -136,16 +106,16 @@ module _ (a b : ℤ) where
   pub div-only : (q r q' r' : ℤ) → Gives div a b q → Gives modulo a b r → a ≡ b *ℤ q' +ℤ r' → Within b r' → (q ≡ q') × (r ≡ r')
   div-only q r q' r' g h e w =
       let same : floor_z a b ≡ q' = floor-only a b q' r' e w in
-      (sym (div-exact q g) ∙ same, sym (mod-exact r h) ∙ ap (remains a b) same ∙ remains-is a b q' r' e)
+      (sym (div-exact a b q g) ∙ same, sym (mod-exact a b r h) ∙ ap (remains a b) same ∙ remains-is a b q' r' e)
 
   -- the older pair's is smaller than the divisor and has the dividend's sign
   pub rem-less : (r : ℤ) → Gives rem a b r → nat_abs r < nat_abs b
   unfolding compute
   rem-less r g =
-      subst (λ z. nat_abs z < nat_abs b) (sym (remainder_is a b) ∙ rem-exact r g) (remainder-less a b (divisor b (remains a b (quot_z a b)) r g))
+      subst (λ z. nat_abs z < nat_abs b) (sym (remainder_is a b) ∙ rem-exact a b r g) (remainder-less a b (divisor b (remains a b (quot_z a b)) r g))
 
   pub rem-sign : (r : ℤ) → Gives rem a b r → (pos zero ≤ℤ a → pos zero ≤ℤ r) × (a ≤ℤ pos zero → r ≤ℤ pos zero)
-  rem-sign r g = subst (λ z. (pos zero ≤ℤ a → pos zero ≤ℤ z) × (a ≤ℤ pos zero → z ≤ℤ pos zero)) (sym (remainder_is a b) ∙ rem-exact r g) (by a)
+  rem-sign r g = subst (λ z. (pos zero ≤ℤ a → pos zero ≤ℤ z) × (a ≤ℤ pos zero → z ≤ℤ pos zero)) (sym (remainder_is a b) ∙ rem-exact a b r g) (by a)
     where
       none : (m n : ℕ) → m ≤ n → pos n ≤ℤ pos zero → pos m ≤ℤ pos zero
       none m n h l = record { le = le→leb m 0 (omega (arith, leb→le n 0 l.le)) }

@@ -11,7 +11,8 @@ use Rattle.specification.specs.Lists.{Each}
 use Rattle.specification.specs.Listing.{Block, listing_text}
 use Rattle.specification.specs.Demand2.{past}
 use Rattle.specification.proofs.Laws.Lists.{Begins}
-use Rattle.specification.proofs.Laws.Stops.{unless, due_text}
+use Rattle.specification.proofs.Laws.Settled.{unless}
+use Rattle.specification.proofs.Laws.Stops.{due_text}
 
 pub past-none : (skip : ℕ) → past skip [] ≡ []
 past-none zero = refl

@@ -8,7 +8,7 @@ use lib.ListN.{get_or}
 use lib.Dec.{T}
 use borrow.Author.Tests.{ltb-true, leb-true}
 use Rattle.specification.specs.Bytes.{bytes, feed, comma, colon}
-use Rattle.specification.specs.Parser.{Reader, give, ◌>>◌, next, mark, key}
+use Rattle.specification.specs.Parser.{Reader, give, next, mark, key}
 use Rattle.specification.specs.Lines.{value, Declared, CellName, scalar, element, cells, first_of, length_of, is_declared, cell_of, in_range}
 use Rattle.specification.specs.Given.{Item, name, item, items, given_line}
 use Rattle.specification.specs.Lists.{Each}
@@ -68,8 +68,8 @@ module _ (D : Declared) where
   items-post (suc k) floor r =
       bind-post (item-post floor r) λ i r₁ h.
       bind-post
-      (choose-post (next comma r₁.rest) (mark comma >> items D k (suc i.cell)) (give []) r₁
-      (after (mark comma r₁) λ u r₂. items-post k (suc i.cell) r₂) (holds (tt, tt, tt))) λ is r₂ t.
+      (choose-post (next comma r₁.rest) _ (give []) r₁
+      (after (mark comma r₁) λ u r₂. items-post k _ r₂) (holds (tt, tt, tt))) λ is r₂ t.
       holds ((h.0, t.0), (h.1, t.1), (h.2, t.2))
 
   pub given-post : (r : Reader) → Post (Items 0) (given_line D r)

@@ -13,15 +13,11 @@ use Rattle.specification.specs.Lines.{Declared}
 use Rattle.specification.specs.Listing.{answer_head, error_head, Block, block_of, block_text}
 use Rattle.specification.specs.Leaves.{answer, error, fail}
 use Rattle.specification.specs.Visits.{Event, node, leaf, Visit}
-use Rattle.specification.specs.Run.{block_count, Conditions, add_node, add_answer, add_error, add_fail, Stop, spent, path, output, Run, going, stopped, block, arrive, visit}
+use Rattle.specification.specs.Run.{block_count, Conditions, add_node, add_answer, add_error, add_fail, Stop, spent, path, output, going, stopped, block, arrive, visit}
 use Rattle.specification.proofs.Laws.Contradiction.{contradiction}
+use Rattle.specification.proofs.Laws.Settled.{unless, settled, settles}
 
 -- ---- the block of an event, and the tallies after it
-
--- none where it is skipped
-abbrev pub unless : Bool → Block → Option Block
-unless true b = none
-unless false b = some b
 
 -- the block that is due at an event, by the tallies before it: none at a node or a failure, and none among the first skip blocks
 abbrev pub due : Declared → ℕ → Tallies → Event → Option Block
@@ -81,31 +77,20 @@ module _ (C : Conditions) where
       (¬ (t.nodes ≡ C.setting.budget)) × (v.depth ≤ C.setting.path) ×
       ((b : Block) → due_under C t v.event ≡ some b → length w + length (block_text b) ≤ C.size)
 
-  -- after a visit within budget and path limit: a block that is due is written, or finds no room
-  abbrev settled : Tallies → Tallies → Bytes → Option Block → Run
-  settled t t' w none = going t' w
-  settled t t' w (some b) = pick (leb (length w + length (block_text b)) C.size) (going t' (w ++ block_text b)) (stopped output t w)
-
-  settles : (c : Bool) (t t' : Tallies) (w : Bytes) (b : Block) →
-      pick c (going t' w) (pick (leb (length w + length (block_text b)) C.size) (going t' (w ++ block_text b)) (stopped output t w)) ≡
-      settled t t' w (unless c b)
-  settles true t t' w b = refl
-  settles false t t' w b = refl
-
   arrive-is : (ev : Event) (t : Tallies) (w : Bytes) →
-      arrive C ev (add_node t) w ≡ settled (add_node t) (counted ev t) w (due_under C t ev)
+      arrive C ev (add_node t) w ≡ settled C (add_node t) (counted ev t) w (due_under C t ev)
   unfolding arrive block
   arrive-is node t w = refl
   arrive-is (leaf fail) t w = refl
   arrive-is (leaf (answer β)) t w =
-      settles (ltb (block_count t) C.setting.skip) (add_node t) (add_answer (add_node t)) w (block_of C.declared (answer_head (suc t.answers)) β)
+      settles C (ltb (block_count t) C.setting.skip) (add_node t) (add_answer (add_node t)) w (block_of C.declared (answer_head (suc t.answers)) β)
   arrive-is (leaf (error κ k β)) t w =
-      settles (ltb (block_count t) C.setting.skip) (add_node t) (add_error (add_node t)) w (block_of C.declared (error_head (suc t.errors) κ k) β)
+      settles C (ltb (block_count t) C.setting.skip) (add_node t) (add_error (add_node t)) w (block_of C.declared (error_head (suc t.errors) κ k) β)
 
   visit-is : (v : Visit) (t : Tallies) (w : Bytes) →
       visit C v t w ≡
       pick (eqb t.nodes C.setting.budget) (stopped spent t w)
-      (pick (ltb C.setting.path v.depth) (stopped path t w) (settled (add_node t) (counted v.event t) w (due_under C t v.event)))
+      (pick (ltb C.setting.path v.depth) (stopped path t w) (settled C (add_node t) (counted v.event t) w (due_under C t v.event)))
   unfolding visit
   visit-is v t w = rw arrive-is
 
@@ -124,7 +109,7 @@ module _ (C : Conditions) where
       rw (visit-is v t w, ne_eqb t.nodes C.setting.budget m.0, le-ltb C.setting.path v.depth m.1) (fits (due_under C t v.event) m.2)
     where
       fits : (o : Option Block) → ((b : Block) → o ≡ some b → length w + length (block_text b) ≤ C.size) →
-          settled (add_node t) (counted v.event t) w o ≡ going (counted v.event t) (w ++ due_text o)
+          settled C (add_node t) (counted v.event t) w o ≡ going (counted v.event t) (w ++ due_text o)
       fits none f = rw append-nil
       fits (some b) f = rw (le-leb (length w + length (block_text b)) C.size (f b refl))
 
