@@ -24,6 +24,7 @@ pub mod Settle
 -- of a call that is entered: what an argument's slot says, the frames of later procedures, the arguments one after the other, the terms that the
 -- parameters stand for
 pub mod Slots
+pub mod Indexed
 pub mod Outer
 pub mod Filling
 pub mod Entered

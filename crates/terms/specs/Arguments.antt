@@ -15,6 +15,8 @@ use Rattle.sheet.specs.Tables.{Words}
 use Rattle.sheet.specs.Held.{end_at, TermAt, height, SlotAt, slot_of}
 use Rattle.plan.specs.Planned.{ArgumentPlanned}
 use Rattle.terms.specs.Environment.{Environment, terms_of, number_of, Known, Memory}
+use Rattle.terms.specs.declared.Stack.{Stack}
+use Rattle.terms.specs.Results.{tag_of, word_of}
 use Rattle.terms.specs.Calls.{Fresh, is_value, argument_word}
 
 -- ---- what a slot has after it is written
@@ -47,6 +49,11 @@ pub record Looks (w : Words) (p : ℕ) (x : Side) : Type 0 where
   pub held : SlotAt w p slot
   pub is : x ≡ look slot place
 
+-- the result s of a term
+pub record Results (s : Stack) (x : Side) : Type 0 where
+  pub tag : s.tag ≡ tag_of x
+  pub word : s.value ≡ word_of x
+
 -- the argument t stands from one token up to another, in the environment E
 pub record Stands (w : Words) (from to p : ℕ) (D : Declared) (α : Valuation) (E : Environment) (t : Term) : Type 0 where
   pub memory : Memory w p D α E
@@ -75,6 +82,12 @@ pub record Argues (w : Words) (slot from to p : ℕ) : Type 0 where
   pub side : Side
   pub gives : Gives w from to p side
   pub room : slot + 1 < length w
+
+-- it is two tokens, so an element with a simple index, and s the planned word of the index
+pub record Indexes (w : Words) (slot s from to p : ℕ) : Type 0 where
+  pub argues : Argues w slot from to p
+  pub short : to ≡ from + 2
+  pub planned : s ≡ plan_at w (from + 1)
 
 -- it is one token, and s its planned word
 pub record Binds (w : Words) (slot s from to p : ℕ) : Type 0 where

@@ -3,11 +3,11 @@
 ghost use Rattle.std.specs.Prelude.{◌≡◌, true, false, ◌+◌, ◌<◌, ◌≤◌, length};
 ghost use Rattle.tables.specs.Layout.{max_parameters, path_at};
 ghost use Rattle.terms.specs.Calls.{Arrives, Arrived};
-ghost use Rattle.terms.specs.Arguments.{Bound, Written, Looks, Gives, Argues, Binds, Leads, noted};
+ghost use Rattle.terms.specs.Arguments.{Bound, Written, Looks, Results, Gives, Argues, Indexes, Binds, Leads, noted};
 
-use crate::evaluation::pass;
-use crate::tags;
-use tables::{end, frames, word};
+use crate::evaluation::{element, pass};
+use crate::{Stack, tags};
+use tables::{end, frames, operand, word};
 
 // The second word of an open parameter's slot.
 const OPEN: u32 = 0;
@@ -41,12 +41,11 @@ fn place(w: &mut [u32], slot: u32, p: u32) -> bool
     other(w, slot, p)
 }
 
-// Any term, by its tokens.
-fn work(w: &mut [u32], slot: u32, from: u32, to: u32, env: u32) -> bool
-    requires { Argues w.old slot from to env }
-    ensures { Bound w.old w.new slot result (Gives w.old from to env) }
+// The result s of a term.
+fn give(w: &mut [u32], slot: u32, s: Stack) -> bool
+    requires { slot + 1 < length w.old }
+    ensures { Bound w.old w.new slot result (Results s) }
 {
-    let s = pass(w, from, to, env);
     if s.tag == tags::VALUE {
         return value(w, slot, s.value);
     }
@@ -54,6 +53,32 @@ fn work(w: &mut [u32], slot: u32, from: u32, to: u32, env: u32) -> bool
         return other(w, slot, s.value);
     }
     other(w, slot, OPEN)
+}
+
+// Any term, by its tokens.
+fn work(w: &mut [u32], slot: u32, from: u32, to: u32, env: u32) -> bool
+    requires { Argues w.old slot from to env }
+    ensures { Bound w.old w.new slot result (Gives w.old from to env) }
+{
+    let s = pass(w, from, to, env);
+    give(w, slot, s)
+}
+
+// An element with a simple index, by the index's slot s where that has a value.
+fn index(w: &mut [u32], slot: u32, s: u32, from: u32, to: u32, env: u32) -> bool
+    requires { Indexes w.old slot s from to env }
+    ensures { Bound w.old w.new slot result (Gives w.old from to env) }
+{
+    if word(w, s) == 0 {
+        return work(w, slot, from, to, env);
+    }
+    let x = Stack {
+        at: 0,
+        tag: tags::VALUE,
+        value: word(w, s + 1),
+    };
+    let e = element(w, operand(w, from), x);
+    give(w, slot, e)
 }
 
 // What a parameter's slot s without a value leads to. An open one may have a value by now.
@@ -82,13 +107,17 @@ fn bind(w: &mut [u32], slot: u32, s: u32, from: u32, to: u32, env: u32) -> bool
     lead(w, slot, s, from, to, env)
 }
 
-// The argument whose tokens are those from `from` up to `to`: a simple term has one.
+// The argument whose tokens are those from `from` up to `to`: a simple term has one, and an element with a simple index two. (Such an element is what a
+// search mostly passes on; by its tokens it takes 64 instructions more.)
 fn argue(w: &mut [u32], slot: u32, from: u32, to: u32, env: u32) -> bool
     requires { Argues w.old slot from to env }
     ensures { Bound w.old w.new slot result (Gives w.old from to env) }
 {
     if to == from + 1 {
         return bind(w, slot, tables::planned(w, from), from, to, env);
+    }
+    if to == from + 2 {
+        return index(w, slot, tables::planned(w, from + 1), from, to, env);
     }
     work(w, slot, from, to, env)
 }

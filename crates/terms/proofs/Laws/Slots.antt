@@ -25,7 +25,7 @@ use Rattle.terms.specs.Environment.{Level, Environment, terms_of, number_of, Kno
 use Rattle.terms.specs.declared.Stack.{Stack}
 use Rattle.terms.specs.Results.{tag_of, word_of, value_tag, bare_tag, stack_of}
 use Rattle.terms.specs.Machine.{items, OffStack, Program, Passes, Passed}
-use Rattle.terms.specs.Arguments.{Bound, Written, Looks, Stands, Gives, Argues, Binds, Leads}
+use Rattle.terms.specs.Arguments.{Bound, Written, Looks, Results, Stands, Gives, Argues, Binds, Leads}
 use Rattle.terms.proofs.Laws.Low.{slot_held}
 use Rattle.terms.proofs.Laws.Here.{term-ends}
 use Rattle.terms.proofs.Laws.Stack.{tag_is, value-is}
@@ -221,6 +221,16 @@ module _ {tag v : ℕ} (x : Side) (t : tag ≡ tag_of x) (e : v ≡ word_of x) w
       go (bare p) t = absurd (b t)
       go (err κ) t = record { value = refl; word = refl }
 
+module _ {s : Stack} {w w' : Words} {slot : ℕ} {r : Bool} where
+  pub give-value : s.tag ≡ value_tag → Bound w w' slot r (Written true s.value) → Bound w w' slot r (Results s)
+  give-value d b = bound-as (λ x h. tag-value x h.tag h.word d) b
+
+  pub give-bare : s.tag ≡ bare_tag → Bound w w' slot r (Written false s.value) → Bound w w' slot r (Results s)
+  give-bare d b = bound-as (λ x h. tag-bare x h.tag h.word d) b
+
+  pub give-open : ¬ (s.tag ≡ value_tag) → ¬ (s.tag ≡ bare_tag) → Bound w w' slot r (Written false 0) → Bound w w' slot r (Results s)
+  give-open a c b = bound-as (λ x h. tag_open x h.tag h.word a c) b
+
 -- ---- the functions
 
 module _ {w w' : Words} {slot : ℕ} {r : Bool} where
@@ -258,7 +268,7 @@ module _ {w : Words} {slot s from to p : ℕ} (g : Leads w slot s from to p) {q 
 
 -- any term
 module _ {w : Words} {from to p : ℕ} where
-  program : {D : Declared} {α : Valuation} {E : Environment} {t : Term} → Stands w from to p D α E t →
+  pub program : {D : Declared} {α : Valuation} {E : Environment} {t : Term} → Stands w from to p D α E t →
       Program w from to p D α (terms_of E) (items t [])
   program {t = t} g = rw g.end (one g.memory g.fresh g.scope g.locals from t g.term g.ok g.low)
 
@@ -283,17 +293,5 @@ module _ {w : Words} {from to p : ℕ} where
     held : (x : Side) → Gives w from to p x → s ≡ stack_of results_at x
     held x v = rw v.is (passed-one passed v.declared v.valuation (terms_of v.environment) v.term (program v.stands))
 
-    pub work-value : {w' : Words} {slot : ℕ} {r : Bool} → s.tag ≡ value_tag →
-        Bound w₁ w' slot r (Written true s.value) → Bound w w' slot r (Gives w from to p)
-    work-value d b =
-        bound-after passed.kept passed.size (λ x v. tag-value x (tag_is (held x v)) (value-is (held x v)) d) b
-
-    pub work-bare : {w' : Words} {slot : ℕ} {r : Bool} → s.tag ≡ bare_tag →
-        Bound w₁ w' slot r (Written false s.value) → Bound w w' slot r (Gives w from to p)
-    work-bare d b =
-        bound-after passed.kept passed.size (λ x v. tag-bare x (tag_is (held x v)) (value-is (held x v)) d) b
-
-    pub work-open : {w' : Words} {slot : ℕ} {r : Bool} → ¬ (s.tag ≡ value_tag) → ¬ (s.tag ≡ bare_tag) →
-        Bound w₁ w' slot r (Written false 0) → Bound w w' slot r (Gives w from to p)
-    work-open a c b =
-        bound-after passed.kept passed.size (λ x v. tag_open x (tag_is (held x v)) (value-is (held x v)) a c) b
+    pub work-gives : {w' : Words} {slot : ℕ} {r : Bool} → Bound w₁ w' slot r (Results s) → Bound w w' slot r (Gives w from to p)
+    work-gives b = bound-after passed.kept passed.size (λ x v. record { tag = tag_is (held x v); word = value-is (held x v) }) b

@@ -9,3 +9,6 @@ overflow_add-from c = omega (arith, argues-inside c.requires)
 pub planned-requires : goal.planned-requires
 planned-requires c =
     omega (arith, argues-inside c.requires)
+
+pub overflow_add-from-2 : goal.overflow_add-from-2
+overflow_add-from-2 c = omega (arith, argues-inside c.requires)
