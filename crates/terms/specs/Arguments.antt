@@ -50,7 +50,7 @@ pub record Looks (w : Words) (p : ℕ) (x : Side) : Type 0 where
   pub is : x ≡ look slot place
 
 -- the result s of a term
-pub record Results (s : Stack) (x : Side) : Type 0 where
+pub record ResultOf (s : Stack) (x : Side) : Type 0 where
   pub tag : s.tag ≡ tag_of x
   pub word : s.value ≡ word_of x
 

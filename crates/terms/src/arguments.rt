@@ -3,7 +3,7 @@
 ghost use Rattle.std.specs.Prelude.{◌≡◌, true, false, ◌+◌, ◌<◌, ◌≤◌, length};
 ghost use Rattle.tables.specs.Layout.{max_parameters, path_at};
 ghost use Rattle.terms.specs.Calls.{Arrives, Arrived};
-ghost use Rattle.terms.specs.Arguments.{Bound, Written, Looks, Results, Gives, Argues, Indexes, Binds, Leads, noted};
+ghost use Rattle.terms.specs.Arguments.{Bound, Written, Looks, ResultOf, Gives, Argues, Indexes, Binds, Leads, noted};
 
 use crate::evaluation::{element, pass};
 use crate::{Stack, tags};
@@ -44,7 +44,7 @@ fn place(w: &mut [u32], slot: u32, p: u32) -> bool
 // The result s of a term.
 fn give(w: &mut [u32], slot: u32, s: Stack) -> bool
     requires { slot + 1 < length w.old }
-    ensures { Bound w.old w.new slot result (Results s) }
+    ensures { Bound w.old w.new slot result (ResultOf s) }
 {
     if s.tag == tags::VALUE {
         return value(w, slot, s.value);

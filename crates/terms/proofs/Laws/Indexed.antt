@@ -19,7 +19,7 @@ use Rattle.terms.specs.declared.Stack.{Stack}
 use Rattle.terms.specs.Environment.{Environment, terms_of, number_of}
 use Rattle.terms.specs.Results.{tag_of, word_of, stack_of, value_tag}
 use Rattle.terms.specs.Parts.{Elements, Element}
-use Rattle.terms.specs.Arguments.{Bound, Written, Results, Stands, Gives, Argues, Indexes}
+use Rattle.terms.specs.Arguments.{Bound, Written, ResultOf, Stands, Gives, Argues, Indexes}
 use Rattle.terms.proofs.Laws.Here.{term-ends}
 use Rattle.terms.proofs.Laws.Stack.{tag_is, value-is}
 use Rattle.terms.proofs.Laws.Elements.{elements}
@@ -124,7 +124,7 @@ module _ {w : Words} {slot s from to p : ℕ} (g : Indexes w slot s from to p) w
 
   module _ {f n a : ℕ} {i e : Stack} (flag : f ≡ get_or w s 0) (some : ¬ (f ≡ 0)) (word : n ≡ get_or w (s + 1) 0) (array : a ≡ operand_at w from)
       (tag : i.tag ≡ value_tag) (value : i.value ≡ n) (found : Element w a i e) where
-    gives : (x : Side) → Gives w from to p x → Results e x
+    gives : (x : Side) → Gives w from to p x → ResultOf e x
     gives x v =
         let t = element-of g.short v in
         let y = index-side g.short v in
@@ -137,5 +137,5 @@ module _ {w : Words} {slot s from to p : ℕ} (g : Indexes w slot s from to p) w
         element-is g.short v ∙ ap (λ (k : ℕ). element_side v.declared v.valuation k y) (sym at) in
         rw same (record { tag = tag_is is; word = value-is is })
 
-    pub index-gives : {w' : Words} {r : Bool} → Bound w w' slot r (Results e) → Bound w w' slot r (Gives w from to p)
+    pub index-gives : {w' : Words} {r : Bool} → Bound w w' slot r (ResultOf e) → Bound w w' slot r (Gives w from to p)
     index-gives b = bound-as gives b

@@ -25,7 +25,7 @@ use Rattle.terms.specs.Environment.{Level, Environment, terms_of, number_of, Kno
 use Rattle.terms.specs.declared.Stack.{Stack}
 use Rattle.terms.specs.Results.{tag_of, word_of, value_tag, bare_tag, stack_of}
 use Rattle.terms.specs.Machine.{items, OffStack, Program, Passes, Passed}
-use Rattle.terms.specs.Arguments.{Bound, Written, Looks, Results, Stands, Gives, Argues, Binds, Leads}
+use Rattle.terms.specs.Arguments.{Bound, Written, Looks, ResultOf, Stands, Gives, Argues, Binds, Leads}
 use Rattle.terms.proofs.Laws.Low.{slot_held}
 use Rattle.terms.proofs.Laws.Here.{term-ends}
 use Rattle.terms.proofs.Laws.Stack.{tag_is, value-is}
@@ -222,13 +222,13 @@ module _ {tag v : ℕ} (x : Side) (t : tag ≡ tag_of x) (e : v ≡ word_of x) w
       go (err κ) t = record { value = refl; word = refl }
 
 module _ {s : Stack} {w w' : Words} {slot : ℕ} {r : Bool} where
-  pub give-value : s.tag ≡ value_tag → Bound w w' slot r (Written true s.value) → Bound w w' slot r (Results s)
+  pub give-value : s.tag ≡ value_tag → Bound w w' slot r (Written true s.value) → Bound w w' slot r (ResultOf s)
   give-value d b = bound-as (λ x h. tag-value x h.tag h.word d) b
 
-  pub give-bare : s.tag ≡ bare_tag → Bound w w' slot r (Written false s.value) → Bound w w' slot r (Results s)
+  pub give-bare : s.tag ≡ bare_tag → Bound w w' slot r (Written false s.value) → Bound w w' slot r (ResultOf s)
   give-bare d b = bound-as (λ x h. tag-bare x h.tag h.word d) b
 
-  pub give-open : ¬ (s.tag ≡ value_tag) → ¬ (s.tag ≡ bare_tag) → Bound w w' slot r (Written false 0) → Bound w w' slot r (Results s)
+  pub give-open : ¬ (s.tag ≡ value_tag) → ¬ (s.tag ≡ bare_tag) → Bound w w' slot r (Written false 0) → Bound w w' slot r (ResultOf s)
   give-open a c b = bound-as (λ x h. tag_open x h.tag h.word a c) b
 
 -- ---- the functions
@@ -293,5 +293,5 @@ module _ {w : Words} {from to p : ℕ} where
     held : (x : Side) → Gives w from to p x → s ≡ stack_of results_at x
     held x v = rw v.is (passed-one passed v.declared v.valuation (terms_of v.environment) v.term (program v.stands))
 
-    pub work-gives : {w' : Words} {slot : ℕ} {r : Bool} → Bound w₁ w' slot r (Results s) → Bound w w' slot r (Gives w from to p)
+    pub work-gives : {w' : Words} {slot : ℕ} {r : Bool} → Bound w₁ w' slot r (ResultOf s) → Bound w w' slot r (Gives w from to p)
     work-gives b = bound-after passed.kept passed.size (λ x v. record { tag = tag_is (held x v); word = value-is (held x v) }) b
