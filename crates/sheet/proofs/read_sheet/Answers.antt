@@ -7,8 +7,6 @@ use Rattle.sheet.proofs.Cleared.{cleared, refused-whole, found-whole}
 use Rattle.sheet.proofs.read_sheet.Goals as goal
 use Rattle.sheet.proofs.read_sheet.Goals.{After-all_lines}
 
--- ---- places: the words cleared, and all lines read over them
-
 -- over as many words as there were
 went-here : (c : After-all_lines) → let a = c.args in
     Went a.strict 7 a.s.now (length a.w.now) c.all_lines.result c.all_lines.new.w
@@ -16,7 +14,7 @@ went-here c =
     let a = c.args in
     as_long a.strict 7 a.s.now c.all_lines.result _ (cleared a.w.now _ c.clear.ensures).0 c.all_lines.ensures
 
--- ---- the needs
+-- ---- the goals
 
 pub all_lines-requires : goal.all_lines-requires
 all_lines-requires c =

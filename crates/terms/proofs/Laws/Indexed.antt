@@ -14,7 +14,8 @@ use Rattle.specification.proofs.Laws.Contradiction.{contradiction}
 use Rattle.tables.specs.Layout.{path_at, plan_at, max_tokens}
 use Rattle.sheet.specs.Tables.{Words}
 use Rattle.sheet.specs.Held.{operand_at, end_at, TermAt, height}
-use Rattle.plan.specs.Planned.{is_simple, ArgumentPlanned, SlotPlanned}
+use Rattle.plan.specs.Instructions.{is_simple}
+use Rattle.plan.specs.Planned.{ArgumentPlanned, SlotPlanned}
 use Rattle.terms.specs.declared.Stack.{Stack}
 use Rattle.terms.specs.Environment.{Environment, terms_of, number_of}
 use Rattle.terms.specs.Results.{tag_of, word_of, stack_of, value_tag}

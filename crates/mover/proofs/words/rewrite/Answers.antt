@@ -52,7 +52,7 @@ word c k token until q u =
     (word_more k a.w.now a.newer l.token l.until (key-at k ∙ sym c.either_at.ensures ∙ c.if-either_at.false) token until q u)
     l.invariant.1
 
--- ---- the needs
+-- ---- the goals
 
 pub loop-i-init : goal.loop-i-init
 loop-i-init c =

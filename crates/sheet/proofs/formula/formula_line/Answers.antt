@@ -14,8 +14,6 @@ use Rattle.sheet.proofs.FormulaRest.{closes-refused, closes-read, within-read, k
 use Rattle.sheet.proofs.formula.formula_line.Goals as goal
 use Rattle.sheet.proofs.formula.formula_line.Goals.{Else-not-begins, In-Read}
 
--- ---- places: the key was there, the formula was read, and in each what is known
-
 key_here : (c : Else-not-begins) → begins (bytes "formula=") (drop c.args.x.at c.args.s.now) ≡ true
 key_here c = sym c.begins.ensures ∙ c.if-not-begins.false
 
@@ -32,7 +30,7 @@ closed-here : (c : In-Read) (B : Locals) → Bits c.args.x.bound B → (D : Decl
 closed-here c B b D g =
     closes-read (keyed (begin c.args.s.now c.args.d c.args.x.at c.args.x.tokens B)) c.args.w.now _ _ D _ _ _ c.in-Read.is (c.to_feed.ensures.1 B b D g)
 
--- ---- the needs
+-- ---- the goals
 
 pub returns-then-not-begins : goal.returns-then-not-begins
 returns-then-not-begins c =

@@ -4,10 +4,6 @@ use mathlib.Core.Path.{sym, ◌∙◌}
 use Rattle.sheet.proofs.Faults.{empties-other, empties-off, empties-word, empties-constant}
 use Rattle.sheet.proofs.formula.is_empty.Goals as goal
 
--- ---- places: the start, and after each test
-
--- ---- the needs
-
 pub returns-then-e-ne-UPPER : goal.returns-then-e-ne-UPPER
 returns-then-e-ne-UPPER c = λ d p m h. empties-other _ d _ (λ q. c.if-e-ne-UPPER.true (m.sort ∙ q))
 

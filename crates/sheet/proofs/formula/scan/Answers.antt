@@ -17,8 +17,6 @@ use Rattle.sheet.proofs.Scan.{sized-here, May, turn-stops, may, turn-empties, tu
 use Rattle.sheet.proofs.formula.scan.Goals as goal
 use Rattle.sheet.proofs.formula.scan.Goals.{After-is_empty, After-push-n, At-loop-d, Else-k-ne0}
 
--- ---- places: the first entry is put, the loop's head, the entry that is due, the token that may stand, and that makes no range empty
-
 -- ---- where the formula begins, and what the loop's variables stand for, with any list for the set of locals that have a binder
 
 reading : (c : At-loop-d) →
@@ -64,7 +62,7 @@ taken-some c = taken_here c (locals_in c.args.binders max_locals) (bits_in c.arg
 long-here : (c : After-push-n) → length c.push-n.new.w ≡ length c.args.w.now
 long-here c = (taken-some c).long ∙ c.begin.auto.w
 
--- ---- the needs
+-- ---- the goals
 
 pub loop-d-init : goal.loop-d-init
 loop-d-init c = (

@@ -12,8 +12,6 @@ use Rattle.sheet.proofs.FormulaRest.{line_refused, scans-refused, scans-read, th
 use Rattle.sheet.proofs.formula.to_feed.Goals as goal
 use Rattle.sheet.proofs.formula.to_feed.Goals.{In-Read}
 
--- ---- places: the tokens were read, and what is known there, with any list for the set of locals that have a binder
-
 through_here : (c : In-Read) (B : Locals) → Bits c.args.binders B →
     Through (begin c.args.s.now c.args.d c.args.from c.args.tokens B) c.args.w.now c.scan.new.w c.in-Read.n c.in-Read.e c.in-Read.m
 through_here c B b = scans-read (begin c.args.s.now c.args.d c.args.from c.args.tokens B) c.args.w.now _ _ _ _ _ c.in-Read.is (c.scan.ensures B b)
@@ -24,7 +22,7 @@ through-some : (c : In-Read) →
     c.in-Read.e c.in-Read.m
 through-some c = let m = c.args.binders in through_here c (locals_in m max_locals) (bits_in m)
 
--- ---- the needs
+-- ---- the goals
 
 pub scan-requires : goal.scan-requires
 scan-requires c = c.requires

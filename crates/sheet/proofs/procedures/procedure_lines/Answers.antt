@@ -10,14 +10,12 @@ use Rattle.sheet.proofs.procedures.procedure_lines.Goals.{At-loop-w}
 pub loop-w-init : goal.loop-w-init
 loop-w-init c = ((refl, c.requires), refl)
 
--- ---- places: the start, and the loop's head before a line
-
 -- what was read, over the words of the loop
 went-here : (c : At-loop-w) →
     Went c.args.d.strict 5 c.args.s.now (length c.loop-w.w) c.loop-w.q c.loop-w.w
 went-here c = as_long _ 5 c.args.s.now c.loop-w.q c.loop-w.w (sym c.loop-w.invariant.1) c.loop-w.invariant.0
 
--- ---- the needs
+-- ---- the goals
 
 pub next-q-requires : goal.next-q-requires
 next-q-requires c =

@@ -6,13 +6,11 @@ use Rattle.sheet.proofs.Opened.{opened-ex, opened-range}
 use Rattle.sheet.proofs.stack.push.Goals as goal
 use Rattle.sheet.proofs.stack.push.Goals.{Else-e-eq-PROCEDURE}
 
--- ---- places: the start, the tests of the sort, and the formula of a binder put
-
 -- the local of a binder is due
 is-local : (c : Else-e-eq-PROCEDURE) → procedure_sort < c.args.e.sort
 is-local c = omega (arith, c.if-e-le-UPPER.false, c.if-e-eq-BOUNDS.false, c.if-e-eq-PROCEDURE.false)
 
--- ---- the needs
+-- ---- the goals
 
 pub push_operands-requires : goal.push_operands-requires
 push_operands-requires c =

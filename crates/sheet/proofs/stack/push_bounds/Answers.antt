@@ -4,10 +4,6 @@ use Rattle.sheet.proofs.CodeOperands.{operands-few}
 use Rattle.sheet.proofs.Opened.{opened-constant, opened-lower}
 use Rattle.sheet.proofs.stack.push_bounds.Goals as goal
 
--- ---- places: the start, and the upper bound put below a word's operands
-
--- ---- the needs
-
 pub returns-then-t-eq-CONSTANT : goal.returns-then-t-eq-CONSTANT
 returns-then-t-eq-CONSTANT c =
     let a = c.args in

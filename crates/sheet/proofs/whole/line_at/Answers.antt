@@ -11,8 +11,6 @@ use Rattle.sheet.proofs.AllLines.{as_line, still-refused, leads-on, at-line}
 use Rattle.sheet.proofs.whole.line_at.Goals as goal
 use Rattle.sheet.proofs.whole.line_at.Goals.{Else-k-eq-PROCEDURES, In-Read}
 
--- ---- places: what was read before, and after each test of the line's number
-
 -- ---- what is known there, and what follows from a line
 
 known : (p : In-Read) (j : ℕ) → p.args.k ≡ j →
@@ -35,7 +33,7 @@ last_line : (c : Else-k-eq-PROCEDURES) → c.args.k ≡ 6
 last_line c =
     omega (arith, c.if-k-le-LOCALS.false, c.if-k-eq-ARRAYS.false, c.if-k-eq-GIVEN.false, c.if-k-eq-PROCEDURES.false, c.requires.0)
 
--- ---- the needs
+-- ---- the goals
 
 pub returns-then-k-le-LOCALS : goal.returns-then-k-le-LOCALS
 returns-then-k-le-LOCALS c =
