@@ -37,6 +37,7 @@ fn pack(t: &[u8]) -> u64
 }
 
 // The code of a word of edition 1 by the number of its bytes, 0 for any other: two digits a byte, the last byte first, and a 1 before them.
+#[tactic(auto, unfolding(crate::specs::Packed::code_by, crate::specs::Packed::packed, crate::specs::Codes::token_of, specification::specs::Words::common_words, specification::specs::Words::own_words, specification::specs::Words::words, specification::specs::Words::older_division))]
 fn first_edition(word: u64) -> u32
     ensures { result ≡ code_by word (words 1) }
 {
@@ -65,6 +66,7 @@ fn first_edition(word: u64) -> u32
 }
 
 // The same of edition 2.
+#[tactic(auto, unfolding(crate::specs::Packed::code_by, crate::specs::Packed::packed, crate::specs::Codes::token_of, specification::specs::Words::common_words, specification::specs::Words::own_words, specification::specs::Words::words, specification::specs::Words::older_division))]
 fn second_edition(word: u64) -> u32
     ensures { result ≡ code_by word (words 2) }
 {
@@ -75,6 +77,7 @@ fn second_edition(word: u64) -> u32
 }
 
 // And from edition 3 on: `div` and `mod` round down, and two words carry the older pair.
+#[tactic(auto, unfolding(crate::specs::Packed::code_by, crate::specs::Packed::packed, crate::specs::Codes::token_of, specification::specs::Words::common_words, specification::specs::Words::own_words, specification::specs::Words::words, specification::specs::Words::older_division, specification::specs::Words::division))]
 fn third_edition(word: u64) -> u32
     ensures { result ≡ code_by word (words 3) }
 {
