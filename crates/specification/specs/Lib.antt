@@ -2,6 +2,7 @@
 pub mod Lists
 pub mod Bytes
 pub mod Number
+pub mod Refusals
 pub mod Parser
 pub mod Lines
 pub mod Given
@@ -24,11 +25,11 @@ pub mod Visits
 pub mod Run
 pub mod Outcome
 pub mod Printed
-pub mod Report
 pub mod Listed
 pub mod Demand2
 pub mod Plain
 pub mod Demand3
 pub mod InRanges
 pub mod Moves
+pub mod Report
 pub mod Moving

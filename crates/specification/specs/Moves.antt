@@ -1,10 +1,9 @@
 -- Moving the catalogue (document 02, Eight and Nine): a sheet of edition 2 in edition 3, the way back, and a pass over sheets of edition 3. The
 -- same cells, given values and formulas stand in both; only the edition, the line of ranges and the spelling of two words are others. What is
 -- written in edition 3 has no empty range. What holds of the three is in specs/Moving.antt. Assumes nothing.
-use Rattle.std.specs.Prelude.{ℕ, ◌+◌, Bool, true, false, ◌&&◌, List, [], ◌∷◌, ◌++◌, length, drop, replicate, leb}
+use Rattle.std.specs.Prelude as std
+use Rattle.std.specs.Prelude.{ℕ, ◌+◌, Bool, true, false, ◌&&◌, List, [], ◌∷◌, ◌++◌, length, drop, replicate, leb, Ok, Err}
 use Rattle.std.proofs.Math.Option.{Option, none, some as just}
-use Rattle.specification.specs.declared.Move.{Move}
-use Rattle.specification.specs.declared.Move.TheVariants.{Refused, Moved}
 use Rattle.specification.specs.Bytes.{Bytes, bytes, pick}
 use Rattle.specification.specs.Number.{least, greatest}
 use Rattle.specification.specs.Parser.{Read, refused, found, and_then}
@@ -163,9 +162,13 @@ abbrev pub written : Result → Bytes
 written (refusal n p) = []
 written (moved t) = t
 
+-- how many bytes were written, or a refusal's number and place
+abbrev pub Move : Type 0
+Move = std.Result ℕ (ℕ × ℕ)
+
 abbrev pub outcome : Result → Move
-outcome (refusal n p) = Refused n p
-outcome (moved t) = Moved (length t)
+outcome (refusal n p) = Err (n, p)
+outcome (moved t) = Ok (length t)
 
 -- the moved sheet, and beyond it what was held; all of that where the sheet is refused
 unfoldable pub output_after : Result → Bytes → Bytes

@@ -1,12 +1,12 @@
 -- The outcome of a call, from the sheet's bytes, the setting and the lengths of the lent memory; and what stands in the lent memory
 -- afterwards. Assumes nothing.
-use Rattle.std.specs.Prelude.{ℕ, ◌+◌, ◌*◌, Bool, true, ◌&&◌, List, [], ◌∷◌, ◌++◌, length, drop, replicate, leb}
+use Rattle.std.specs.Prelude as std
+use Rattle.std.specs.Prelude.{ℕ, ◌+◌, ◌*◌, Bool, true, ◌&&◌, List, [], ◌∷◌, ◌++◌, length, drop, replicate, leb, Ok, Err}
 use Rattle.specification.specs.declared.Setting.{Setting}
 use Rattle.specification.specs.declared.Tallies.{Tallies}
 use Rattle.specification.specs.declared.End.{End}
 use Rattle.specification.specs.declared.End.TheVariants.{Done, Spent, Path, Output}
-use Rattle.specification.specs.declared.Outcome.{Outcome}
-use Rattle.specification.specs.declared.Outcome.TheVariants.{Refused, Ran}
+use Rattle.specification.specs.declared.Ran.{Ran}
 use Rattle.specification.specs.Bytes.{Bytes, pick, between}
 use Rattle.specification.specs.Parser.{Read, refused, found}
 use Rattle.specification.specs.Given.{Item}
@@ -82,9 +82,16 @@ abbrev pub written : Result → Bytes
 written (refusal n p) = []
 written (ran e t w) = w
 
+-- how the run ended and how many bytes it wrote, or a refusal's number and place
+abbrev pub Outcome : Type 0
+Outcome = std.Result Ran (ℕ × ℕ)
+
+abbrev pub ended : End → Tallies → ℕ → Ran
+ended e t n = record { end = e; tallies = t; written = n }
+
 abbrev pub outcome : Result → Outcome
-outcome (refusal n p) = Refused n p
-outcome (ran e t w) = Ran e t (length w)
+outcome (refusal n p) = Err (n, p)
+outcome (ran e t w) = Ok (ended e t (length w))
 
 -- the output begins with whole blocks, and beyond them holds what it held
 unfoldable pub output_after : Result → Bytes → Bytes

@@ -1,15 +1,13 @@
 -- What the box prints (document 01): "the listing, then the lines end, nodes, answers, errors, fails; or `refused=` and `at=`". And the
 -- box's own setting and memory. Assumes nothing.
-use Rattle.std.specs.Prelude.{ℕ, ◌++◌, take}
+use Rattle.std.specs.Prelude.{ℕ, ◌++◌, take, Ok, Err}
 use Rattle.specification.specs.declared.Setting.{Setting}
 use Rattle.specification.specs.declared.Tallies.{Tallies}
 use Rattle.specification.specs.declared.End.{End}
 use Rattle.specification.specs.declared.End.TheVariants.{Done, Spent, Path, Output}
-use Rattle.specification.specs.declared.Outcome.{Outcome}
-use Rattle.specification.specs.declared.Outcome.TheVariants.{Refused, Ran}
 use Rattle.specification.specs.Bytes.{Bytes, bytes}
 use Rattle.specification.specs.Number.{printℕ}
-use Rattle.specification.specs.Outcome.{Result, call, written, outcome}
+use Rattle.specification.specs.Outcome.{Result, call, written, Outcome, outcome}
 
 -- ---- a page
 
@@ -36,8 +34,8 @@ refusal_lines number place = field_text (bytes "refused=") number ++ field_text 
 
 -- the lines after the listing
 unfoldable pub closing : Outcome → Bytes
-closing (Refused number place) = refusal_lines number place
-closing (Ran end t written) = end_line end ++ tally_lines t
+closing (Err r) = refusal_lines r.0 r.1
+closing (Ok x) = end_line x.end ++ tally_lines x.tallies
 
 -- the listing and then these lines
 unfoldable pub printed : Result → Bytes

@@ -1,6 +1,9 @@
-// The types that the definitions in specs/ share with the code. No function stands here: the crate is what a reader must
-// believe, and its laws are under proofs/.
+// The types that the definitions in specs/ share with the code: the crate is what a reader must believe, and its laws are under proofs/.
 #![tactic(auto)]
+
+mod refusals;
+
+pub use crate::refusals::{Reason, Refusal};
 
 // A run's setting beside the lent memory: path limit, node budget, and how many blocks are skipped.
 #[derive(Clone, Copy)]
@@ -10,13 +13,13 @@ pub struct Setting {
     pub skip: u32,
 }
 
-// The way a run ended.
+// The way a run ended, with its number in a report.
 #[derive(Clone, Copy)]
 pub enum End {
-    Done,
-    Spent,
-    Path,
-    Output,
+    Done = 0,
+    Spent = 1,
+    Path = 2,
+    Output = 3,
 }
 
 // The four tallies: visits, and the answer, error and failure leaves of the main tree.
@@ -28,23 +31,10 @@ pub struct Tallies {
     pub fails: u32,
 }
 
-// What a call returns: a refusal's number and byte place, or how the run ended and the bytes written.
+// What is told of a run: how it ended, its tallies and the bytes written. A call gives it, or the refusal of its sheet.
 #[derive(Clone, Copy)]
-pub enum Outcome {
-    Refused {
-        number: u32,
-        place: usize,
-    },
-    Ran {
-        end: End,
-        tallies: Tallies,
-        written: usize,
-    },
-}
-
-// What a call returns that moves a sheet to another edition or tidies it: a refusal's number and byte place, or how many bytes it wrote.
-#[derive(Clone, Copy)]
-pub enum Move {
-    Refused { number: u32, place: usize },
-    Moved { written: usize },
+pub struct Ran {
+    pub end: End,
+    pub tallies: Tallies,
+    pub written: usize,
 }
