@@ -2,11 +2,12 @@
 // words compare, count and step as their values do. An operation is exact on 64 bits and then held to 32.
 #![tactic(auto)]
 
-ghost use Rattle.std.specs.Prelude.{◌≡◌, pos, ◌+ℤ◌, ◌-ℤ◌, ◌*ℤ◌};
+ghost use Rattle.std.specs.Prelude.{◌≡◌, pos, ◌+ℤ◌, ◌-ℤ◌, ◌*ℤ◌, IfOk, IfErr};
 ghost use Rattle.std.specs.Int.Signed.{quot_z};
 ghost use Rattle.specification.specs.Arithmetic.{fit, divided, floor_z, remains};
 ghost use Rattle.values.specs.Word.{signed, Narrow};
-ghost use Rattle.values.specs.Packed.{packed};
+ghost use Rattle.values.specs.Packed.{packed, kind_of};
+ghost use Rattle.values.specs.declared.Fault.TheVariants.{ZeroDivisor};
 ghost use Rattle.values.specs.Rounded.{opposite, rounded_down};
 
 pub mod exact;
@@ -17,91 +18,94 @@ const LEAST: i64 = -2147483648;
 const GREATEST: i64 = 2147483647;
 
 // The word of 0, and what a word has above its value.
-const ZERO: u32 = 2147483648;
+pub const ZERO: u32 = 2147483648;
 
-const BIAS: i64 = 2147483648;
+const BIAS: i64 = ZERO as i64;
 
-// Error kinds.
-const OUTSIDE: u32 = 2;
-
-const ZERO_DIVISOR: u32 = 3;
-
-// The word of a value, or an error kind.
-#[derive(Clone, Copy)]
-pub enum Computed {
-    Value(u32),
-    Fault(u32),
+// Why an operation has no value.
+#[derive(Clone, Copy, Debug, PartialEq, Eq)]
+pub enum Fault {
+    Outside,
+    ZeroDivisor,
 }
 
-// The value of a word.
+// The number of the error kind.
+impl From<Fault> for u32 {
+    ghost from_gives = { λ fault kind. kind ≡ kind_of fault };
+
+    fn from(fault: Fault) -> u32 {
+        match fault {
+            Fault::Outside => 2,
+            Fault::ZeroDivisor => 3,
+        }
+    }
+}
+
+// The value of a word. Words stay plain u32s, and no type of their own: they stand among other words in the memory that is lent.
 fn widen(w: u32) -> i64
     ensures { result ≡ signed w }
 {
-    w as i64 - BIAS
+    i64::from(w) - BIAS
 }
 
-// The word of a value, if it has one.
-fn pack(z: i64) -> Computed
+// The word of a value, if 32 bits hold it.
+fn pack(z: i64) -> Result<u32, Fault>
     ensures { result ≡ packed (fit z) }
 {
-    if z < LEAST {
-        return Computed::Fault(OUTSIDE);
+    if !(LEAST..=GREATEST).contains(&z) {
+        return Err(Fault::Outside);
     }
-    if GREATEST < z {
-        return Computed::Fault(OUTSIDE);
-    }
-    Computed::Value((z + BIAS) as u32)
+    Ok((z + BIAS) as u32)
 }
 
-pub fn add(x: u32, y: u32) -> Computed
+// The value of a divisor.
+fn divisor(y: u32) -> Result<i64, Fault>
+    ensures ok { IfOk result (λ z. (z ≡ signed y) × ¬ (signed y ≡ pos 0)) }
+    ensures err { IfErr result (λ e. (e ≡ ZeroDivisor) × (signed y ≡ pos 0)) }
+{
+    if y == ZERO {
+        return Err(Fault::ZeroDivisor);
+    }
+    Ok(widen(y))
+}
+
+pub fn add(x: u32, y: u32) -> Result<u32, Fault>
     ensures { result ≡ packed (fit (signed x +ℤ signed y)) }
 {
     pack(widen(x) + widen(y))
 }
 
-pub fn sub(x: u32, y: u32) -> Computed
+pub fn sub(x: u32, y: u32) -> Result<u32, Fault>
     ensures { result ≡ packed (fit (signed x -ℤ signed y)) }
 {
     pack(widen(x) - widen(y))
 }
 
-pub fn mul(x: u32, y: u32) -> Computed
+pub fn mul(x: u32, y: u32) -> Result<u32, Fault>
     ensures { result ≡ packed (fit (signed x *ℤ signed y)) }
 {
     pack(widen(x) * widen(y))
 }
 
 // Toward zero. Only -2,147,483,648 by -1 is outside 32 bits.
-pub fn quotient(x: u32, y: u32) -> Computed
+pub fn quotient(x: u32, y: u32) -> Result<u32, Fault>
     ensures { result ≡ packed (divided (signed y) (fit (quot_z (signed x) (signed y)))) }
 {
-    if y == ZERO {
-        return Computed::Fault(ZERO_DIVISOR);
-    }
-    pack(widen(x) / widen(y))
+    pack(widen(x) / divisor(y)?)
 }
 
 // What the quotient leaves, with the dividend's sign; for -2,147,483,648 by -1 that is 0.
-pub fn remainder(x: u32, y: u32) -> Computed
+pub fn remainder(x: u32, y: u32) -> Result<u32, Fault>
     ensures { result ≡ packed (divided (signed y) (fit (remains (signed x) (signed y) (quot_z (signed x) (signed y))))) }
 {
-    if y == ZERO {
-        return Computed::Fault(ZERO_DIVISOR);
-    }
-    pack(widen(x) % widen(y))
+    pack(widen(x) % divisor(y)?)
 }
 
 // Whether one is below 0 and the other above.
 fn opposite(x: i64, y: i64) -> bool
     ensures { result ≡ opposite x y }
 {
-    if x < 0 {
-        return 0 < y;
-    }
-    if 0 < x {
-        return y < 0;
-    }
-    false
+    x < 0 && 0 < y || 0 < x && y < 0
 }
 
 // A quotient rounded down, and what it leaves.
@@ -129,21 +133,15 @@ fn rounded(x: i64, y: i64) -> Divided
 }
 
 // Rounding down. Only -2,147,483,648 by -1 is outside 32 bits.
-pub fn floor(x: u32, y: u32) -> Computed
+pub fn floor(x: u32, y: u32) -> Result<u32, Fault>
     ensures { result ≡ packed (divided (signed y) (fit (floor_z (signed x) (signed y)))) }
 {
-    if y == ZERO {
-        return Computed::Fault(ZERO_DIVISOR);
-    }
-    pack(rounded(widen(x), widen(y)).quotient)
+    pack(rounded(widen(x), divisor(y)?).quotient)
 }
 
 // What rounding down leaves, with the divisor's sign.
-pub fn modulus(x: u32, y: u32) -> Computed
+pub fn modulus(x: u32, y: u32) -> Result<u32, Fault>
     ensures { result ≡ packed (divided (signed y) (fit (remains (signed x) (signed y) (floor_z (signed x) (signed y))))) }
 {
-    if y == ZERO {
-        return Computed::Fault(ZERO_DIVISOR);
-    }
-    pack(rounded(widen(x), widen(y)).rest)
+    pack(rounded(widen(x), divisor(y)?).rest)
 }

@@ -1,21 +1,19 @@
 -- The machine's 64 bits hold each operation on two values of 32 bits exactly, and what it reads back is the mathematical result.
 -- Assumes nothing.
-use Prim.Native.Nat.{ℕ, zero, suc, ◌<◌, ◌≤◌}
+use Prim.Native.Nat.{ℕ, suc, ◌<◌, ◌≤◌}
 use native.Mathlib.Omega.{arith}
 use native.Mathlib.Nat.{mul-le-mul}
-use mathlib.Core.Path.{◌≡◌, refl, ◌∙◌, ap}
-use mathlib.Core.Bool.{true, false}
+use mathlib.Core.Path.{◌≡◌, ◌∙◌, ap}
 use lib.Dec.{T}
-use lib.IntN.{ℤ, pos, negsuc, neg_ℤ, nat_abs, ◌+ℤ◌, ◌-ℤ◌, ◌*ℤ◌}
-use lib.Signed.{lt_z, le_z, quot_z, rem_z, le_z_yes, lt_z_yes, lt_z_no, clash_ℤ}
+use lib.IntN.{ℤ, pos, negsuc, nat_abs, ◌+ℤ◌, ◌*ℤ◌}
+use lib.Signed.{quot_z, rem_z}
 use mir.Val.{SFits, to_z, of_z}
 use mir.ValLaws.{to_z-of_z}
 use mir.Syntax.{w64}
-use Rattle.specification.specs.Number.{in32, least, greatest}
+use Rattle.specification.specs.Number.{in32}
 use Rattle.values.specs.Word.{signed, biased, Narrow}
-use Rattle.values.proofs.Laws.Test.{is_true, is_false, and_left, and_right, and_both}
-use Rattle.specification.proofs.Laws.Difference.{subℕ-ge, abs_neg, abs-sum, abs-product, abs-quotient, abs-remainder}
-use Rattle.values.proofs.Laws.Word.{narrow_signed, signed-nonzero, biased-word, in32-below}
+use Rattle.specification.proofs.Laws.Difference.{subℕ-ge, abs-product, abs-quotient, abs-remainder}
+use Rattle.values.proofs.Laws.Word.{narrow_signed, biased-word, in32-below}
 
 -- ---- 64 bits are wide enough
 
@@ -27,18 +25,9 @@ wide (negsuc n) h = record { sfits = omega arith }
 narrow-fits : (z : ℤ) → Narrow z → SFits w64 z
 narrow-fits z h = wide z (omega (arith, h))
 
-signed-fits : (w : ℕ) → w < 4294967296 → SFits w64 (signed w)
-signed-fits w h = narrow-fits (signed w) (narrow_signed w h)
-
 -- no operands of 32 bits take the operation out of 64
 abbrev pub Exact : (ℤ → ℤ → ℤ) → Type 0
 Exact f = (x y : ℤ) → Narrow x → Narrow y → SFits w64 (f x y)
-
-pub exact-sum : Exact ◌+ℤ◌
-exact-sum x y p q = wide (x +ℤ y) (omega (arith, abs-sum x y))
-
-pub exact-difference : Exact ◌-ℤ◌
-exact-difference x y p q = wide (x -ℤ y) (omega (arith, abs-sum x (neg_ℤ y), abs_neg y))
 
 pub exact-product : Exact ◌*ℤ◌
 exact-product x y p q = wide (x *ℤ y) (omega (arith, abs-product x y, mul-le-mul p q))
@@ -66,12 +55,6 @@ module _ (x y : ℤ) (s : Narrow x) (t : Narrow y) (f : ℤ → ℤ → ℤ) (ex
   pub operation-read : machine (f (machine x) (machine y)) ≡ f x y
   operation-read = rw (narrow-read x s, narrow-read y t) (to_z-of_z w64 (f x y) (exact x y s t))
 
--- the machine's divisor is not 0
-pub machine-nonzero : (y : ℤ) → Narrow y → (y ≡ pos zero → ⊥) → 0 < of_z w64 y
-machine-nonzero (pos zero) t n = absurd (n refl)
-machine-nonzero (pos (suc b)) t n = omega arith
-machine-nonzero (negsuc b) t n = omega arith
-
 -- two words, and their values as the machine has them
 pub record Operands (x y : ℕ) (a b : ℤ) : Type 0 where
   pub left_word : x < 4294967296
@@ -93,29 +76,7 @@ module _ {x y : ℕ} {a b : ℤ} (o : Operands x y a b) where
     pub result-read : machine (f (machine a) (machine b)) ≡ f (signed x) (signed y)
     result-read = rw (o.left, o.right) (operation-read (signed x) (signed y) left-narrow right-narrow f exact)
 
-  pub divisor-nonzero : (y ≡ 2147483648 → ⊥) → 0 < of_z w64 b
-  divisor-nonzero n = rw o.right (machine-nonzero (signed y) right-narrow (signed-nonzero y n))
-
--- ---- a word's value, and a value's word
-
--- a word on 64 bits, less 2^31
-pub word_fits : (w : ℕ) → w < 4294967296 → SFits w64 (to_z w64 w -ℤ pos 2147483648)
-word_fits w h = rw (to_z-of_z w64 (pos w) (wide (pos w) (omega arith))) (signed-fits w h)
-
-pub word_read : (w : ℕ) → w < 4294967296 → to_z w64 (of_z w64 (to_z w64 w -ℤ pos 2147483648)) ≡ signed w
-word_read w h =
-    rw (to_z-of_z w64 (pos w) (wide (pos w) (omega arith))) (to_z-of_z w64 (signed w) (signed-fits w h))
-
--- the tests of a value against the ends of 32 bits
-pub low-out : (z : ℤ) → lt_z z least ≡ true → T (in32 z) → ⊥
-low-out z e t = clash_ℤ (lt_z_yes {a = z} {b = least} (is_true e)) (le_z_yes {a = least} {b = z} (and_left (le_z least z) (le_z z greatest) t))
-
-pub high-out : (z : ℤ) → lt_z greatest z ≡ true → T (in32 z) → ⊥
-high-out z e t = clash_ℤ (lt_z_yes {a = greatest} {b = z} (is_true e)) (le_z_yes {a = z} {b = greatest} (and_right (le_z least z) (le_z z greatest) t))
-
-pub tests-in : (z : ℤ) → lt_z z least ≡ false → lt_z greatest z ≡ false → T (in32 z)
-tests-in z lo hi =
-    and_both (le_z least z) (le_z z greatest) (lt_z_no {a = z} {b = least} (is_false lo)).le (lt_z_no {a = greatest} {b = z} (is_false hi)).le
+-- ---- a value's word
 
 -- a value above the bias is its word
 shifted : (z : ℤ) → T (in32 z) → z +ℤ pos 2147483648 ≡ pos (biased z)

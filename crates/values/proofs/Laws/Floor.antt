@@ -2,10 +2,10 @@
 -- divisor more; elsewhere the two divisions are the same. Assumes nothing.
 use Prim.Native.Nat.{ℕ, zero, suc, ◌-◌, ◌<◌}
 use native.Mathlib.Omega.{arith}
-use mathlib.Core.Path.{◌≡◌, refl, sym, ◌∙◌, ap, ap₂}
+use mathlib.Core.Path.{◌≡◌, sym, ◌∙◌, ap, ap₂}
 use mathlib.Core.Bool.{Bool, true, false}
 use lib.IntN.{ℤ, pos, negsuc, nat_abs, ◌+ℤ◌, ◌-ℤ◌, ◌*ℤ◌, pred_ℤ, +ℤ_comm, +ℤ_assoc, -ℤ_one, -ℤ-+ℤ_cancel, *ℤ_comm, pred_ℤ-*ℤ}
-use lib.Signed.{lt_z, quot_z, rem_z}
+use lib.Signed.{quot_z, rem_z}
 use borrow.Author.Tests.{ltb-true, ltb-false}
 use mir.Val.{SFits}
 use mir.ValLaws.{to_z-of_z}
@@ -17,24 +17,7 @@ use Rattle.specification.proofs.Laws.Rounding.{more, more-neg, makes-up, remains
 use Rattle.values.specs.declared.Divided.{Divided}
 use Rattle.values.specs.Word.{signed, Narrow}
 use Rattle.values.specs.Rounded.{opposite, rounded_down}
-use Rattle.values.proofs.Laws.Word.{signed-nonzero}
 use Rattle.values.proofs.Laws.Exact.{wide, machine, narrow-read, operation-read, exact-quotient, exact-remainder, Operands, left-narrow, right-narrow}
-
--- ---- by tests of the first
-
-pub opposite-below : (x y : ℤ) → lt_z x (pos zero) ≡ true → lt_z (pos zero) y ≡ opposite x y
-opposite-below (pos k) y e = absurd (omega (arith, ltb-true k 0 e))
-opposite-below (negsuc k) y e = refl
-
-pub opposite-above : (x y : ℤ) → lt_z (pos zero) x ≡ true → lt_z y (pos zero) ≡ opposite x y
-opposite-above (pos zero) y e = absurd (omega (arith, ltb-true 0 0 e))
-opposite-above (pos (suc k)) y e = refl
-opposite-above (negsuc k) y e = contradiction cc
-
-pub opposite-zero : (x y : ℤ) → lt_z x (pos zero) ≡ false → lt_z (pos zero) x ≡ false → false ≡ opposite x y
-opposite-zero (pos zero) y e f = refl
-opposite-zero (pos (suc k)) y e f = absurd (omega (arith, ltb-false 0 (suc k) f))
-opposite-zero (negsuc k) y e f = contradiction cc
 
 -- ---- a rest smaller than its divisor
 
@@ -95,18 +78,12 @@ module _ (x y : ℤ) (s : Narrow x) (t : Narrow y) where
   less-size : SFits w64 (quot_z x y -ℤ pos 1)
   less-size = wide (quot_z x y -ℤ pos 1) (omega (arith, abs-sum (quot_z x y) (negsuc 0), abs-quotient x y, s))
 
-  pub less-fits : SFits w64 (machine (quot_z (machine x) (machine y)) -ℤ pos 1)
-  less-fits = rw quotient-read less-size
-
   less-read : machine (machine (quot_z (machine x) (machine y)) -ℤ pos 1) ≡ quot_z x y -ℤ pos 1
   less-read = rw quotient-read (to_z-of_z w64 (quot_z x y -ℤ pos 1) less-size)
 
   -- the rest and the divisor
   more-size : SFits w64 (rem_z x y +ℤ y)
   more-size = wide (rem_z x y +ℤ y) (omega (arith, abs-sum (rem_z x y) y, abs-remainder x y, s, t))
-
-  pub more-fits : SFits w64 (machine (rem_z (machine x) (machine y)) +ℤ machine y)
-  more-fits = rw (rest_read, narrow-read y t) more-size
 
   more-read : machine (machine (rem_z (machine x) (machine y)) +ℤ machine y) ≡ rem_z x y +ℤ y
   more-read = rw (rest_read, narrow-read y t) (to_z-of_z w64 (rem_z x y +ℤ y) more-size)
@@ -131,12 +108,7 @@ module _ (x y : ℤ) (s : Narrow x) (t : Narrow y) where
 
 -- ---- on words
 
-module _ {x y : ℕ} {a b : ℤ} (o : Operands x y a b) (n : y ≡ 2147483648 → ⊥) where
-  pub narrow : Narrow (machine a) × Narrow (machine b) × (machine b ≡ pos zero → ⊥)
-  narrow =
-      rw (o.left, o.right, narrow-read (signed x) (left-narrow o), narrow-read (signed y) (right-narrow o))
-      (left-narrow o, right-narrow o, signed-nonzero y n)
-
+module _ {x y : ℕ} {a b : ℤ} (o : Operands x y a b) (n : signed y ≡ pos zero → ⊥) where
   module _ (d : Divided) (e : d ≡ rounded_down (machine a) (machine b)) where
     rounded-read : d ≡ rounded_down (signed x) (signed y)
     rounded-read =
@@ -151,4 +123,4 @@ module _ {x y : ℕ} {a b : ℤ} (o : Operands x y a b) (n : y ≡ 2147483648 �
     modulus-read =
         let r = remains (signed x) (signed y) (floor_z (signed x) (signed y)) in
         ap (λ (c : Divided). machine c.rest) rounded-read ∙
-        narrow-read r (omega (arith, within-less (signed y) r (floor-within (signed x) (signed y) (signed-nonzero y n)), right-narrow o))
+        narrow-read r (omega (arith, within-less (signed y) r (floor-within (signed x) (signed y) n), right-narrow o))

@@ -8,7 +8,7 @@ use mathlib.Core.Bool.{Bool, true, false}
 use lib.IntN.{ℤ, pos, negsuc, neg_ℤ, nat_abs, ◌+ℤ◌, ◌-ℤ◌, ◌*ℤ◌}
 use lib.IntN.{+ℤ_assoc, +ℤ_comm, +ℤ_idl, +ℤ_invl, +ℤ-neg_ℤ_cancel, -ℤ-+ℤ_cancel, neg_ℤ-+ℤ, neg_ℤ-neg_ℤ}
 use lib.Signed.{quot_z, rem_z}
-use mir.Val.{SFits, of_z}
+use mir.Val.{SFits}
 use mir.ValLaws.{to_z-of_z}
 use mir.Syntax.{w64}
 use Rattle.specification.specs.Bytes.{pick}
@@ -16,12 +16,11 @@ use Rattle.specification.specs.Number.{in32}
 use Rattle.specification.specs.Arithmetic.{Computed, value, fault, fit, divided, outside32, zero_divisor, floor_z, remains}
 use Rattle.specification.proofs.Laws.Contradiction.{contradiction}
 use Rattle.specification.proofs.Laws.Difference.{abs_neg, abs-sum, abs-product, abs-quotient, abs-remainder}
-use Rattle.specification.proofs.Laws.Division.{fit-in}
+use Rattle.specification.proofs.Laws.Division.{fit-in, divided-nonzero}
 use Rattle.specification.proofs.Laws.Rounding.{within-less, floor-within, abs-floor}
 use Rattle.values.specs.Word.{Narrow}
 use Rattle.values.specs.Shifted.{IsWord, value_of, widest, Shifted}
-use Rattle.values.proofs.Laws.Word.{signed-in32, narrow_signed, signed-nonzero}
-use Rattle.values.proofs.Laws.Packed.{divided-zero, divided-other}
+use Rattle.values.proofs.Laws.Word.{signed-in32, narrow_signed}
 use Rattle.values.proofs.Laws.Exact.{machine, Operands}
 
 -- ---- what a number above the bias tells
@@ -48,8 +47,6 @@ shifted-fit z r h e =
       size = rw e (omega (arith, abs-sum z (pos 2147483648)));
     }
 
--- ---- division
-
 -- no word tells a fault
 shifted-fault : (κ : ℕ) → Shifted (fault κ) (negsuc 0)
 shifted-fault κ =
@@ -58,19 +55,6 @@ shifted-fault κ =
       word = λ w. let n = w.number in contradiction cc;
       size = omega arith;
     }
-
-module _ (b : ℤ) (w : IsWord b) where
-  bits : of_z w64 b ≡ nat_abs b
-  bits = ap (λ (z : ℤ). of_z w64 z) w.number
-
-  pub shifted-zero : (c : Computed) → of_z w64 b ≡ 2147483648 → Shifted (divided (value_of b) c) (negsuc 0)
-  shifted-zero c e = rw (divided-zero (nat_abs b) c (sym bits ∙ e)) (shifted-fault zero_divisor)
-
-  pub bits-other : (of_z w64 b ≡ 2147483648 → ⊥) → nat_abs b ≡ 2147483648 → ⊥
-  bits-other n e = n (bits ∙ e)
-
-  pub shifted-divided : (c : Computed) (r : ℤ) → (of_z w64 b ≡ 2147483648 → ⊥) → Shifted c r → Shifted (divided (value_of b) c) r
-  shifted-divided c r n s = rw (divided-other (nat_abs b) c (bits-other n)) s
 
 -- ---- sums
 
@@ -114,9 +98,6 @@ module _ (a : ℤ) (w : IsWord a) where
   value-narrow : Narrow (value_of a)
   value-narrow = narrow_signed (nat_abs a) w.small
 
-  pub value-fits : SFits w64 (machine a -ℤ pos 2147483648)
-  value-fits = rw value-is (wider (value_of a) (omega (arith, value-narrow)))
-
 -- an operation whose exact result is no greater than a product can be
 abbrev pub Bounded : (ℤ → ℤ → ℤ) → Type 0
 Bounded f = (x y : ℤ) → Narrow x → Narrow y → nat_abs (f x y) ≤ 4611686018427387904
@@ -153,9 +134,6 @@ module _ (a b : ℤ) (v : IsWord a) (w : IsWord b) where
       ap (λ (z : ℤ). z -ℤ pos 2147483648) (to_z-of_z w64 (machine a +ℤ machine b) sum_fits)
       ∙ rw (word_read a v, word_read b w, sym (lowered a v), sym (lowered b w)) (sym (sum-lowered a b (pos 2147483648)))
 
-  pub sum-less-fits : SFits w64 (machine (machine a +ℤ machine b) -ℤ pos 2147483648)
-  sum-less-fits = rw sum-held (raised-wide (value_of a +ℤ value_of b) (bounded-values ◌+ℤ◌ sum-bounded))
-
   pub sum_told : Shifted (fit (value_of a +ℤ value_of b)) (machine (machine (machine a +ℤ machine b) -ℤ pos 2147483648))
   sum_told =
       let z = value_of a +ℤ value_of b in
@@ -172,12 +150,24 @@ module _ (a b : ℤ) (v : IsWord a) (w : IsWord b) where
       to_z-of_z w64 (machine a -ℤ machine b) difference-fits
       ∙ rw (word_read a v, word_read b w, sym (lowered a v), sym (lowered b w)) (sym (difference-lowered a b (pos 2147483648)))
 
-  -- rounding down
-  module _ (n : nat_abs b ≡ 2147483648 → ⊥) where
+  -- division by 0, and by another value y
+  pub shifted-zero : (c : Computed) → value_of (machine b) ≡ pos 0 → Shifted (divided (value_of b) c) (negsuc 0)
+  shifted-zero c e = rw (rw (word_read b w) at e) (shifted-fault zero_divisor)
+
+  module _ (y : ℤ) (d : (y ≡ value_of (machine b)) × (value_of (machine b) ≡ pos 0 → ⊥)) where
+    pub nonzero : value_of b ≡ pos 0 → ⊥
+    nonzero = rw (word_read b w) at d.1
+
+    pub divided-operands : Operands (nat_abs a) (nat_abs b) (machine a -ℤ pos 2147483648) y
+    divided-operands = record { left_word = v.small; right_word = w.small; left = value-is a v; right = rw (word_read b w) at d.0 }
+
+    pub shifted-divided : (c : Computed) (r : ℤ) → Shifted c r → Shifted (divided (value_of b) c) r
+    shifted-divided c r s = rw (divided-nonzero (value_of b) c nonzero) s
+
     pub floor-bounded : nat_abs (floor_z (value_of a) (value_of b)) ≤ 4611686018427387904
     floor-bounded = omega (arith, abs-floor (value_of a) (value_of b), value-narrow a v)
 
     pub modulus-bounded : nat_abs (remains (value_of a) (value_of b) (floor_z (value_of a) (value_of b))) ≤ 4611686018427387904
     modulus-bounded =
         let r = remains (value_of a) (value_of b) (floor_z (value_of a) (value_of b)) in
-        omega (arith, within-less (value_of b) r (floor-within (value_of a) (value_of b) (signed-nonzero (nat_abs b) n)), value-narrow b w)
+        omega (arith, within-less (value_of b) r (floor-within (value_of a) (value_of b) nonzero), value-narrow b w)

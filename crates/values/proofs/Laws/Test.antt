@@ -2,22 +2,15 @@
 use Prim.Native.Nat.{ℕ, ◌<◌, ◌≤◌}
 use native.Mathlib.Omega.{arith}
 use mathlib.Core.Path.{◌≡◌, refl, subst}
-use mathlib.Core.Bool.{Bool, true, false, not, ◌&&◌}
+use mathlib.Core.Bool.{Bool, true, false, ◌&&◌}
 use lib.Dec.{T, leb, eqb, leb→le, le→leb, eqb→eq, eqb_refl}
 
 pub is_true : {b : Bool} → b ≡ true → T b
 is_true e = rw e tt
 
-pub is_false : {b : Bool} → b ≡ false → T (not b)
-is_false e = rw e tt
-
 pub and_left : (a b : Bool) → T (a && b) → T a
 and_left true b t = tt
 and_left false b t = t
-
-pub and_right : (a b : Bool) → T (a && b) → T b
-and_right true b t = t
-and_right false b t = absurd t
 
 pub and_both : (a b : Bool) → T a → T b → T (a && b)
 and_both true b s t = t

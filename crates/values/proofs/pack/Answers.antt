@@ -1,28 +1,30 @@
--- `values::pack` meets its contract: the tests say whether the value is in 32 bits, and 64 bits hold the shift by 2^31. Assumes nothing.
-use mathlib.Core.Path.{sym, ap}
+-- `values::pack` meets its contract: the range's test is whether the value is in 32 bits, and 64 bits hold the shift by 2^31. Assumes nothing.
+use mathlib.Core.Path.{◌≡◌, sym, ◌∙◌, ap}
+use mathlib.Core.Bool.{false}
 use lib.Dec.{T}
 use mir.ValLaws.{to_z-of_z}
 use mir.Syntax.{w64}
 use Rattle.specification.specs.Number.{in32}
-use Rattle.values.specs.Packed.{packed}
 use Rattle.specification.proofs.Laws.Division.{fit-in}
+use Rattle.values.specs.Packed.{packed}
+use Rattle.values.proofs.Laws.Test.{is_true}
 use Rattle.values.proofs.Laws.Packed.{fit-out}
 use Rattle.values.proofs.Laws.Word.{biased-word}
-use Rattle.values.proofs.Laws.Exact.{low-out, high-out, tests-in, shifted_fits, shifted-read}
+use Rattle.values.proofs.Laws.Exact.{shifted_fits, shifted-read}
+use Rattle.values.proofs.Laws.Range.{contains-read}
 use Rattle.values.proofs.pack.Goals as goal
+use Rattle.values.proofs.pack.Goals.{After-contains, Else-not-contains}
 
-pub returns-then-z-lt-LEAST : goal.returns-then-z-lt-LEAST
-returns-then-z-lt-LEAST c =
-    ap packed (sym (fit-out c.args.z (low-out c.args.z (rw (to_z-of_z w64 c.args.z c.ranges.z) at c.if-z-lt-LEAST.true))))
+tested : (c : After-contains) → c.contains.result ≡ in32 c.args.z
+tested c = rw (to_z-of_z w64 c.args.z c.ranges.z, c.new.ensures.start, c.new.ensures.end, c.new.ensures.exhausted) at c.contains.ensures.value ∙ contains-read c.args.z
 
-pub returns-then-z-gt-GREATEST : goal.returns-then-z-gt-GREATEST
-returns-then-z-gt-GREATEST c =
-    ap packed (sym (fit-out c.args.z (high-out c.args.z (rw (to_z-of_z w64 c.args.z c.ranges.z) at c.if-z-gt-GREATEST.true))))
+pub returns-then-not-contains : goal.returns-then-not-contains
+returns-then-not-contains c =
+    let out : in32 c.args.z ≡ false = sym (tested (goal.at.returns-then-not-contains c).After-contains) ∙ c.if-not-contains.true in
+    ap packed (sym (fit-out c.args.z (λ t. rw out at t)))
 
-inside : (c : goal.Else-z-gt-GREATEST) → T (in32 c.args.z)
-inside c =
-    let read = to_z-of_z w64 c.args.z c.ranges.z in
-    tests-in c.args.z (rw read at c.if-z-lt-LEAST.false) (rw read at c.if-z-gt-GREATEST.false)
+inside : (c : Else-not-contains) → T (in32 c.args.z)
+inside c = is_true (sym (tested (goal.at.returns c).After-contains) ∙ c.if-not-contains.false)
 
 pub overflow_add-result : goal.overflow_add-result
 overflow_add-result c = shifted_fits c.args.z c.ranges.z (inside c)

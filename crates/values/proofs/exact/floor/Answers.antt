@@ -1,35 +1,16 @@
 -- `exact::floor` meets its contract: it is the quotient that is rounded down. Assumes nothing.
 use Rattle.specification.specs.Arithmetic.{compute}
-use Rattle.values.proofs.Laws.Floor.{narrow, floor-read}
-use Rattle.values.proofs.Laws.Shifted.{raised-fits, raised-told, floor-bounded, value-fits, lowered-operands, shifted-zero, bits-other, shifted-divided}
+use Rattle.values.proofs.Laws.Floor.{floor-read}
+use Rattle.values.proofs.Laws.Shifted.{raised-told, floor-bounded, divided-operands, nonzero, shifted-zero, shifted-divided}
 use Rattle.values.proofs.exact.floor.Goals as goal
 
-pub returns-then-b-eq-BIAS : goal.returns-then-b-eq-BIAS
+pub returns-in_default : goal.returns-in_default
 unfolding compute
-returns-then-b-eq-BIAS c = shifted-zero c.args.b c.requires.1 _ c.if-b-eq-BIAS.true
-
-pub overflow_sub-a : goal.overflow_sub-a
-overflow_sub-a c = value-fits c.args.a c.requires.0
-
-pub overflow_sub-b : goal.overflow_sub-b
-overflow_sub-b c = value-fits c.args.b c.requires.1
-
-pub rounded-requires : goal.rounded-requires
-rounded-requires c =
-    narrow (lowered-operands c.args.a c.args.b c.requires.0 c.requires.1) (bits-other c.args.b c.requires.1 c.if-b-eq-BIAS.false)
-
-pub overflow_add-result : goal.overflow_add-result
-overflow_add-result c =
-    let a = c.args in
-    let n = bits-other a.b c.requires.1 c.if-b-eq-BIAS.false in
-    raised-fits _ _ (floor-read (lowered-operands a.a a.b c.requires.0 c.requires.1) n c.rounded.result c.rounded.ensures)
-    (floor-bounded a.a a.b c.requires.0 c.requires.1 n)
+returns-in_default c = shifted-zero c.args.a c.args.b c.requires.0 c.requires.1 _ c.in_default.ensures.none
 
 pub returns : goal.returns
 unfolding compute
 returns c =
-    let a = c.args in
-    let n = bits-other a.b c.requires.1 c.if-b-eq-BIAS.false in
-    shifted-divided a.b c.requires.1 _ _ c.if-b-eq-BIAS.false
-    (raised-told _ _ (floor-read (lowered-operands a.a a.b c.requires.0 c.requires.1) n c.rounded.result c.rounded.ensures)
-    (floor-bounded a.a a.b c.requires.0 c.requires.1 n))
+    let u = c.requires.0 in let v = c.requires.1 in let d = c.in-Some.ensures.some in
+    let read = floor-read (divided-operands _ _ u v _ d) (nonzero _ _ u v _ d) c.rounded.result c.rounded.ensures in
+    shifted-divided _ _ u v _ d _ _ (raised-told _ _ read (floor-bounded _ _ u v _ d))

@@ -1,15 +1,9 @@
 -- `exact::product` meets its contract: 64 bits hold the product exactly. Assumes nothing.
 use lib.IntN.{◌*ℤ◌}
 use Rattle.specification.specs.Arithmetic.{compute}
-use Rattle.values.proofs.Laws.Exact.{result_fits, result-read, exact-product}
-use Rattle.values.proofs.Laws.Shifted.{raised-fits, raised-told, product-bounded, bounded-values, value-fits, lowered-operands}
+use Rattle.values.proofs.Laws.Exact.{result-read, exact-product, result_fits}
+use Rattle.values.proofs.Laws.Shifted.{raised-told, product-bounded, bounded-values, lowered-operands, raised-fits}
 use Rattle.values.proofs.exact.product.Goals as goal
-
-pub overflow_sub-result : goal.overflow_sub-result
-overflow_sub-result c = value-fits c.args.a c.requires.0
-
-pub overflow_sub-result-2 : goal.overflow_sub-result-2
-overflow_sub-result-2 c = value-fits c.args.b c.requires.1
 
 pub overflow_mul-result : goal.overflow_mul-result
 overflow_mul-result c = result_fits (lowered-operands c.args.a c.args.b c.requires.0 c.requires.1) ◌*ℤ◌ exact-product
