@@ -2,9 +2,10 @@
 #![tactic(auto)]
 
 ghost use Rattle.std.specs.Prelude.{◌≡◌, ◌+◌, ◌*◌, ◌≤◌, length, drop};
-ghost use Rattle.specification.specs.Bytes.{class_of, class_number, run, begins};
+ghost use Rattle.std.specs.List.{take_while};
+ghost use Rattle.specification.specs.Bytes.{class_of, run, begins};
 ghost use Rattle.specification.specs.Number.{natural, integer};
-ghost use Rattle.text.specs.Class.{class_at, passing};
+ghost use Rattle.text.specs.Class.{specified, number_at, class_at, passing};
 ghost use Rattle.text.specs.Decimal.{held, read_on, headed, capped, plain_word, minus_word, worded};
 
 // ---- parts and keys
@@ -21,123 +22,119 @@ pub fn value(s: &[u8], from: usize) -> &[u8]
 }
 
 // Whether these bytes come at a place.
+#[tactic(auto, using(crate::proofs::Laws::Keys::starts_begins))]
 pub fn begins(s: &[u8], at: usize, key: &[u8]) -> bool
     ensures { result ≡ begins key.now (drop at s.now) }
 {
-    let v = value(s, at);
-    let mut i = 0;
-    while i < key.len() {
-        if v.len() <= i {
-            return false;
-        }
-        if v[i] != key[i] {
-            return false;
-        }
-        i += 1;
-    }
-    true
+    value(s, at).starts_with(key)
 }
 
 // ---- classes
 
-// The numbers of the classes; the first is that of any byte that no other names.
-pub const OTHER: u8 = 0;
+// The classes of bytes, those of the specification.
+#[derive(Clone, Copy, PartialEq, Eq, Debug)]
+pub enum Class {
+    Letter,
+    Digit,
+    Space,
+    Feed,
+    Minus,
+    Equals,
+    Comma,
+    Colon,
+    Point,
+    Other,
+}
 
-pub const LETTER: u8 = 1;
-
-pub const DIGIT: u8 = 2;
-
-pub const SPACE: u8 = 3;
-
-pub const FEED: u8 = 4;
-
-pub const MINUS: u8 = 5;
-
-pub const EQUALS: u8 = 6;
-
-pub const COMMA: u8 = 7;
-
-pub const COLON: u8 = 8;
-
-pub const POINT: u8 = 9;
-
-// What stands at the sheet's end and beyond.
-pub const END: u8 = 10;
-
-// The class of a byte, by ranges of byte values: at most three comparisons for the letters, digits and spaces that sheets are made of.
-pub fn class(b: u8) -> u8
-    ensures { result ≡ class_number (class_of b) }
-{
-    if b'a' <= b {
-        if b <= b'z' { LETTER } else { OTHER }
-    } else if b'0' <= b {
-        if b <= b'9' {
-            DIGIT
-        } else if b == b':' {
-            COLON
-        } else if b == b'=' {
-            EQUALS
+impl Class {
+    // The class of a byte, by ranges of byte values: at most three comparisons for the letters, digits and spaces that sheets are made of. (One
+    // match is a table of jumps in the box's read-only memory, and 13 instructions a byte.)
+    #[tactic(auto, using(crate::proofs::Laws::Class::other_class), unfolding(specification::specs::Bytes::class_of))]
+    pub fn of(b: u8) -> Class
+        ensures { specified result ≡ class_of b }
+    {
+        if b'a' <= b {
+            if b <= b'z' {
+                Class::Letter
+            } else {
+                Class::Other
+            }
+        } else if b'0' <= b {
+            if b <= b'9' {
+                Class::Digit
+            } else if b == b':' {
+                Class::Colon
+            } else if b == b'=' {
+                Class::Equals
+            } else {
+                Class::Other
+            }
+        } else if b == b' ' {
+            Class::Space
+        } else if b < b',' {
+            if b == b'\n' {
+                Class::Feed
+            } else {
+                Class::Other
+            }
+        } else if b == b',' {
+            Class::Comma
+        } else if b == b'-' {
+            Class::Minus
+        } else if b == b'.' {
+            Class::Point
         } else {
-            OTHER
+            Class::Other
         }
-    } else if b == b' ' {
-        SPACE
-    } else if b < b',' {
-        if b == b'\n' { FEED } else { OTHER }
-    } else if b == b',' {
-        COMMA
-    } else if b == b'-' {
-        MINUS
-    } else if b == b'.' {
-        POINT
-    } else {
-        OTHER
     }
 }
 
-// The class of the byte at a place of the sheet.
-pub fn class_at(s: &[u8], at: usize) -> u8
-    ensures { result ≡ class_at s.now at }
+// The class of the byte at a place of the sheet; none at its end and beyond.
+#[tactic(auto, using(crate::proofs::Laws::Class::class_of_byte, crate::proofs::Laws::Class::class_beyond))]
+pub fn class_at(s: &[u8], at: usize) -> Option<Class>
+    ensures { number_at result ≡ class_at s.now at }
 {
-    if at < s.len() { class(s[at]) } else { END }
+    Some(Class::of(*s.get(at)?))
 }
 
 // ---- runs
 
-// The two kinds of run: digits and minus signs, and the bytes of a token.
-pub const NUMBER: bool = false;
+// The kinds of run: digits and minus signs, the bytes of a token, and those of a word or key.
+#[derive(Clone, Copy, PartialEq, Eq, Debug)]
+pub enum Run {
+    Number,
+    Token,
+    Word,
+}
 
-pub const TOKEN: bool = true;
-
-// Whether a byte can stand in a run of the kind.
-fn passes(b: u8, kind: bool) -> bool
-    ensures { result ≡ passing kind b }
-{
-    let k = class(b);
-    if kind {
-        if k == SPACE {
-            return false;
+impl Run {
+    // Whether a byte can stand in a run of the kind.
+    #[tactic(auto, unfolding(specification::specs::Bytes::in_number, specification::specs::Bytes::in_token, specification::specs::Bytes::is_in, specification::specs::Bytes::class_number, crate::specs::Class::in_word))]
+    pub fn passes(self, b: u8) -> bool
+        ensures { result ≡ passing self b }
+    {
+        let k = Class::of(b);
+        match self {
+            Run::Number => matches!(k, Class::Digit | Class::Minus),
+            Run::Token => !matches!(k, Class::Space | Class::Feed),
+            Run::Word => matches!(k, Class::Letter | Class::Digit | Class::Minus),
         }
-        return k != FEED;
     }
-    if k == DIGIT {
-        return true;
-    }
-    k == MINUS
+}
+
+// How many bytes the longest run of the kind from the start has.
+fn run_length(v: &[u8], kind: Run) -> usize
+    ensures { result ≡ length (take_while (passing kind) v.now) }
+{
+    v.iter().take_while(|&&b| kind.passes(b)).count()
 }
 
 // The place after the longest run of the kind from a place on.
-pub fn run_end(s: &[u8], at: usize, kind: bool) -> usize
+#[tactic(auto, using(crate::proofs::Laws::Run::taken))]
+pub fn run_end(s: &[u8], at: usize, kind: Run) -> usize
     ensures { result ≡ at + length (run (passing kind) (drop at s.now)) }
 {
-    let mut i = at;
-    while i < s.len() {
-        if !passes(s[i], kind) {
-            return i;
-        }
-        i += 1;
-    }
-    i
+    at + run_length(value(s, at), kind)
 }
 
 // ---- numbers
@@ -145,111 +142,81 @@ pub fn run_end(s: &[u8], at: usize, kind: bool) -> usize
 // 2^32, where a number that is read stops growing: what is above every limit of a sheet needs no value of its own.
 const CAP: u64 = 4294967296;
 
-// A number without a minus: of a bad form, or its value, held at 2^32 where it is more.
-#[derive(Clone, Copy)]
-pub enum Decimal {
-    Malformed,
-    Is(u64),
-}
-
 // A number with one digit more, held at 2^32.
 fn grown(n: u64, digit: u8) -> u64
     requires { n ≤ 4294967296 }
     ensures { result ≡ held (n * 10 + digit) }
 {
-    let m = n * 10 + digit as u64;
-    if CAP < m {
-        return CAP;
-    }
-    m
+    CAP.min(n * 10 + u64::from(digit))
 }
 
-// The value of digits, in one pass; malformed where a byte is no digit.
-fn digits(s: &[u8]) -> Decimal
+// The value of digits, in one pass, held at 2^32; none where a byte is no digit.
+#[tactic(auto, using(crate::proofs::Laws::Decimal::digit_more, crate::proofs::Laws::Decimal::digit_none, crate::proofs::Laws::Decimal::digit_out))]
+fn digits(s: &[u8]) -> Option<u64>
     ensures { result ≡ capped (read_on 0 s.now) }
 {
     let mut n: u64 = 0;
-    let mut i = 0;
-    while i < s.len() {
-        let b = s[i];
-        if class(b) != DIGIT {
-            return Decimal::Malformed;
+    for &b in s {
+        if Class::of(b) != Class::Digit {
+            return None;
         }
-        n = grown(n, b - 48);
-        i += 1;
+        n = grown(n, b - b'0');
     }
-    Decimal::Is(n)
+    Some(n)
 }
 
 // Whether there is a first byte, and it is no zero before others.
+#[tactic(auto, using(crate::proofs::Laws::Decimal::headed_none, crate::proofs::Laws::Decimal::headed_one, crate::proofs::Laws::Decimal::headed_more))]
 fn headed(s: &[u8]) -> bool
     ensures { result ≡ headed s.now }
 {
-    if s.len() == 0 {
-        return false;
+    match s {
+        [] => false,
+        [_] => true,
+        [b, ..] => *b != b'0',
     }
-    if s.len() == 1 {
-        return true;
-    }
-    s[0] != 48
 }
 
-// A number without a minus.
-pub fn natural(n: &[u8]) -> Decimal
+// A number without a minus, held at 2^32 where it is more; none of a bad form.
+#[tactic(auto, using(crate::proofs::Laws::Decimal::natural_headed, crate::proofs::Laws::Decimal::natural_unheaded))]
+pub fn natural(n: &[u8]) -> Option<u64>
     ensures { result ≡ capped (natural n.now) }
 {
-    if !headed(n) {
-        return Decimal::Malformed;
-    }
-    digits(n)
+    if headed(n) { digits(n) } else { None }
 }
 
-// A number in 32 bits as its word, which is 2^31 more: of a bad form or out of range, or the word.
-#[derive(Clone, Copy)]
-pub enum Word {
-    Bad,
-    Is(u32),
-}
+// The least number of 32 bits is -2^31; a number's word is 2^31 more than the number.
+const BIAS: u64 = values::ZERO as u64;
 
-// The word of a number.
-fn plain_word(n: Decimal) -> Word
+// The word of a number; none where it is out of range.
+fn plain_word(n: u64) -> Option<u32>
     ensures { result ≡ plain_word n }
 {
-    match n {
-        Decimal::Malformed => Word::Bad,
-        Decimal::Is(k) => {
-            if 2147483647 < k {
-                return Word::Bad;
-            }
-            Word::Is((2147483648 + k) as u32)
-        }
+    if n < BIAS {
+        Some((BIAS + n) as u32)
+    } else {
+        None
     }
 }
 
-// The word of a number after its minus.
-fn minus_word(n: Decimal) -> Word
+// The word of a number after its minus; none where it is out of range, and `-0` is none.
+fn minus_word(n: u64) -> Option<u32>
     ensures { result ≡ minus_word n }
 {
     match n {
-        Decimal::Malformed => Word::Bad,
-        Decimal::Is(k) => {
-            if k == 0 {
-                return Word::Bad;
-            }
-            if 2147483648 < k {
-                return Word::Bad;
-            }
-            Word::Is((2147483648 - k) as u32)
-        }
+        1..=BIAS => Some((BIAS - n) as u32),
+        _ => None,
     }
 }
 
-// A number with or without a minus.
-pub fn integer(n: &[u8]) -> Word
+// A number with or without a minus, in 32 bits, as its word; none of a bad form or out of range.
+#[tactic(auto, using(crate::proofs::Laws::Decimal::worded_plain, crate::proofs::Laws::Decimal::worded_minus, crate::proofs::Laws::Decimal::integer_minus, crate::proofs::Laws::Decimal::integer_plain))]
+pub fn integer(n: &[u8]) -> Option<u32>
     ensures { result ≡ worded (integer n.now) }
 {
-    if class_at(n, 0) == MINUS {
-        return minus_word(natural(&n[1..]));
+    if class_at(n, 0) == Some(Class::Minus) {
+        minus_word(natural(&n[1..])?)
+    } else {
+        plain_word(natural(n)?)
     }
-    plain_word(natural(n))
 }

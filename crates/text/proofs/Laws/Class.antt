@@ -2,17 +2,25 @@
 -- from the class there; and which bytes are of no class. Assumes nothing.
 use Prim.Native.Nat.{ℕ, ◌<◌, ◌≤◌}
 use mathlib.Core.Path.{◌≡◌, refl, sym, ap, ◌∙◌}
-use mathlib.Core.Bool.{Bool, true, false}
+use mathlib.Core.Bool.{Bool, true, false, not}
 use mathlib.Core.List.{[], ◌∷◌}
 use native.Mathlib.Omega.{arith}
 use lib.Dec.{eqb}
 use lib.ListN.{length, get_or, drop, drop_of_length-le, length-drop}
 use lib.Seq.{drop-cons}
-use borrow.Author.Tests.{eq-eqb, ne_eqb, eqb-true, eqb-false}
-use Rattle.specification.specs.Bytes.{Bytes, class_of, class_number, is_in}
+use borrow.Author.Tests.{eq-eqb, ne_eqb}
+use Rattle.specification.specs.Bytes.{Bytes, pick, class_of, class_number, is_in}
 use Rattle.specification.specs.Bytes.{Class, letter, digit, space, feed, minus, equals, comma, colon, point, other}
 use Rattle.specification.specs.Parser.{next, ended}
-use Rattle.text.specs.Class.{head_class, class_at}
+use denote.Enum.Bare.{sameb, same_true, same_false}
+use borrow.Author.Rules.{rules}
+use Rattle.std.specs.Prelude.{Option, Some, None}
+use Rattle.std.specs.Option.{option_eq}
+use Rattle.specification.proofs.Laws.Contradiction.{contradiction}
+use Rattle.text.specs.contracts.Class.{the_type}
+use Rattle.text.specs.declared.Class.{Class as Code}
+use Rattle.text.specs.declared.Class.TheVariants.{Letter, Digit, Space, Feed, Minus, Equals, Comma, Colon, Point, Other}
+use Rattle.text.specs.Class.{specified, number_at, head_class, class_at}
 use Rattle.text.proofs.Laws.Ranges.{off}
 
 -- no class has the number of the end
@@ -29,23 +37,89 @@ number_lt colon = omega arith
 number_lt point = omega arith
 number_lt other = omega arith
 
--- ---- of a byte, with k what `class` returns
+-- ---- of what the code says
 
-module _ (c : Class) (b k : ℕ) (is : k ≡ class_number (class_of b)) where
-  pub in-yes : k ≡ class_number c → is_in c b ≡ true
-  unfolding is_in
-  in-yes e = eq-eqb _ _ (sym e ∙ is)
+-- what has a number; none has that of the end
+named : ℕ → Option Code
+named n =
+    pick (eqb n 0) (Some Other)
+    (pick (eqb n 1) (Some Letter)
+    (pick (eqb n 2) (Some Digit)
+    (pick (eqb n 3) (Some Space)
+    (pick (eqb n 4) (Some Feed)
+    (pick (eqb n 5) (Some Minus)
+    (pick (eqb n 6) (Some Equals)
+    (pick (eqb n 7) (Some Comma)
+    (pick (eqb n 8) (Some Colon)
+    (pick (eqb n 9) (Some Point) None)))))))))
 
-  pub in-no : (k ≡ class_number c → ⊥) → is_in c b ≡ false
-  unfolding is_in
-  in-no h = ne_eqb _ _ (λ e. h (is ∙ sym e))
+named-number : (o : Option Code) → named (number_at o) ≡ o
+unfolding class_number named
+named-number None = refl
+named-number (Some Letter) = refl
+named-number (Some Digit) = refl
+named-number (Some Space) = refl
+named-number (Some Feed) = refl
+named-number (Some Minus) = refl
+named-number (Some Equals) = refl
+named-number (Some Comma) = refl
+named-number (Some Colon) = refl
+named-number (Some Point) = refl
+named-number (Some Other) = refl
 
-  pub in-test : eqb k (class_number c) ≡ is_in c b
-  in-test = go (eqb k (class_number c)) refl
+-- the class of a place, or this one where there is none
+inside : Code → Option Code → Code
+inside k (Some c) = c
+inside k None = k
+
+not-true : (t : Bool) → not t ≡ true → t ≡ false
+not-true true e = sym e
+not-true false e = refl
+
+not-false : (t : Bool) → not t ≡ false → t ≡ true
+not-false true e = refl
+not-false false e = sym e
+
+-- of a place, with o what `class_at` returns
+module _ (s : Bytes) (at : ℕ) (o : Option Code) (is : number_at o ≡ class_at s at) (k : Code) where
+  class-is : o ≡ Some k → class_at s at ≡ class_number (specified k)
+  class-is e = sym is ∙ ap number_at e
+
+  class-not : (o ≡ Some k → ⊥) → class_at s at ≡ class_number (specified k) → ⊥
+  class-not h e = h (sym (named-number o) ∙ ap named (is ∙ e) ∙ named-number (Some k))
+
+  -- what the comparisons `==` and `!=` with a class say
+  pub eq-yes : option_eq (sameb the_type) o (Some k) ≡ true → class_at s at ≡ class_number (specified k)
+  eq-yes e = class-is (go o e)
     where
-      go : (t : Bool) → eqb k (class_number c) ≡ t → t ≡ is_in c b
-      go true e = sym (in-yes (eqb-true k (class_number c) e))
-      go false e = sym (in-no (eqb-false k (class_number c) e))
+      go : (o : Option Code) → option_eq (sameb the_type) o (Some k) ≡ true → o ≡ Some k
+      go None e = contradiction cc
+      go (Some c) e = ap (λ (x : Code). Some x) (same_true the_type (search rules) c k e)
+
+  pub eq-no : option_eq (sameb the_type) o (Some k) ≡ false → class_at s at ≡ class_number (specified k) → ⊥
+  unfolding inside
+  eq-no e = class-not (go o e)
+    where
+      go : (o : Option Code) → option_eq (sameb the_type) o (Some k) ≡ false → o ≡ Some k → ⊥
+      go None e h = contradiction cc
+      go (Some c) e h = same_false the_type c k e (ap (inside c) h)
+
+  pub ne-yes : not (option_eq (sameb the_type) o (Some k)) ≡ true → class_at s at ≡ class_number (specified k) → ⊥
+  ne-yes e = eq-no (not-true _ e)
+
+  pub ne-no : not (option_eq (sameb the_type) o (Some k)) ≡ false → class_at s at ≡ class_number (specified k)
+  ne-no e = eq-yes (not-false _ e)
+
+-- of a byte, with k what `Class::of` returns
+module _ (b : ℕ) (k : Code) (is : specified k ≡ class_of b) (c : Code) where
+  pub in-yes : k ≡ c → is_in (specified c) b ≡ true
+  unfolding is_in
+  in-yes e = eq-eqb _ _ (ap class_number (ap specified (sym e) ∙ is))
+
+  pub in-no : (k ≡ c → ⊥) → is_in (specified c) b ≡ false
+  unfolding is_in inside
+  in-no h =
+      ne_eqb _ _ (λ e. h (ap (inside k) (sym (named-number (Some k)) ∙ ap named (ap class_number is ∙ sym e) ∙ named-number (Some c))))
 
 -- ---- of a byte, by ranges
 
@@ -62,9 +136,9 @@ Unclassed b =
     × (b ≡ 58 → ⊥)
     × (b ≡ 46 → ⊥)
 
-pub other-class : (b : ℕ) → Unclassed b → 0 ≡ class_number (class_of b)
-unfolding class_of class_number
-other-class b (l, d, s, f, m, e, c, k, p) =
+pub other_class : (b : ℕ) → Unclassed b → other ≡ class_of b
+unfolding class_of
+other_class b (l, d, s, f, m, e, c, k, p) =
     rw (off 97 122 b l, off 48 57 b d, ne_eqb b 32 s, ne_eqb b 10 f, ne_eqb b 45 m, ne_eqb b 61 e, ne_eqb b 44 c, ne_eqb b 58 k, ne_eqb b 46 p)
 
 -- ---- of a place
@@ -107,9 +181,9 @@ module _ (s : Bytes) (at : ℕ) where
   unfolding class_at
   end-class e = ap head_class e
 
-  pub class-of-byte : at < length s → class_at s at ≡ class_number (class_of (get_or s at 0))
+  pub class_of_byte : at < length s → class_at s at ≡ class_number (class_of (get_or s at 0))
   unfolding class_at
-  class-of-byte h = ap head_class (drop-cons s at 0 h)
+  class_of_byte h = ap head_class (drop-cons s at 0 h)
 
-  pub class-beyond : length s ≤ at → class_at s at ≡ 10
-  class-beyond h = end-class (drop_of_length-le s h)
+  pub class_beyond : length s ≤ at → class_at s at ≡ 10
+  class_beyond h = end-class (drop_of_length-le s h)

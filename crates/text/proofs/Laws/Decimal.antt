@@ -12,11 +12,11 @@ use lib.IntN.{pos, negsuc}
 use lib.ListN.{length, get_or, take, drop, drop_of_length-le, length-drop}
 use lib.Seq.{drop-cons, take_all}
 use borrow.Author.Tests.{leb-true, leb-false, le-leb, lt-leb, ne_eqb}
+use Rattle.std.specs.Prelude.{Some, option_and_then}
 use Rattle.specification.specs.Bytes.{Bytes, pick, digit, minus, class_number, is_in}
 use Rattle.specification.specs.Parser.{next}
 use Rattle.specification.specs.Number.{all_digits, decimal, well_formed, natural, negated, unsigned, integer}
 use Rattle.specification.proofs.Laws.Contradiction.{contradiction}
-use Rattle.text.specs.declared.Decimal.TheVariants.{Is}
 use Rattle.text.specs.Class.{class_at}
 use Rattle.text.proofs.Laws.Class.{class-next, class-not-next}
 use Rattle.text.specs.Decimal.{held, capped, worded, read_on, headed, plain_word, minus_word}
@@ -32,23 +32,23 @@ decimal-held (b ∷ bs) n =
     sym (decimal-held bs (held n * 10 + (b - 48))) ∙ ap (λ (k : ℕ). held (decimal k bs)) e ∙ decimal-held bs (n * 10 + (b - 48))
 
 module _ (s : Bytes) (i n : ℕ) where
-  pub digit-more : i < length s → is_in digit (get_or s i 0) ≡ true
+  pub digit_more : i < length s → is_in digit (get_or s i 0) ≡ true
       → capped (read_on n (drop i s)) ≡ capped (read_on (held (n * 10 + (get_or s i 0 - 48))) (drop (i + 1) s))
   unfolding all_digits decimal
-  digit-more h e = rw (drop-cons s i 0 h, e, add-one) (go (all_digits (drop (suc i) s)))
+  digit_more h e = rw (drop-cons s i 0 h, e, add-one) (go (all_digits (drop (suc i) s)))
     where
       go : (t : Bool) → capped (pick t (some (decimal (n * 10 + (get_or s i 0 - 48)) (drop (suc i) s))) none)
           ≡ capped (pick t (some (decimal (held (n * 10 + (get_or s i 0 - 48))) (drop (suc i) s))) none)
       go true = rw decimal-held
       go false = refl
 
-  pub digit-none : i < length s → is_in digit (get_or s i 0) ≡ false → capped (read_on n (drop i s)) ≡ capped none
+  pub digit_none : i < length s → is_in digit (get_or s i 0) ≡ false → capped (read_on n (drop i s)) ≡ capped none
   unfolding all_digits
-  digit-none h e = rw (drop-cons s i 0 h, e)
+  digit_none h e = rw (drop-cons s i 0 h, e)
 
-  pub digit-out : length s ≤ i → n ≤ 4294967296 → capped (read_on n (drop i s)) ≡ Is n
+  pub digit_out : length s ≤ i → n ≤ 4294967296 → capped (read_on n (drop i s)) ≡ Some n
   unfolding all_digits decimal
-  digit-out h l =
+  digit_out h l =
       let m : held n ≡ n = omega arith in
       rw (drop_of_length-le s h, m)
 
@@ -61,35 +61,35 @@ formed (b ∷ []) = refl
 formed (b ∷ c ∷ bs) = refl
 
 module _ (bs : Bytes) where
-  pub natural-unheaded : headed bs ≡ false → natural bs ≡ none
+  pub natural_unheaded : headed bs ≡ false → natural bs ≡ none
   unfolding natural
-  natural-unheaded e = rw (formed, e)
+  natural_unheaded e = rw (formed, e)
 
-  pub natural-headed : headed bs ≡ true → natural bs ≡ read_on 0 bs
+  pub natural_headed : headed bs ≡ true → natural bs ≡ read_on 0 bs
   unfolding natural
-  natural-headed e = rw (formed, e)
+  natural_headed e = rw (formed, e)
 
   -- the head by the length
-  pub headed-none : length bs ≡ 0 → headed bs ≡ false
+  pub headed_none : length bs ≡ 0 → headed bs ≡ false
   unfolding headed
-  headed-none e = go bs e
+  headed_none e = go bs e
     where
       go : (l : Bytes) → length l ≡ 0 → headed l ≡ false
       go [] e = refl
       go (b ∷ l) e = absurd (omega arith)
 
-  pub headed-one : length bs ≡ 1 → headed bs ≡ true
+  pub headed_one : length bs ≡ 1 → headed bs ≡ true
   unfolding headed
-  headed-one e = go bs e
+  headed_one e = go bs e
     where
       go : (l : Bytes) → length l ≡ 1 → headed l ≡ true
       go [] e = absurd (omega arith)
       go (b ∷ []) e = refl
       go (b ∷ c ∷ l) e = absurd (omega arith)
 
-  pub headed-more : 1 < length bs → headed bs ≡ not (eqb (get_or bs 0 0) 48)
+  pub headed_more : 1 < length bs → headed bs ≡ not (eqb (get_or bs 0 0) 48)
   unfolding headed
-  headed-more h = go bs h
+  headed_more h = go bs h
     where
       go : (l : Bytes) → 1 < length l → headed l ≡ not (eqb (get_or l 0 0) 48)
       go [] h = absurd (omega arith)
@@ -109,23 +109,22 @@ head_plain [] e = refl
 head_plain (b ∷ bs) e = rw e
 
 module _ (s : Bytes) where
-  pub integer-minus : class_at s 0 ≡ class_number minus → integer s ≡ negated (natural (take (length s - 1) (drop 1 s)))
-  integer-minus e =
+  pub integer_minus : class_at s 0 ≡ class_number minus → integer s ≡ negated (natural (take (length s - 1) (drop 1 s)))
+  integer_minus e =
       let whole : take (length s - 1) (drop 1 s) ≡ drop 1 s = take_all (length s - 1) (drop 1 s) (omega (arith, length-drop 1 s)) in
       head-minus s (class-next s 0 minus e) ∙ ap (λ (l : Bytes). negated (natural l)) (sym whole)
 
-  pub integer-plain : (class_at s 0 ≡ class_number minus → ⊥) → integer s ≡ unsigned (natural s)
-  integer-plain h = head_plain s (class-not-next s 0 minus h)
+  pub integer_plain : (class_at s 0 ≡ class_number minus → ⊥) → integer s ≡ unsigned (natural s)
+  integer_plain h = head_plain s (class-not-next s 0 minus h)
 
 -- ---- words
 
 -- the held value decides the word, since what is held is out of range
-pub worded-plain : (o : Option ℕ) → worded (unsigned o) ≡ plain_word (capped o)
-unfolding plain_word
-worded-plain none = refl
-worded-plain (some n) = go (leb n 2147483647) refl
+pub worded_plain : (o : Option ℕ) → worded (unsigned o) ≡ option_and_then plain_word (capped o)
+worded_plain none = refl
+worded_plain (some n) = go (leb n 2147483647) refl
   where
-    go : (t : Bool) → leb n 2147483647 ≡ t → worded (some (pos n)) ≡ plain_word (capped (some n))
+    go : (t : Bool) → leb n 2147483647 ≡ t → worded (some (pos n)) ≡ plain_word (held n)
     go true e =
         let l : n ≤ 2147483647 = leb-true n 2147483647 e in
         let m : held n ≡ n = omega arith in
@@ -135,13 +134,12 @@ worded-plain (some n) = go (leb n 2147483647) refl
         let m : 2147483647 < held n = omega arith in
         rw (e, lt-leb (held n) 2147483647 m)
 
-pub worded-minus : (o : Option ℕ) → worded (negated o) ≡ minus_word (capped o)
-unfolding minus_word
-worded-minus none = refl
-worded-minus (some zero) = refl
-worded-minus (some (suc n)) = go (leb n 2147483647) refl
+pub worded_minus : (o : Option ℕ) → worded (negated o) ≡ option_and_then minus_word (capped o)
+worded_minus none = refl
+worded_minus (some zero) = refl
+worded_minus (some (suc n)) = go (leb n 2147483647) refl
   where
-    go : (t : Bool) → leb n 2147483647 ≡ t → worded (some (negsuc n)) ≡ minus_word (capped (some (suc n)))
+    go : (t : Bool) → leb n 2147483647 ≡ t → worded (some (negsuc n)) ≡ minus_word (held (suc n))
     go true e =
         let l : n ≤ 2147483647 = leb-true n 2147483647 e in
         let m : held (suc n) ≡ suc n = omega arith in

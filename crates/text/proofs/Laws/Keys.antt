@@ -1,14 +1,13 @@
 -- Laws of parts of the sheet, and of keys byte by byte. Assumes nothing.
-use Prim.Native.Nat.{ℕ, suc, ◌+◌, ◌-◌, ◌<◌, ◌≤◌}
-use mathlib.Core.Path.{◌≡◌, sym, ap, ◌∙◌}
+use Prim.Native.Nat.{ℕ, suc, ◌-◌, ◌≤◌}
+use mathlib.Core.Path.{◌≡◌, refl, sym, ap, ◌∙◌}
 use mathlib.Core.Bool.{Bool, true, false, ◌&&◌}
 use mathlib.Core.List.{[], ◌∷◌}
-use native.Mathlib.Numerals.{add-one}
 use native.Mathlib.Omega.{arith}
 use lib.Dec.{eqb}
-use lib.ListN.{length, get_or, take, drop, drop_of_length-le, length-drop}
-use lib.Seq.{drop-cons, drop-length, take-length}
-use borrow.Author.Tests.{eq-eqb, ne_eqb}
+use lib.ListN.{length, take, drop, drop_of_length-le, length-drop}
+use lib.Seq.{drop-length, take-length}
+use Rattle.std.specs.List.{starts_with}
 use Rattle.specification.specs.Bytes.{Bytes, begins}
 use Rattle.specification.proofs.Laws.Contradiction.{contradiction}
 
@@ -23,23 +22,12 @@ take-end s n h = take_rest s (length s) ∙ drop-length s ∙ sym (drop_of_lengt
 
 -- ---- keys, byte by byte
 
-module _ (key v : Bytes) (i : ℕ) where
-  pub key-short : i < length key → length v ≤ i → begins (drop i key) (drop i v) ≡ false
-  unfolding begins
-  key-short h l = rw (drop-cons key i 0 h, drop_of_length-le v {i = i} l)
-
-  pub key-other : i < length key → i < length v → (get_or v i 0 ≡ get_or key i 0 → ⊥) → begins (drop i key) (drop i v) ≡ false
-  unfolding begins
-  key-other h l n = rw (drop-cons key i 0 h, drop-cons v i 0 l, ne_eqb (get_or key i 0) (get_or v i 0) (λ e. n (sym e)))
-
-  pub key_more : i < length key → i < length v → get_or v i 0 ≡ get_or key i 0
-      → begins (drop i key) (drop i v) ≡ begins (drop (i + 1) key) (drop (i + 1) v)
-  unfolding begins
-  key_more h l e = rw (drop-cons key i 0 h, drop-cons v i 0 l, eq-eqb (get_or key i 0) (get_or v i 0) (sym e), add-one)
-
-  pub key-done : length key ≤ i → begins (drop i key) (drop i v) ≡ true
-  unfolding begins
-  key-done l = rw (drop_of_length-le key l)
+-- what the library's `starts_with` says
+pub starts_begins : (key s : Bytes) → starts_with eqb s key ≡ begins key s
+unfolding begins
+starts_begins [] s = refl
+starts_begins (k ∷ ks) [] = refl
+starts_begins (k ∷ ks) (b ∷ bs) = ap (λ (t : Bool). eqb k b && t) (starts_begins ks bs)
 
 pub begins-long : (k bs : Bytes) → begins k bs ≡ true → length k ≤ length bs
 unfolding begins

@@ -1,30 +1,27 @@
 -- Laws of runs: how a run from a place grows byte by byte, and, where r is the place after it, that r is within the sheet and
 -- which part of the sheet the run is. Assumes nothing.
-use Prim.Native.Nat.{ℕ, suc, ◌+◌, ◌-◌, ◌<◌, ◌≤◌}
+use Prim.Native.Nat.{ℕ, suc, ◌+◌, ◌-◌, ◌≤◌}
 use mathlib.Core.Path.{◌≡◌, refl, ap, ◌∙◌}
 use mathlib.Core.Bool.{Bool, true, false}
 use mathlib.Core.List.{[], ◌∷◌}
-use native.Mathlib.Numerals.{add-one}
 use native.Mathlib.Omega.{arith}
-use lib.ListN.{length, get_or, take, drop, drop_of_length-le, length-drop}
-use lib.Seq.{drop-cons}
+use lib.ListN.{length, take, drop, length-drop}
+use Rattle.std.specs.Prelude.{cond}
+use Rattle.std.specs.List.{prefix_len, take_while}
 use Rattle.specification.specs.Bytes.{Bytes, pick, run}
 
 module _ (f : ℕ → Bool) where
-  -- ---- byte by byte
-
-  module _ (s : Bytes) (i : ℕ) where
-    pub run_more : i < length s → f (get_or s i 0) ≡ true → i + length (run f (drop i s)) ≡ i + 1 + length (run f (drop (i + 1) s))
-    unfolding run
-    run_more h e = rw (drop-cons s i 0 h, e, add-one) (omega arith)
-
-    pub run-stop : i < length s → f (get_or s i 0) ≡ false → i + length (run f (drop i s)) ≡ i
-    unfolding run
-    run-stop h e = rw (drop-cons s i 0 h, e) (omega arith)
-
-    pub run_out : length s ≤ i → i + length (run f (drop i s)) ≡ i
-    unfolding run
-    run_out h = rw (drop_of_length-le s h) (omega arith)
+  -- the bytes that the library's `take_while` takes
+  pub taken : (s : Bytes) → take_while f s ≡ run f s
+  unfolding run
+  taken [] = refl
+  taken (b ∷ bs) = go (f b) (taken bs)
+    where
+      go : (t : Bool) → take_while f bs ≡ run f bs → take (cond t (1 + prefix_len f bs) 0) (b ∷ bs) ≡ pick t (b ∷ run f bs) []
+      go true h =
+          let e : 1 + prefix_len f bs ≡ suc (prefix_len f bs) = omega arith in
+          rw e (ap (λ (l : Bytes). b ∷ l) h)
+      go false h = refl
 
   -- ---- the whole run
 

@@ -1,40 +1,38 @@
--- The invariant: the digits from `i` on, read on from `n`, give what the whole gives. Assumes nothing.
-use Prim.Native.Nat.{ℕ, ◌+◌}
+-- A byte that is no digit ends the number, and a digit is read on. Assumes nothing.
 use mathlib.Core.Path.{◌≡◌, ◌∙◌, sym, ap}
 use mathlib.Core.Bool.{true}
 use native.Mathlib.Omega.{arith}
+use denote.Enum.Bare.{differs_true, differs_false}
+use borrow.Author.Rules.{rules}
+use Prim.Native.Nat.{ℕ, ◌+◌}
 use lib.ListN.{get_or, drop}
-use Rattle.specification.specs.Bytes.{digit, is_in, class_number}
+use Rattle.specification.specs.Bytes.{digit, is_in}
 use Rattle.specification.proofs.Laws.Canonical.{digit-byte}
+use Rattle.text.specs.contracts.Class.{the_type}
+use Rattle.text.specs.declared.Class.TheVariants.{Digit}
 use Rattle.text.specs.Decimal.{capped, read_on}
 use Rattle.text.proofs.Laws.Class.{in-yes, in-no}
-use Rattle.text.proofs.Laws.Decimal.{digit-more, digit-none, digit-out}
+use Rattle.text.proofs.Laws.Decimal.{digit_more, digit_none}
 use Rattle.text.proofs.digits.Goals as goal
-use Rattle.text.proofs.digits.Goals.{Else-class-ne-DIGIT}
+use Rattle.text.proofs.digits.Goals.{Else-ne}
 
-pub returns-then-class-ne-DIGIT : goal.returns-then-class-ne-DIGIT
-unfolding class_number
-returns-then-class-ne-DIGIT c =
-    sym (c.loop-i.invariant.1 ∙ digit-none _ _ _ c.loop-i-test.true (in-no digit _ _ c.class.ensures c.if-class-ne-DIGIT.true))
+pub returns-then-ne : goal.returns-then-ne
+returns-then-ne c =
+    let no = differs_true the_type _ _ (sym c.ne.ensures ∙ c.if-ne.true) in
+    sym (c.loop-b.invariant.1 ∙ digit_none _ _ _ c.loop-b-test.true (in-no _ _ c.of.ensures Digit no))
 
--- what `class` said of the byte
-is_digit :
-    (c : Else-class-ne-DIGIT) → is_in digit (get_or c.args.s.now c.loop-i.i 0) ≡ true
-unfolding class_number
-is_digit c = in-yes digit _ _ c.class.ensures c.if-class-ne-DIGIT.false
+-- what the class says of the byte
+is_digit : (c : Else-ne) → is_in digit (get_or c.args.s.now c.loop-b.b-index 0) ≡ true
+is_digit c = in-yes _ _ c.of.ensures Digit (differs_false the_type (search rules) _ _ (sym c.ne.ensures ∙ c.if-ne.false))
 
 pub overflow_sub-b : goal.overflow_sub-b
 overflow_sub-b c = (digit-byte _ (is_digit c)).0
 
-pub loop-i-preserved : goal.loop-i-preserved
-loop-i-preserved c =
+pub loop-b-preserved : goal.loop-b-preserved
+loop-b-preserved c =
     let s = c.args.s.now in
-    let i = c.loop-i.i in
-    let n = c.loop-i.n in (
+    let i = c.loop-b.b-index in (
       omega arith,
-      c.loop-i.invariant.1 ∙ digit-more s i n c.loop-i-test.true (is_digit (goal.at.loop-i-preserved c).Else-class-ne-DIGIT)
+      c.loop-b.invariant.1 ∙ digit_more s i _ c.loop-b-test.true (is_digit (goal.at.loop-b-preserved c).Else-ne)
           ∙ ap (λ (k : ℕ). capped (read_on k (drop (i + 1) s))) (sym c.grown-n.ensures),
     )
-
-pub returns : goal.returns
-returns c = sym (c.loop-i.invariant.1 ∙ digit-out _ _ _ c.loop-i-test.false c.loop-i.invariant.0)
