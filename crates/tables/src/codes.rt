@@ -1,5 +1,8 @@
 // The codes of tokens (specs/Codes.antt has the same numbers for contracts and proofs): ranges separate formulas from terms. Codes lie
 // close together, since a match on a code becomes a table of jumps in the box's read-only memory, as long as the codes lie apart.
+//
+// They are numbers and no enum: a code is a word of the lent memory, and a walk's jump is a match on the word itself, with no test that it is one of
+// an enum's.
 ghost use Rattle.std.specs.Prelude.{◌≡◌, ◌&&◌, leb};
 ghost use Rattle.tables.specs.Codes.{first_formula, last_formula, first_term, last_term};
 
@@ -92,23 +95,14 @@ pub const LAST: u32 = PROCEDURE + crate::MAX_PARAMETERS;
 
 // ---- the ranges
 
-fn between(lo: u32, hi: u32, code: u32) -> bool
-    ensures { result ≡ (leb lo code && leb code hi) }
-{
-    if code < lo {
-        return false;
-    }
-    code <= hi
-}
-
 pub fn is_formula(code: u32) -> bool
     ensures { result ≡ (leb first_formula code && leb code last_formula) }
 {
-    between(FIRST_FORMULA, LAST_FORMULA, code)
+    (FIRST_FORMULA..=LAST_FORMULA).contains(&code)
 }
 
 pub fn is_term(code: u32) -> bool
     ensures { result ≡ (leb first_term code && leb code last_term) }
 {
-    between(FIRST_TERM, LAST_TERM, code)
+    (FIRST_TERM..=LAST_TERM).contains(&code)
 }

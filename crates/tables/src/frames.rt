@@ -4,18 +4,29 @@ ghost use Rattle.tables.specs.Layout.{max_procs, max_parameters};
 ghost use Rattle.tables.specs.Frames.{frame_slot, argument_slot, back_at, call_at, tags_at};
 ghost use Rattle.tables.specs.Leaves.{return_code};
 
+use crate::leaves::RETURN_CODE;
+use crate::{entry, set_entry, slots};
+
 pub const FRAMES: usize = 5781;
 
 const FRAME_WORDS: usize = 20;
 
-const FIRST: u32 = FRAMES as u32;
+// Which word of a frame is which.
+const RETURN: usize = 0;
 
-const WORDS: u32 = FRAME_WORDS as u32;
+const BACK: usize = 1;
+
+const CALL: usize = 2;
+
+const TAGS: usize = 3;
+
+// The numbers of first words, as words hold them (slots.rt).
+pub const FIRST: u32 = FRAMES as u32;
+
+pub const WORDS: u32 = FRAME_WORDS as u32;
 
 // The first of its arguments' words.
 const HEAD_WORDS: u32 = 4;
-
-const SLOT_WORDS: u32 = crate::SLOT_WORDS as u32;
 
 // The first word of the frame of procedure k.
 pub fn place(k: u32) -> u32
@@ -30,7 +41,7 @@ pub fn argument(k: u32, n: u32) -> u32
     requires { (k ≤ max_procs) × (n ≤ max_parameters) }
     ensures { result ≡ argument_slot k n }
 {
-    FIRST + WORDS * k + HEAD_WORDS + SLOT_WORDS * n
+    place(k) + HEAD_WORDS + slots::WORDS * n
 }
 
 // What comes after the call.
@@ -38,7 +49,7 @@ pub fn back(w: &[u32], k: u32) -> u32
     requires { frame_slot k + 1 < length w.now }
     ensures { result ≡ back_at w.now k }
 {
-    w[FRAMES + FRAME_WORDS * (k as usize) + 1]
+    entry::<FRAMES, FRAME_WORDS, BACK>(w, k)
 }
 
 // The call's token.
@@ -46,7 +57,7 @@ pub fn call(w: &[u32], k: u32) -> u32
     requires { frame_slot k + 2 < length w.now }
     ensures { result ≡ call_at w.now k }
 {
-    w[FRAMES + FRAME_WORDS * (k as usize) + 2]
+    entry::<FRAMES, FRAME_WORDS, CALL>(w, k)
 }
 
 // Which arguments are no values.
@@ -54,7 +65,7 @@ pub fn tags(w: &[u32], k: u32) -> u32
     requires { frame_slot k + 3 < length w.now }
     ensures { result ≡ tags_at w.now k }
 {
-    w[FRAMES + FRAME_WORDS * (k as usize) + 3]
+    entry::<FRAMES, FRAME_WORDS, TAGS>(w, k)
 }
 
 pub fn set_head(w: &mut [u32], k: u32, back: u32, call: u32, tags: u32)
@@ -62,9 +73,9 @@ pub fn set_head(w: &mut [u32], k: u32, back: u32, call: u32, tags: u32)
     ensures { w.new ≡ set (set (set w.old (frame_slot k + 1) back) (frame_slot k + 2) call) (frame_slot k + 3) tags }
 {
     let at = FRAMES + FRAME_WORDS * (k as usize);
-    w[at + 1] = back;
-    w[at + 2] = call;
-    w[at + 3] = tags;
+    w[at + BACK] = back;
+    w[at + CALL] = call;
+    w[at + TAGS] = tags;
 }
 
 // The token that the procedure's formula ends at.
@@ -72,5 +83,5 @@ pub fn set_return(w: &mut [u32], k: u32)
     requires { frame_slot k < length w.old }
     ensures { w.new ≡ set w.old (frame_slot k) return_code }
 {
-    w[FRAMES + FRAME_WORDS * (k as usize)] = crate::leaves::RETURN_CODE;
+    set_entry::<FRAMES, FRAME_WORDS, RETURN>(w, k, RETURN_CODE);
 }

@@ -1,4 +1,5 @@
-// Tokens of no formula (specs/Leaves.antt): their places and codes, and the error leaf that is due.
+// Tokens of no formula (specs/Leaves.antt): their places and codes, and the error leaf that is due. Codes are numbers, as those of tokens are
+// (codes.rt), since one match has both.
 ghost use Rattle.std.specs.Prelude.{◌≡◌, ◌+◌, ◌≤◌, length, set};
 ghost use Rattle.tables.specs.Leaves.{error_place, leaves_end, kind_at, token_at, coded};
 
