@@ -2,7 +2,8 @@
 use Rattle.std.proofs.Common.{◌≡◌, ℕ, [], ◌∷◌, refl}
 use Rattle.specification.specs.Bytes.{Bytes, bytes}
 use Rattle.plotter.specs.declared.Port.{Port}
-use Rattle.plotter.specs.Port.{bit, is_set, put, After, takes, acknowledged, send, attempt, step, ready_again, interrupts_on, interrupts_off, occur}
+use Rattle.plotter.specs.declared.Event.TheVariants.{ReadyAgain, InterruptsOn, InterruptsOff}
+use Rattle.plotter.specs.Port.{bit, is_set, put, After, takes, acknowledged, send, attempt, step, occur}
 use Rattle.plotter.specs.History.{a_step, event, action, then, play, chances}
 
 -- status, control, data, sum
@@ -13,11 +14,11 @@ abbrev after : Port → Bytes → Bytes → After
 after p sent unsent = record { port = p; sent = sent; unsent = unsent }
 
 -- ready again where it is set: pending is set if control lets it through, and else nothing changes
-pub ready-twice : occur ready_again (port 1 1 0 0) ≡ port 5 1 0 0
+pub ready-twice : occur ReadyAgain (port 1 1 0 0) ≡ port 5 1 0 0
 unfolding occur put bit is_set
 ready-twice = refl
 
-pub ready-twice-off : occur ready_again (port 1 0 0 0) ≡ port 1 0 0 0
+pub ready-twice-off : occur ReadyAgain (port 1 0 0 0) ≡ port 1 0 0 0
 unfolding occur put bit is_set
 ready-twice-off = refl
 
@@ -36,11 +37,11 @@ unfolding chances step attempt acknowledged takes put bit is_set
 counts-with-nothing-left = refl
 
 -- control is looked at when ready is set, and at no other time
-pub on-after-ready : play (event ready_again ∷ event interrupts_on ∷ []) (port 0 0 0 0) [] ≡ after (port 1 1 0 0) [] []
+pub on-after-ready : play (event ReadyAgain ∷ event InterruptsOn ∷ []) (port 0 0 0 0) [] ≡ after (port 1 1 0 0) [] []
 unfolding play then action occur put bit is_set
 on-after-ready = refl
 
-pub off-after-ready : play (event ready_again ∷ event interrupts_off ∷ []) (port 0 1 0 0) [] ≡ after (port 5 0 0 0) [] []
+pub off-after-ready : play (event ReadyAgain ∷ event InterruptsOff ∷ []) (port 0 1 0 0) [] ≡ after (port 5 0 0 0) [] []
 unfolding play then action occur put bit is_set
 off-after-ready = refl
 

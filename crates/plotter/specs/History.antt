@@ -3,7 +3,8 @@
 use Rattle.std.specs.Prelude.{ℕ, ◌+◌, List, [], ◌∷◌, ◌++◌}
 use Rattle.specification.specs.Bytes.{Bytes, pick}
 use Rattle.plotter.specs.declared.Port.{Port}
-use Rattle.plotter.specs.Port.{After, Event, step, occur, takes}
+use Rattle.plotter.specs.declared.Event.{Event}
+use Rattle.plotter.specs.Port.{After, step, occur, takes}
 
 pub data Action : Type 0 where
   a_step : Action

@@ -1,9 +1,12 @@
 -- The plotter's port (document 02, Four): the bits of its registers, the step that sends a byte, and the events that come from outside.
--- The four registers are the fields of the code's struct `Port`; each holds a byte, a number below 256. Assumes nothing.
-use Rattle.std.specs.Prelude.{◌≡◌, ℕ, ◌+◌, ◌-◌, ◌*◌, ◌/◌, ◌%◌, ◌^◌, Bool, true, false, not, ◌&&◌, [], ◌∷◌, length, drop, ◌==◌}
+-- The four registers are the fields of the code's struct `Port`; each holds a byte, a number below 256. The events are the code's enum `Event`.
+-- Assumes nothing.
+use Rattle.std.specs.Prelude.{◌≡◌, ℕ, ◌+◌, ◌-◌, ◌*◌, ◌/◌, ◌%◌, ◌^◌, Bool, true, false, not, ◌&&◌, [], ◌∷◌, length, drop, get_or, ◌==◌}
 use Rattle.specification.specs.Bytes.{Bytes, pick}
 use Rattle.plotter.specs.declared.Port.{Port}
 use Rattle.plotter.specs.declared.Stepped.{Stepped}
+use Rattle.plotter.specs.declared.Event.{Event}
+use Rattle.plotter.specs.declared.Event.TheVariants.{ReadyAgain, OutOfPaper, PaperIn, InterruptsOn, InterruptsOff}
 
 -- ---- bits; bit 0 is the lowest
 
@@ -38,6 +41,13 @@ with_status s p = record { status = s; control = p.control; «data» = p.«data�
 
 abbrev pub with_control : ℕ → Port → Port
 with_control c p = record { status = p.status; control = c; «data» = p.«data»; sum = p.sum }
+
+-- the registers of four bytes, and the bytes of the registers
+abbrev pub port_of : Bytes → Port
+port_of r = record { status = get_or r 0 0; control = get_or r 1 0; «data» = get_or r 2 0; sum = get_or r 3 0 }
+
+abbrev pub bytes_of : Port → Bytes
+bytes_of p = p.status ∷ p.control ∷ p.«data» ∷ p.sum ∷ []
 
 -- ---- the step
 
@@ -81,15 +91,12 @@ pub record Steps (p : Port) (unsent : Bytes) (r : Stepped) : Type 0 where
 
 -- ---- the events
 
-pub data Event : Type 0 where
-  ready_again out_of_paper paper_in interrupts_on interrupts_off : Event
-
 -- the registers after an event; the device sets ready again, and pending too if control lets interrupts through
 unfoldable pub occur : Event → Port → Port
-occur ready_again p =
+occur ReadyAgain p =
     let s = put ready 1 p.status in
     with_status (pick (is_set interrupts p.control) (put pending 1 s) s) p
-occur out_of_paper p = with_status (put paper_out 1 p.status) p
-occur paper_in p = with_status (put paper_out 0 p.status) p
-occur interrupts_on p = with_control (put interrupts 1 p.control) p
-occur interrupts_off p = with_control (put interrupts 0 p.control) p
+occur OutOfPaper p = with_status (put paper_out 1 p.status) p
+occur PaperIn p = with_status (put paper_out 0 p.status) p
+occur InterruptsOn p = with_control (put interrupts 1 p.control) p
+occur InterruptsOff p = with_control (put interrupts 0 p.control) p

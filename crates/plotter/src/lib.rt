@@ -1,13 +1,13 @@
-// The plotter's port (document 02, Four): the step by which the box sends a listing, byte by byte, and a function for each event from
-// outside. Nothing here holds a listing: a step is lent what is still unsent. Bits that have no name here stay what they are.
+// The plotter's port (document 02, Four): the step by which the box sends a listing, byte by byte, and the events from outside. Nothing
+// here holds a listing: a step is lent what is still unsent. Bits that have no name here stay what they are.
 #![tactic(auto)]
 
 ghost use Rattle.std.specs.Prelude.{◌≡◌, ◌+◌, ◌%◌};
-ghost use Rattle.plotter.specs.Port.{takes, acknowledged, send, Steps, occur, ready_again, out_of_paper, paper_in, interrupts_on, interrupts_off};
+ghost use Rattle.plotter.specs.Port.{port_of, bytes_of, takes, acknowledged, send, Steps, occur};
 
 // The four registers: of status bit 0 is ready, bit 1 paper out and bit 2 interrupt pending; of control bit 0 lets interrupts through; data has
 // the byte sent last, and to sum every byte sent is added.
-#[derive(Clone, Copy)]
+#[derive(Clone, Copy, Debug, PartialEq, Eq)]
 pub struct Port {
     pub status: u8,
     pub control: u8,
@@ -15,14 +15,52 @@ pub struct Port {
     pub sum: u8,
 }
 
-// What a step leaves: the registers, and how many of the unsent bytes went out, 0 or 1.
+// What a step leaves: the registers, and how many of the unsent bytes went out, 0 or 1. A number and no flag: what is unsent afterwards begins
+// that many bytes on, and C hosts are told it (`vodlasim_step`).
 #[derive(Clone, Copy)]
 pub struct Stepped {
     pub port: Port,
     pub sent: usize,
 }
 
-// ---- masks
+// What happens to the port from outside.
+#[derive(Clone, Copy, Debug, PartialEq, Eq)]
+pub enum Event {
+    // The device sets ready again, and pending too if control lets interrupts through.
+    ReadyAgain,
+    OutOfPaper,
+    PaperIn,
+    // Control lets interrupts through from now on.
+    InterruptsOn,
+    // Control lets none through from now on.
+    InterruptsOff,
+}
+
+// ---- the registers as four bytes: status, control, data, sum
+
+impl From<[u8; 4]> for Port {
+    ghost from_gives = { λ registers port. port ≡ port_of registers };
+
+    fn from(registers: [u8; 4]) -> Port {
+        let [status, control, data, sum] = registers;
+        Port {
+            status,
+            control,
+            data,
+            sum,
+        }
+    }
+}
+
+impl From<Port> for [u8; 4] {
+    ghost from_gives = { λ port registers. registers ≡ bytes_of port };
+
+    fn from(port: Port) -> [u8; 4] {
+        [port.status, port.control, port.data, port.sum]
+    }
+}
+
+// ---- masks: document 02 gives the registers' bits
 
 // The bits of status.
 const READY: u8 = 1;
@@ -41,15 +79,15 @@ pub fn step(port: Port, unsent: &[u8]) -> Stepped
     ensures { Steps port unsent.now result }
 {
     let seen = acknowledge(port);
-    if takes(port) && 0 < unsent.len() {
-        return Stepped {
-            port: send(seen, unsent[0]),
+    match unsent.first() {
+        Some(&byte) if takes(port) => Stepped {
+            port: send(seen, byte),
             sent: 1,
-        };
-    }
-    Stepped {
-        port: seen,
-        sent: 0,
+        },
+        _ => Stepped {
+            port: seen,
+            sent: 0,
+        },
     }
 }
 
@@ -64,75 +102,70 @@ fn takes(port: Port) -> bool
 fn acknowledge(port: Port) -> Port
     ensures { result ≡ acknowledged port }
 {
-    let mut next = port;
-    next.status &= !PENDING;
-    next
+    Port {
+        status: port.status & !PENDING,
+        ..port
+    }
 }
 
 // The port with a byte sent.
 fn send(port: Port, byte: u8) -> Port
     ensures { result ≡ send byte port }
 {
-    let mut next = port;
-    next.status &= !READY;
-    next.data = byte;
-    next.sum = summed(port.sum, byte);
-    next
+    Port {
+        status: port.status & !READY,
+        data: byte,
+        sum: summed(port.sum, byte),
+        ..port
+    }
 }
 
 // A sum with a byte more, wrapping past 255.
 fn summed(sum: u8, byte: u8) -> u8
     ensures { result ≡ (sum + byte) % 256 }
 {
-    std::num::wrapping_add_u8(sum, byte)
+    sum.wrapping_add(byte)
 }
 
 // ---- the events
 
-// The device sets ready again, and pending too if control lets interrupts through.
-pub fn ready_again(port: Port) -> Port
-    ensures { result ≡ occur ready_again port }
+// The registers after an event.
+pub fn occur(port: Port, event: Event) -> Port
+    ensures { result ≡ occur event port }
 {
-    let mut next = port;
-    next.status |= READY;
-    if port.control & INTERRUPTS != 0 {
-        next.status |= PENDING;
+    match event {
+        Event::ReadyAgain => ready_again(port),
+        Event::OutOfPaper => Port {
+            status: port.status | PAPER_OUT,
+            ..port
+        },
+        Event::PaperIn => Port {
+            status: port.status & !PAPER_OUT,
+            ..port
+        },
+        Event::InterruptsOn => Port {
+            control: port.control | INTERRUPTS,
+            ..port
+        },
+        Event::InterruptsOff => Port {
+            control: port.control & !INTERRUPTS,
+            ..port
+        },
     }
-    next
 }
 
-// Paper runs out.
-pub fn out_of_paper(port: Port) -> Port
-    ensures { result ≡ occur out_of_paper port }
+fn ready_again(port: Port) -> Port
+    ensures { result ≡ occur Event.ReadyAgain port }
 {
-    let mut next = port;
-    next.status |= PAPER_OUT;
-    next
-}
-
-// Paper is put in.
-pub fn paper_in(port: Port) -> Port
-    ensures { result ≡ occur paper_in port }
-{
-    let mut next = port;
-    next.status &= !PAPER_OUT;
-    next
-}
-
-// Control lets interrupts through from now on.
-pub fn interrupts_on(port: Port) -> Port
-    ensures { result ≡ occur interrupts_on port }
-{
-    let mut next = port;
-    next.control |= INTERRUPTS;
-    next
-}
-
-// Control lets none through from now on.
-pub fn interrupts_off(port: Port) -> Port
-    ensures { result ≡ occur interrupts_off port }
-{
-    let mut next = port;
-    next.control &= !INTERRUPTS;
-    next
+    let ready = Port {
+        status: port.status | READY,
+        ..port
+    };
+    if port.control & INTERRUPTS != 0 {
+        return Port {
+            status: ready.status | PENDING,
+            ..ready
+        };
+    }
+    ready
 }

@@ -3,7 +3,8 @@ use Rattle.std.proofs.Common.{◌≡◌, Bool, true, false, ◌||◌, eqb, [], �
 use Rattle.specification.specs.Bytes.{Bytes, pick}
 use Rattle.specification.proofs.Laws.Contradiction.{contradiction}
 use Rattle.plotter.specs.declared.Port.{Port}
-use Rattle.plotter.specs.Port.{bit, is_set, put, ready, paper_out, pending, interrupts, After, attempt, step, takes, acknowledged, send, ready_again, out_of_paper, paper_in, interrupts_on, interrupts_off, occur}
+use Rattle.plotter.specs.declared.Event.TheVariants.{ReadyAgain, OutOfPaper, PaperIn, InterruptsOn, InterruptsOff}
+use Rattle.plotter.specs.Port.{bit, is_set, put, ready, paper_out, pending, interrupts, After, attempt, step, takes, acknowledged, send, occur}
 use Rattle.plotter.specs.History.{Action, a_step, event, History, action, then, play}
 use Rattle.plotter.proofs.Laws.Bits.{bit-put}
 use Rattle.plotter.proofs.Laws.Histories.{one_more}
@@ -27,7 +28,7 @@ pub pending-clear : (h : History) (p : Port) (u : Bytes) → is_set pending (pla
 unfolding then action
 pending-clear h p u = rw (one_more h a_step p u) (step-clears (play h p u).port (play h p u).unsent)
 
-ready-pending : (p : Port) → is_set pending (occur ready_again p).status ≡ (is_set interrupts p.control || is_set pending p.status)
+ready-pending : (p : Port) → is_set pending (occur ReadyAgain p).status ≡ (is_set interrupts p.control || is_set pending p.status)
 unfolding is_set occur
 ready-pending p = by (is_set interrupts p.control)
   where
@@ -40,9 +41,9 @@ ready-pending p = by (is_set interrupts p.control)
 -- where control lets interrupts through, ready again sets it
 pub ready-interrupts :
     (h : History) (p : Port) (u : Bytes) → is_set interrupts (play h p u).port.control ≡ true →
-    is_set pending (play (h ++ (event ready_again ∷ [])) p u).port.status ≡ true
+    is_set pending (play (h ++ (event ReadyAgain ∷ [])) p u).port.status ≡ true
 unfolding then action
-ready-interrupts h p u e = rw (one_more h (event ready_again) p u, ready-pending (play h p u).port, e)
+ready-interrupts h p u e = rw (one_more h (event ReadyAgain) p u, ready-pending (play h p u).port, e)
 
 let_through : (t s : Bool) → s ≡ false → (t || s) ≡ true → t ≡ true
 let_through true s clear set = refl
@@ -50,20 +51,20 @@ let_through false s clear set = sym clear ∙ set
 
 action-sets :
     (x : Action) (p : Port) (u : Bytes) → is_set pending p.status ≡ false → is_set pending (action x p u).port.status ≡ true →
-    (x ≡ event ready_again) × (is_set interrupts p.control ≡ true)
+    (x ≡ event ReadyAgain) × (is_set interrupts p.control ≡ true)
 unfolding action occur is_set
 action-sets a_step p u clear set = contradiction (cc (step-clears p u))
-action-sets (event ready_again) p u clear set = (refl, let_through (is_set interrupts p.control) (is_set pending p.status) clear (sym (ready-pending p) ∙ set))
-action-sets (event out_of_paper) p u clear set = contradiction (cc (bit-put pending paper_out 1 p.status (omega arith)))
-action-sets (event paper_in) p u clear set = contradiction (cc (bit-put pending paper_out 0 p.status (omega arith)))
-action-sets (event interrupts_on) p u clear set = contradiction (cc)
-action-sets (event interrupts_off) p u clear set = contradiction (cc)
+action-sets (event ReadyAgain) p u clear set = (refl, let_through (is_set interrupts p.control) (is_set pending p.status) clear (sym (ready-pending p) ∙ set))
+action-sets (event OutOfPaper) p u clear set = contradiction (cc (bit-put pending paper_out 1 p.status (omega arith)))
+action-sets (event PaperIn) p u clear set = contradiction (cc (bit-put pending paper_out 0 p.status (omega arith)))
+action-sets (event InterruptsOn) p u clear set = contradiction (cc)
+action-sets (event InterruptsOff) p u clear set = contradiction (cc)
 
 -- a action that sets it is the device's, and control lets it through
 pub pending-set :
     (h : History) (x : Action) (p : Port) (u : Bytes) →
     is_set pending (play h p u).port.status ≡ false → is_set pending (play (h ++ (x ∷ [])) p u).port.status ≡ true →
-    (x ≡ event ready_again) × (is_set interrupts (play h p u).port.control ≡ true)
+    (x ≡ event ReadyAgain) × (is_set interrupts (play h p u).port.control ≡ true)
 unfolding then
 pending-set h x p u clear set =
     let a = play h p u in

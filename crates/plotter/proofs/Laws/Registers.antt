@@ -3,7 +3,9 @@ use Rattle.std.proofs.Common.{◌≡◌, ℕ, ◌+◌, ◌%◌, ◌<◌, Bool, t
 use Rattle.specification.specs.Lists.{Each}
 use Rattle.specification.specs.Bytes.{Bytes}
 use Rattle.plotter.specs.declared.Port.{Port}
-use Rattle.plotter.specs.Port.{After, attempt, step, takes, acknowledged, send, Event, ready_again, out_of_paper, paper_in, interrupts_on, interrupts_off, occur}
+use Rattle.plotter.specs.declared.Event.{Event}
+use Rattle.plotter.specs.declared.Event.TheVariants.{ReadyAgain, OutOfPaper, PaperIn, InterruptsOn, InterruptsOff}
+use Rattle.plotter.specs.Port.{After, attempt, step, takes, acknowledged, send, occur}
 use Rattle.plotter.specs.History.{Action, a_step, event, History, action, then, play, total}
 use Rattle.plotter.proofs.Laws.Histories.{every}
 use Rattle.plotter.proofs.Laws.Sent.{in_order}
@@ -29,11 +31,11 @@ attempt-sum true p (b ∷ bs) h = omega arith
 -- an event leaves sum and data
 occur-keeps : (e : Event) (p : Port) → ((occur e p).sum ≡ p.sum) × ((occur e p).«data» ≡ p.«data»)
 unfolding occur
-occur-keeps ready_again p = (refl, refl)
-occur-keeps out_of_paper p = (refl, refl)
-occur-keeps paper_in p = (refl, refl)
-occur-keeps interrupts_on p = (refl, refl)
-occur-keeps interrupts_off p = (refl, refl)
+occur-keeps ReadyAgain p = (refl, refl)
+occur-keeps OutOfPaper p = (refl, refl)
+occur-keeps PaperIn p = (refl, refl)
+occur-keeps InterruptsOn p = (refl, refl)
+occur-keeps InterruptsOff p = (refl, refl)
 
 action-sum : (x : Action) (p : Port) (u : Bytes) → Summed p (action x p u)
 unfolding action step total

@@ -5,7 +5,9 @@ use lib.Seq.{take-append_seam}
 use Rattle.specification.specs.Bytes.{Bytes, pick}
 use Rattle.specification.proofs.Laws.Parser.{and-true}
 use Rattle.plotter.specs.declared.Port.{Port}
-use Rattle.plotter.specs.Port.{bit, is_set, put, ready, paper_out, pending, attempt, step, takes, acknowledged, send, Event, ready_again, out_of_paper, paper_in, interrupts_on, interrupts_off, occur}
+use Rattle.plotter.specs.declared.Event.{Event}
+use Rattle.plotter.specs.declared.Event.TheVariants.{ReadyAgain, OutOfPaper, PaperIn, InterruptsOn, InterruptsOff}
+use Rattle.plotter.specs.Port.{bit, is_set, put, ready, paper_out, pending, attempt, step, takes, acknowledged, send, occur}
 use Rattle.plotter.specs.History.{Action, a_step, event, History, action, then, play, chances}
 use Rattle.plotter.proofs.Laws.Bits.{bit-put, bit_below}
 use Rattle.plotter.proofs.Laws.Step.{step-idle}
@@ -114,11 +116,11 @@ step-sends-nothing h p u why =
 
 -- how often the device sets ready
 abbrev pub sets_ready : Event → ℕ
-sets_ready ready_again = 1
-sets_ready out_of_paper = 0
-sets_ready paper_in = 0
-sets_ready interrupts_on = 0
-sets_ready interrupts_off = 0
+sets_ready ReadyAgain = 1
+sets_ready OutOfPaper = 0
+sets_ready PaperIn = 0
+sets_ready InterruptsOn = 0
+sets_ready InterruptsOff = 0
 
 unfoldable pub readies : History → ℕ
 readies [] = 0
@@ -139,11 +141,11 @@ attempt-ready true p (b ∷ bs) e = omega (arith, taken-ready p e, bit-put ready
 
 occur-ready : (e : Event) (p : Port) → bit ready (occur e p).status ≤ bit ready p.status + sets_ready e
 unfolding occur
-occur-ready ready_again p = omega (arith, bit_below ready (occur ready_again p).status)
-occur-ready out_of_paper p = omega (arith, bit-put ready paper_out 1 p.status (omega arith))
-occur-ready paper_in p = omega (arith, bit-put ready paper_out 0 p.status (omega arith))
-occur-ready interrupts_on p = omega arith
-occur-ready interrupts_off p = omega arith
+occur-ready ReadyAgain p = omega (arith, bit_below ready (occur ReadyAgain p).status)
+occur-ready OutOfPaper p = omega (arith, bit-put ready paper_out 1 p.status (omega arith))
+occur-ready PaperIn p = omega (arith, bit-put ready paper_out 0 p.status (omega arith))
+occur-ready InterruptsOn p = omega arith
+occur-ready InterruptsOff p = omega arith
 
 -- a byte goes for each time that ready is set, or fewer: the plotter is never sent two for one
 pub one-for-each-ready :

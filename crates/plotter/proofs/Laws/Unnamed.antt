@@ -3,7 +3,9 @@
 use Rattle.std.proofs.Common.{◌≡◌, ℕ, ◌<◌, ◌≤◌, Bool, true, false, [], ◌∷◌, refl, ◌∙◌, arith, ne_eqb}
 use Rattle.specification.specs.Bytes.{Bytes, pick}
 use Rattle.plotter.specs.declared.Port.{Port}
-use Rattle.plotter.specs.Port.{bit, is_set, put, ready, paper_out, pending, interrupts, attempt, step, takes, acknowledged, send, Event, ready_again, out_of_paper, paper_in, interrupts_on, interrupts_off, occur}
+use Rattle.plotter.specs.declared.Event.{Event}
+use Rattle.plotter.specs.declared.Event.TheVariants.{ReadyAgain, OutOfPaper, PaperIn, InterruptsOn, InterruptsOff}
+use Rattle.plotter.specs.Port.{bit, is_set, put, ready, paper_out, pending, interrupts, attempt, step, takes, acknowledged, send, occur}
 use Rattle.plotter.specs.History.{Action, a_step, event, History, action, then, play}
 use Rattle.plotter.proofs.Laws.Bits.{bit-put, put-below}
 use Rattle.plotter.proofs.Laws.Histories.{every}
@@ -41,15 +43,15 @@ attempt-changes true p (b ∷ bs) = puts ready 0 (omega arith) (omega arith) (ac
 
 occur-changes : (e : Event) (p : Port) → Changed pending p.status (occur e p).status
 unfolding occur
-occur-changes ready_again p = by (is_set interrupts p.control) (puts ready 1 (omega arith) (omega arith) same)
+occur-changes ReadyAgain p = by (is_set interrupts p.control) (puts ready 1 (omega arith) (omega arith) same)
   where
     by : {s s' : ℕ} (t : Bool) → Changed pending s s' → Changed pending s (pick t (put pending 1 s') s')
     by true c = puts pending 1 (omega arith) (omega arith) c
     by false c = c
-occur-changes out_of_paper p = puts paper_out 1 (omega arith) (omega arith) same
-occur-changes paper_in p = puts paper_out 0 (omega arith) (omega arith) same
-occur-changes interrupts_on p = same
-occur-changes interrupts_off p = same
+occur-changes OutOfPaper p = puts paper_out 1 (omega arith) (omega arith) same
+occur-changes PaperIn p = puts paper_out 0 (omega arith) (omega arith) same
+occur-changes InterruptsOn p = same
+occur-changes InterruptsOff p = same
 
 action-changes : (x : Action) (p : Port) (u : Bytes) → Changed pending p.status (action x p u).port.status
 unfolding action step
@@ -76,11 +78,11 @@ attempt-control true p (b ∷ bs) = same
 action-control : (x : Action) (p : Port) (u : Bytes) → Changed interrupts p.control (action x p u).port.control
 unfolding action step occur
 action-control a_step p u = attempt-control (takes p) p u
-action-control (event ready_again) p u = same
-action-control (event out_of_paper) p u = same
-action-control (event paper_in) p u = same
-action-control (event interrupts_on) p u = puts interrupts 1 (omega arith) (omega arith) same
-action-control (event interrupts_off) p u = puts interrupts 0 (omega arith) (omega arith) same
+action-control (event ReadyAgain) p u = same
+action-control (event OutOfPaper) p u = same
+action-control (event PaperIn) p u = same
+action-control (event InterruptsOn) p u = puts interrupts 1 (omega arith) (omega arith) same
+action-control (event InterruptsOff) p u = puts interrupts 0 (omega arith) (omega arith) same
 
 control-changes : (h : History) (p : Port) (u : Bytes) → Changed interrupts p.control (play h p u).port.control
 unfolding then

@@ -9,8 +9,8 @@ returns-then-port-ne0 c =
     let port = c.args.port in
     rw (mask-sets ready port.status, mask-sets pending (put ready 1 port.status), set_if interrupts port.control c.if-port-ne0.true)
 
-pub returns-else-port-ne0 : goal.returns-else-port-ne0
+pub returns : goal.returns
 unfolding occur
-returns-else-port-ne0 c =
+returns c =
     let port = c.args.port in
     rw (mask-sets ready port.status, clear-if interrupts port.control c.if-port-ne0.false)
