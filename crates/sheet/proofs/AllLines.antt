@@ -1,8 +1,9 @@
--- The lines of given values and of the formula, from the answers of the code that reads each, and a line by its number. Those before are in
--- FirstLines, those of procedures in ProcedureLines and ProcedureBody. Assumes nothing.
+-- The lines of given values and of the formula, from the answers of the code that reads each. Those before are in FirstLines, those of
+-- procedures in ProcedureLines and ProcedureBody. Assumes nothing.
 use Prim.Native.Nat.{ℕ}
 use native.Mathlib.Omega.{arith}
 use mathlib.Core.Path.{◌≡◌, refl, sym, ap, subst, ◌∙◌}
+use Rattle.std.specs.Prelude.{Err}
 use mathlib.Core.Bool.{Bool}
 use mathlib.Core.List.{List, [], ◌++◌}
 use lib.ListN.{length, replicate, length-append}
@@ -14,23 +15,18 @@ use Rattle.specification.specs.Ast.{Formula}
 use Rattle.specification.specs.Formula.{formula}
 use Rattle.specification.specs.Sheet.{with_procedures, procedure_lines, most_procedures, Sheet, refuses, sheet}
 use Rattle.tables.specs.Layout.{max_nesting}
-use Rattle.sheet.specs.declared.given.Given.{Given}
-use Rattle.sheet.specs.declared.given.Given.TheVariants as goal
 use Rattle.sheet.specs.declared.formula.Limits.{Limits}
 use Rattle.sheet.specs.declared.formula.Reached.{Reached}
-use Rattle.sheet.specs.declared.formula.Parsed.{Parsed}
-use Rattle.sheet.specs.declared.formula.Parsed.TheVariants as parsed
-use Rattle.sheet.specs.declared.whole.Progress.{Progress}
-use Rattle.sheet.specs.declared.whole.Progress.TheVariants as progress
+use Rattle.sheet.specs.declared.reader.Progress.{Progress}
 use Rattle.sheet.specs.Codes.{formula_tokens, procedures_tokens}
 use Rattle.sheet.specs.Reader.{reader_at, line_at}
 use Rattle.sheet.specs.Tables.{Words, laid_cells, laid_given, laid_procs, laid_tokens, declared_tables, tables}
 use Rattle.sheet.specs.Items.{GivenFound, GivenDone}
 use Rattle.sheet.specs.Stack.{Beside}
 use Rattle.sheet.specs.Ends.{tokens_in}
-use Rattle.sheet.specs.FormulaLine.{line_formula, formula_rest, refuses_in, begin, Laid, LineRead}
+use Rattle.sheet.specs.FormulaLine.{line_formula, formula_rest, refuses_in, Begin, begin, Laid, LineRead}
 use Rattle.sheet.specs.Rest.{sheet_of, from_formula, from_procedures, from_given}
-use Rattle.sheet.specs.Whole.{Ranged, Filled, Stage, Went, Goes, Leads, left_lines, reached}
+use Rattle.sheet.specs.Whole.{standing, Stopped, Ranged, Filled, Tabled, left_lines}
 use Rattle.sheet.proofs.Left.{then_same}
 use Rattle.sheet.proofs.Laid.{tokens-length}
 use Rattle.sheet.proofs.Regions.{given-length}
@@ -80,19 +76,17 @@ procedures-sheet : (refusing : Bool) (k : ℕ) (D : Declared) (is : List Item) (
     from_procedures refusing k D is r
 procedures-sheet refusing k D is r = then_same (λ Ps r₁. formula-sheet refusing (with_procedures Ps D) is r₁) (procedure_lines refusing k D r)
 
-module _ (s : Bytes) (n : ℕ) (d : Limits) (at : ℕ) (w : Words) (h : Ranged s n d at w) (w₁ : Words) (r : Given) (g : GivenDone h.declared s at w w₁ r) where
-  pub given-refused : (k p : ℕ) → r ≡ goal.Refused k p → Went d.strict 5 s n (progress.Refused k p) w₁
+module _ (s : Bytes) (n : ℕ) (p : Progress) (w : Words) (h : Ranged s n p w) (w₁ : Words) where
+  pub given-refused : (e : ℕ × ℕ) → GivenDone h.declared s p.reached.at w w₁ (Err e) → Stopped p.limits.strict s e
   unfolding from_given
-  given-refused k p q =
-      let x : GivenDone h.declared s at w w₁ (goal.Refused k p) = rw q at g in
-      (h.rest ∙ rw x.0, x.1 ∙ h.long)
+  given-refused e x = h.rest ∙ rw x.0
 
-  pub given-found : (c : ℕ) (x : Reached) → r ≡ goal.Read c → x ≡ reached c → Went d.strict 5 s n (progress.Read d x) w₁
+  pub given-found : {c : ℕ} → GivenFound h.declared s p.reached.at w w₁ c → Filled (left_lines p.limits) s n (standing p.limits c) w₁
   unfolding from_given laid_procs laid_tokens procedures_tokens
-  given-found c x q there = (refl, subst (λ y. Filled (left_lines d) s n d y w₁) (sym there) at_place)
+  given-found {c} f = at_place
     where
-      f : GivenFound h.declared s at w w₁ c
-      f = rw q at g
+      d : Limits
+      d = p.limits
 
       edition : ℕ
       edition = h.declared.edition
@@ -108,7 +102,7 @@ module _ (s : Bytes) (n : ℕ) (d : Limits) (at : ℕ) (w : Words) (h : Ranged s
       same : w₁ ≡ base
       same = f.laid ∙ ap (laid_given f.items) h.words
 
-      at_place : Filled (left_lines d) s n d (reached c) w₁
+      at_place : Filled (left_lines p.limits) s n (standing p.limits c) w₁
       at_place = record {
         declared = h.declared;
         items = f.items;
@@ -130,8 +124,16 @@ module _ (s : Bytes) (n : ℕ) (d : Limits) (at : ℕ) (w : Words) (h : Ranged s
 
 -- ---- the formula
 
-module _ (s : Bytes) (n : ℕ) (d : Limits) (x : Reached) (w : Words) (h : Filled 0 s n d x w) (w₁ : Words) (r : Parsed)
-    (f : LineRead (begin s d x.at x.tokens h.locals) h.declared w w₁ r) where
+module _ (s : Bytes) (n : ℕ) (p : Progress) (w : Words) (h : Filled 0 s n p w) (w₁ : Words) where
+  abbrev d : Limits
+  d = p.limits
+
+  abbrev x : Reached
+  x = p.reached
+
+  abbrev here : Begin
+  here = begin s d x.at x.tokens h.locals
+
   abbrev on_formula : Read Formula → Read Sheet
   on_formula y = and_then (λ F. give (sheet_of h.declared h.items F)) y
 
@@ -140,16 +142,13 @@ module _ (s : Bytes) (n : ℕ) (d : Limits) (x : Reached) (w : Words) (h : Fille
   unfolding procedure_lines
   formula-next = h.rest
 
-  pub formula-refused : (k p : ℕ) → r ≡ parsed.Refused k p → Went d.strict 7 s n (progress.Refused k p) w₁
-  formula-refused k p q =
-      let y : LineRead (begin s d x.at x.tokens h.locals) h.declared w w₁ (parsed.Refused k p) = rw q at f in
-      (formula-next ∙ ap on_formula y.0, y.1 ∙ h.long)
+  pub formula-refused : (e : ℕ × ℕ) → LineRead here h.declared w w₁ (Err e) → Stopped d.strict s e
+  formula-refused e y = formula-next ∙ ap on_formula y.0
 
-  pub formula-found : (t e m : ℕ) → r ≡ parsed.Read t →
-      Went d.strict 7 s n (progress.Read d (record { first = x.tokens; tokens = t; bound = m; at = e })) w₁
+  pub formula-found : (t e m : ℕ) → Laid here h.declared w w₁ t →
+      Tabled s n (record { limits = d; reached = record { first = x.tokens; tokens = t; bound = m; at = e } }) w₁
   unfolding tables
-  formula-found t e m q =
-      let l : Laid (begin s d x.at x.tokens h.locals) h.declared w w₁ t = rw q at f in
+  formula-found t e m l =
       let T = procedures_tokens h.declared.procedures in
       let ts = formula_tokens l.formula in
       let base = declared_tables h.declared h.items n in
@@ -159,55 +158,23 @@ module _ (s : Bytes) (n : ℕ) (d : Limits) (x : Reached) (w : Words) (h : Fille
       ap (tokens_in w 0) (sym h.tokens) ∙ beside-tokens-in T base w (omega (arith, h.tokens, h.few)) (omega (arith, long, h.enough)) h.words in
       let laid = beside-tokens ts x.tokens (rw tokens-length (omega (arith, long, h.enough, l.count, l.few))) h.words in
       let from : laid_tokens 0 (T ++ ts) base ≡ laid_tokens x.tokens ts (laid_tokens 0 T base) =
-      tokens-both T ts 0 base ∙ ap (λ i. laid_tokens i ts (laid_tokens 0 T base)) (omega (arith, h.tokens)) in (
-        refl,
-        record {
-          whole = sheet_of h.declared h.items l.formula;
-          after = l.after;
-          is = formula-next ∙ ap on_formula l.is;
-          scalars = h.counts.scalars;
-          arrays = h.counts.arrays;
-          tokens = omega (arith, size, h.tokens, l.count);
-          first = h.tokens;
-          words = rw from (beside-then (beside-ends (T ++ ts) 0
-              (rw (tokens-length, tokens-length) (omega (arith, size, long, h.enough, h.tokens, l.count, l.few))) laid) (rw there at l.words));
-        },
-      )
+      tokens-both T ts 0 base ∙ ap (λ i. laid_tokens i ts (laid_tokens 0 T base)) (omega (arith, h.tokens)) in
+      record {
+        whole = sheet_of h.declared h.items l.formula;
+        after = l.after;
+        is = formula-next ∙ ap on_formula l.is;
+        scalars = h.counts.scalars;
+        arrays = h.counts.arrays;
+        tokens = omega (arith, size, h.tokens, l.count);
+        first = h.tokens;
+        words = rw from (beside-then (beside-ends (T ++ ts) 0
+            (rw (tokens-length, tokens-length) (omega (arith, size, long, h.enough, h.tokens, l.count, l.few))) laid) (rw there at l.words));
+      }
 
--- ---- a line after what was read before it
+-- ---- over as many words
 
--- at the number of a line
-pub as_line : {k j : ℕ} (strict : Bool) (s : Bytes) (n : ℕ) (p : Progress) (w : Words) → k ≡ j → Went strict k s n p w → Went strict j s n p w
-as_line strict s n p w q h = subst (λ m. Went strict m s n p w) q h
+pub filled-long : {k : ℕ} {s : Bytes} {n m : ℕ} {p : Progress} {w : Words} → n ≡ m → Filled k s n p w → Filled k s m p w
+filled-long {k} {s} {n} {m} {p} {w} e h = subst (λ i. Filled k s i p w) e h
 
--- over as many words
-pub as_long : (strict : Bool) (k : ℕ) (s : Bytes) (p : Progress) (w : Words) {n m : ℕ} → n ≡ m → Went strict k s n p w → Went strict k s m p w
-as_long strict k s p w q h = subst (λ i. Went strict k s i p w) q h
-
--- a refusal stays
-pub still-refused : (s : Bytes) (p : Progress) (w : Words) (e q j : ℕ) → p ≡ progress.Refused e q → Leads j s (length w) p (progress.Refused e q) w
-still-refused s p w e q j i = subst (λ y. Leads j s (length w) y (progress.Refused e q) w) (sym i) (refl, refl)
-
--- else reading goes on
-module _ (s : Bytes) (n k : ℕ) (p : Progress) (d : Limits) (x : Reached) (i : p ≡ progress.Read d x) where
-  pub leads-on : (r : Progress) (w : Words) → Went d.strict k s n r w → Leads k s n p r w
-  leads-on r w h = subst (λ y. Leads k s n y r w) (sym i) h
-
-  module _ (w : Words) (h : Goes k s n p w) where
-    goes_on : Stage k s n d x w
-    goes_on = rw i at h
-
-    -- and the line that comes next is the j-th
-    pub at-line : (j : ℕ) → k ≡ j → Stage j s n d x w
-    at-line j q = subst (λ m. Stage m s n d x w) q goes_on
-
--- from what was read after j lines: the next line may go on, and where it leads
-module _ (strict : Bool) (j : ℕ) (s : Bytes) (n : ℕ) where
-  pub went-goes : (p : Progress) (w : Words) → Went strict j s n p w → Goes j s n p w
-  went-goes (progress.Refused e q) w h = tt
-  went-goes (progress.Read d x) w h = h.1
-
-  pub went-leads : (k : ℕ) (p : Progress) (w : Words) → Went strict j s n p w → (r : Progress) (w' : Words) → Leads k s n p r w' →
-      Went strict k s n r w'
-  went-leads k (progress.Refused e q) w h r w' l = subst (λ y. Went strict k s n y w') (sym l.0) (h.0, l.1)
-  went-leads k (progress.Read d x) w h r w' l = subst (λ b. Went b k s n r w') h.0 l
+pub tabled-long : {s : Bytes} {n m : ℕ} {p : Progress} {w : Words} → n ≡ m → Tabled s n p w → Tabled s m p w
+tabled-long {s} {n} {m} {p} {w} e h = subst (λ i. Tabled s i p w) e h

@@ -10,23 +10,18 @@ use lib.Dec.{leb}
 use lib.ListN.{length, get_or, take, drop, set, length-set}
 use lib.Seq.{drop-drop}
 use borrow.Author.Tests.{leb-true}
-use Rattle.specification.specs.Bytes.{Bytes, bytes, pick, between, comma, feed, class_number, begins}
-use Rattle.specification.specs.Parser.{Reader, Read, refused, found, require, and_then, ◌>>◌, give, next, mark}
+use Rattle.specification.specs.Bytes.{Bytes, bytes, pick, between, comma, feed}
+use Rattle.specification.specs.Parser.{Reader, Read, refused, found, require, and_then, ◌>>◌, give, next, mark, key}
 use Rattle.specification.specs.Lines.{index, count, lengths, arrays_line, sum, Declared, first_of}
 use Rattle.specification.proofs.Laws.Contradiction.{contradiction}
-use Rattle.text.specs.Class.{class_at}
-use Rattle.text.proofs.Laws.Class.{class-next, class-not-next}
 use Rattle.tables.specs.Layout.{max_arrays, max_cells, first_slot}
 use Rattle.sheet.specs.declared.arrays.Arrays.{Arrays}
-use Rattle.sheet.specs.declared.arrays.Arrays.TheVariants as arrays
-use Rattle.sheet.specs.declared.lines.Count.{Count}
-use Rattle.sheet.specs.declared.lines.Count.TheVariants as counted
 use Rattle.sheet.specs.Reader.{line_at}
 use Rattle.sheet.specs.Tables.{Words, laid_firsts, laid_arrays}
-use Rattle.sheet.specs.Answers.{mapped, count_read}
-use Rattle.sheet.specs.Firsts.{laid_on, Table, tabled, arrays_value, arrays_read, ArraysFound}
-use Rattle.sheet.proofs.Answers.{Origin, mapped-refused, mapped-found}
-use Rattle.sheet.proofs.Keys.{exactly-yes, exactly-no, mark-yes, closed, closed-yes, closed-no}
+use Rattle.sheet.specs.Answers.{mapped}
+use Rattle.sheet.specs.Firsts.{laid_on, Table, tabled, arrays_value, table_of, ArraysFound}
+use Rattle.sheet.proofs.Answers.{on_found, on_refused, Origin, mapped-refused, mapped-found}
+use Rattle.sheet.proofs.Keys.{mark-yes, closed, closed-found, closed-refused}
 
 -- ---- first cells
 
@@ -129,29 +124,26 @@ module _ {s : Bytes} {from scalars : ℕ} {w₀ w : Words} {at n end : ℕ} (st 
         let q : max_arrays - n ≡ suc (max_arrays - (n + 1)) = omega arith in
         rw e (sym (rw q at st.rest))
 
-    pub turn-refused : (x : Count) → count_read s x ≡ count 1 (max_cells - end) (line_at s at) → (k p : ℕ) → x ≡ counted.Refused k p → Whole (refused k p)
-    turn-refused x read k p told = turned (refused k p) (rw told at read)
+    pub turn-refused : {k p : ℕ} → refused k p ≡ count 1 (max_cells - end) (line_at s at) → Whole (refused k p)
+    turn-refused is = turned _ is
 
-    module _ (x : Count) (read : count_read s x ≡ count 1 (max_cells - end) (line_at s at)) (m e : ℕ) (told : x ≡ counted.Is m e) where
-      is : found m (line_at s e) ≡ count 1 (max_cells - end) (line_at s at)
-      is = rw told at read
-
+    module _ {m e : ℕ} (is : found m (line_at s e) ≡ count 1 (max_cells - end) (line_at s at)) where
       pub turn-few : end + m ≤ max_cells
       turn-few = omega (arith, (count-few 1 (max_cells - end) m (line_at s at) (line_at s e) is).1, st.small)
 
       -- with its first cell
       module _ (w₁ : Words) (first : w₁ ≡ set w (first_slot n) end) where
-        pub turn_last : (class_at s e ≡ class_number comma → ⊥) → (w' : Words) → w' ≡ laid_on (suc max_arrays - (n + 1)) (n + 1) (end + m) [] w₁
+        pub turn_last : false ≡ next comma (drop e s) → (w' : Words) → w' ≡ laid_on (suc max_arrays - (n + 1)) (n + 1) (end + m) [] w₁
             → Whole (found (record { arrays = n + 1; end = end + m; words = w' }) (line_at s e))
         unfolding sum
         turn_last other w' laid =
-            let last = rw (class-not-next s e comma other) at (turned (found m (line_at s e)) is) in
+            let last = rw (sym other) at (turned (found m (line_at s e)) is) in
             rw (laid, first) (rw (add-zero (n + 1), add-zero (end + m)) at (sym (tabled-more n end m w h (found [] (line_at s e))) ∙ last))
 
-        pub turn-next : class_at s e ≡ class_number comma → Reading s from scalars w₀ w₁ (e + 1) (n + 1) (end + m)
+        pub turn-next : true ≡ next comma (drop e s) → Reading s from scalars w₀ w₁ (e + 1) (n + 1) (end + m)
         turn-next is-comma =
             let left : max_cells - end - m ≡ max_cells - (end + m) = omega arith in
-            let more = rw (class-next s e comma is-comma, mark-yes s e comma _ is-comma, left) at (turned (found m (line_at s e)) is) in
+            let more = rw (sym is-comma, sym (mark-yes s e comma is-comma), left) at (turned (found m (line_at s e)) is) in
             rw first (record {
               few = omega arith;
               small = turn-few;
@@ -162,43 +154,44 @@ module _ {s : Bytes} {from scalars : ℕ} {w₀ w : Words} {at n end : ℕ} (st 
 -- ---- the line
 
 module _ (s : Bytes) (from scalars : ℕ) (w : Words) where
-  pub value_none : class_at s from ≡ class_number feed → (w' : Words) → w' ≡ laid_on (suc max_arrays) 0 scalars [] w
+  pub value_none : true ≡ next feed (drop from s) → (w' : Words) → w' ≡ laid_on (suc max_arrays) 0 scalars [] w
       → found (record { arrays = 0; end = scalars; words = w' }) (line_at s from) ≡ mapped (tabled 0 scalars w) (arrays_value scalars (line_at s from))
   unfolding sum
-  value_none is-feed w' laid = rw (class-next s from feed is-feed, laid, add-zero scalars)
+  value_none is-feed w' laid = rw (sym is-feed, laid, add-zero scalars)
 
-  pub value-some : (class_at s from ≡ class_number feed → ⊥)
+  pub value-some : false ≡ next feed (drop from s)
       → mapped (tabled 0 scalars w) (lengths max_arrays (max_cells - scalars) (line_at s from)) ≡ mapped (tabled 0 scalars w) (arrays_value scalars (line_at s from))
-  value-some other = rw (class-not-next s from feed other)
+  value-some other = rw (sym other)
 
 module _ (s : Bytes) (at scalars : ℕ) where
-  pub lined-no : begins (bytes "arrays=") (drop at s) ≡ false → arrays_line scalars (line_at s at) ≡ refused 3 at
+  pub lined-no : {k p : ℕ} → refused k p ≡ key (bytes "arrays=") (line_at s at) → arrays_line scalars (line_at s at) ≡ refused k p
   unfolding arrays_line
-  lined-no h = exactly-no s at (bytes "arrays=") 3 _ h
+  lined-no h = on_refused _ h
 
-  -- with x what is read of the value, over the words w, which it leaves as w'
-  module _ (key : begins (bytes "arrays=") (drop at s) ≡ true) (w w' : Words) (x : Arrays)
-      (is : arrays_read s x w' ≡ mapped (tabled 0 scalars w) (arrays_value scalars (line_at s (at + 7)))) where
-    lined : arrays_line scalars (line_at s at) ≡ closed (arrays_value scalars (line_at s (at + 7)))
+  -- with what is read of the value, over the words w, which it leaves as w'
+  module _ {from : ℕ} (begun : found tt (line_at s from) ≡ key (bytes "arrays=") (line_at s at)) (w w' : Words) where
+    lined : arrays_line scalars (line_at s at) ≡ closed (arrays_value scalars (line_at s from))
     unfolding arrays_line
-    lined = exactly-yes s at (bytes "arrays=") 3 _ key
+    lined = on_found _ begun
 
-    pub lined-refused : (k p : ℕ) → x ≡ arrays.Refused k p → arrays_line scalars (line_at s at) ≡ refused k p
-    lined-refused k p told =
-        lined ∙ ap closed (mapped-refused (tabled 0 scalars w) k p (arrays_value scalars (line_at s (at + 7))) (rw told at is))
+    abbrev contents : Read (List ℕ)
+    contents = arrays_value scalars (line_at s from)
 
-    module _ (n end e : ℕ) (told : x ≡ arrays.Read n end e) where
-      from : Origin (tabled 0 scalars w) (record { arrays = n; end = end; words = w' }) (line_at s e) (arrays_value scalars (line_at s (at + 7)))
-      from = mapped-found (tabled 0 scalars w) _ _ (arrays_value scalars (line_at s (at + 7))) (rw told at is)
+    pub lined-refused : {k p : ℕ} → refused k p ≡ mapped (tabled 0 scalars w) contents → arrays_line scalars (line_at s at) ≡ refused k p
+    lined-refused is = lined ∙ ap closed (mapped-refused (tabled 0 scalars w) _ _ contents is)
 
-      pub lined-open : (class_at s e ≡ class_number feed → ⊥) → arrays_line scalars (line_at s at) ≡ refused 5 e
-      lined-open other = lined ∙ ap closed from.is ∙ sym (closed-no s e from.origin other)
+    module _ {a : Arrays} {e : ℕ} (is : found (table_of w' a) (line_at s e) ≡ mapped (tabled 0 scalars w) contents) where
+      origin : Origin (tabled 0 scalars w) (table_of w' a) (line_at s e) contents
+      origin = mapped-found (tabled 0 scalars w) _ _ contents is
 
-      pub lined-found : class_at s e ≡ class_number feed → ArraysFound s at scalars w (record { arrays = n; end = end; words = w' }) (e + 1)
-      lined-found is-feed = record {
-        lengths = from.origin;
-        read = lined ∙ ap closed from.is ∙ sym (closed-yes s e from.origin is-feed);
-        many = sym (zero-add (length from.origin)) ∙ ap (λ (x : Table). x.arrays) from.made;
-        ends = ap (λ (x : Table). x.end) from.made;
-        laid = λ D a b. sym (ap (λ (x : Table). x.words) from.made) ∙ declared-laid D scalars from.origin w a b;
+      pub lined-open : {k p : ℕ} → refused k p ≡ mark feed (line_at s e) → arrays_line scalars (line_at s at) ≡ refused k p
+      lined-open h = lined ∙ ap closed origin.is ∙ closed-refused origin.origin s e h
+
+      pub lined-found : {q : ℕ} → found tt (line_at s q) ≡ mark feed (line_at s e) → ArraysFound s at scalars w (table_of w' a) q
+      lined-found h = record {
+        lengths = origin.origin;
+        read = lined ∙ ap closed origin.is ∙ closed-found origin.origin s e h;
+        many = sym (zero-add (length origin.origin)) ∙ ap (λ (x : Table). x.arrays) origin.made;
+        ends = ap (λ (x : Table). x.end) origin.made;
+        laid = λ D a b. sym (ap (λ (x : Table). x.words) origin.made) ∙ declared-laid D scalars origin.origin w a b;
       }

@@ -2,92 +2,114 @@
 use Prim.Native.Nat.{ℕ, suc, ◌+◌, ◌<◌, ◌≤◌, min}
 use mathlib.Core.Path.{◌≡◌, refl, sym, ap, ◌∙◌}
 use mathlib.Core.Bool.{Bool, true, false}
+use Rattle.std.specs.Prelude.{Option, Some, None}
 use native.Mathlib.Numerals.{add-one}
 use native.Mathlib.Omega.{arith}
 use lib.Dec.{ltb}
 use lib.ListN.{get_or, drop, get_or-eq_default}
 use borrow.Author.Tests.{ltb-true, ltb-false, lt-ltb, le-ltb}
-use Rattle.specification.specs.Bytes.{Bytes, bytes, pick, point, class_number, begins}
-use Rattle.specification.specs.Parser.{Read, refused, found, Parser, and_then, ◌>>=◌, ◌>>◌, give, mark}
+use Rattle.specification.specs.Bytes.{Bytes, bytes, pick, point, begins}
+use Rattle.specification.specs.Parser.{Reader, Read, refused, found, Parser, and_then, ◌>>=◌, ◌>>◌, give, mark, exactly}
 use Rattle.specification.specs.Lines.{index, Declared, cells, first_of, length_of, CellName, scalar, element, is_declared, cell_of}
 use Rattle.specification.specs.Given.{scalar_name, element_name, name}
 use Rattle.specification.proofs.Laws.Contradiction.{contradiction}
-use Rattle.text.specs.Class.{class_at}
-use Rattle.sheet.specs.declared.lines.Index.{Index}
-use Rattle.sheet.specs.declared.lines.Index.TheVariants as indexed
-use Rattle.sheet.specs.declared.given.Cell.{Cell}
-use Rattle.sheet.specs.declared.given.Cell.TheVariants as cell
 use Rattle.sheet.specs.Codes.{index_word}
 use Rattle.sheet.specs.Reader.{line_at}
 use Rattle.sheet.specs.Tables.{Words}
-use Rattle.sheet.specs.Answers.{mapped, held_index, index_read}
-use Rattle.sheet.specs.Items.{held_name, held_names, element_after, scalar_in, element_in, Declares}
-use Rattle.sheet.proofs.Answers.{mapped-refused, mapped-found}
-use Rattle.sheet.proofs.Keys.{exactly-yes, exactly-no, mark-yes, mark-no}
+use Rattle.sheet.specs.Answers.{held_index}
+use Rattle.sheet.specs.Items.{held_name, held_names, scalar_in, element_in, Declares}
+use Rattle.sheet.proofs.Answers.{on_found, on_refused}
 use Rattle.specification.proofs.Laws.Elements.{first_next, first-limit, scalar-declared, element-declared}
 use Rattle.tables.specs.Layout.{max_cells, first_at}
 
--- ---- names, of what an index is told to be
+-- ---- names: read with held indices
 
--- after the array's index
-abbrev element_from : ℕ → Parser CellName
-element_from a = mark point >> (index >>= λ i. give (element a i))
+-- an index, held
+abbrev held : Parser ℕ
+held r = held_index (index r)
+
+-- a step that is held, and then what is held
+then-held : (f : ℕ → Parser CellName) (g : ℕ → Parser CellName) → ((n : ℕ) (r : Reader) → g (index_word n) r ≡ held_names (f n r)) →
+    (x : Read ℕ) → and_then g (held_index x) ≡ held_names (and_then f x)
+then-held f g h (refused k p) = refl
+then-held f g h (found n r) = h n r
+
+scalar_held : (r : Reader) → (exactly 5 (bytes "v") >> (held >>= λ n. give (scalar n))) r ≡ held_names (scalar_name r)
+unfolding scalar_name
+scalar_held r = by (exactly 5 (bytes "v") r)
+  where
+    by : (x : Read (Unit {0})) → and_then (λ u. held >>= λ n. give (scalar n)) x ≡ held_names (and_then (λ u. index >>= λ n. give (scalar n)) x)
+    by (refused k p) = refl
+    by (found u r) = then-held (λ n. give (scalar n)) (λ n. give (scalar n)) (λ n r. refl) (index r)
+
+element_held : (r : Reader) →
+    (exactly 5 (bytes "a") >> (held >>= λ a. mark point >> (held >>= λ i. give (element a i)))) r ≡ held_names (element_name r)
+unfolding element_name
+element_held r = by (exactly 5 (bytes "a") r)
+  where
+    by-point : (a : ℕ) (x : Read (Unit {0})) →
+        and_then (λ u. held >>= λ i. give (element (index_word a) i)) x ≡ held_names (and_then (λ u. index >>= λ i. give (element a i)) x)
+    by-point a (refused k p) = refl
+    by-point a (found u r) = then-held (λ i. give (element a i)) (λ i. give (element (index_word a) i)) (λ i r. refl) (index r)
+
+    by : (x : Read (Unit {0})) →
+        and_then (λ u. held >>= λ a. mark point >> (held >>= λ i. give (element a i))) x ≡
+        held_names (and_then (λ u. index >>= λ a. mark point >> (index >>= λ i. give (element a i))) x)
+    by (refused k p) = refl
+    by (found u r) = then-held (λ a. mark point >> (index >>= λ i. give (element a i))) (λ a. mark point >> (held >>= λ i. give (element a i)))
+        (λ a r. by-point a (mark point r)) (index r)
+
+-- of what the code's steps read
+module _ (s : Bytes) (at : ℕ) where
+  abbrev with-scalar : ℕ → Parser CellName
+  with-scalar n = give (scalar n)
+
+  pub scalar-no : {k p : ℕ} → refused k p ≡ exactly 5 (bytes "v") (line_at s at) → refused k p ≡ held_names (scalar_name (line_at s at))
+  scalar-no h = sym (on_refused (λ u. held >>= with-scalar) h) ∙ scalar_held (line_at s at)
+
+  module _ {from : ℕ} (begun : found tt (line_at s from) ≡ exactly 5 (bytes "v") (line_at s at)) where
+    scalar-from : {x : Read ℕ} → x ≡ held_index (index (line_at s from)) → and_then with-scalar x ≡ held_names (scalar_name (line_at s at))
+    scalar-from h = ap (and_then with-scalar) h ∙ sym (on_found (λ u. held >>= with-scalar) begun) ∙ scalar_held (line_at s at)
+
+    pub scalar-refused : {k p : ℕ} → refused k p ≡ held_index (index (line_at s from)) → refused k p ≡ held_names (scalar_name (line_at s at))
+    scalar-refused h = scalar-from h
+
+    pub scalar-found : {n e : ℕ} → found n (line_at s e) ≡ held_index (index (line_at s from)) →
+        found (scalar n) (line_at s e) ≡ held_names (scalar_name (line_at s at))
+    scalar-found h = scalar-from h
+
+  abbrev with-element : ℕ → ℕ → Parser CellName
+  with-element a i = give (element a i)
+
+  abbrev with-point : ℕ → Parser CellName
+  with-point a = mark point >> (held >>= with-element a)
+
+  pub element-no : {k p : ℕ} → refused k p ≡ exactly 5 (bytes "a") (line_at s at) → refused k p ≡ held_names (element_name (line_at s at))
+  element-no h = sym (on_refused (λ u. held >>= with-point) h) ∙ element_held (line_at s at)
+
+  module _ {from : ℕ} (begun : found tt (line_at s from) ≡ exactly 5 (bytes "a") (line_at s at)) where
+    element-from : {x : Read ℕ} → x ≡ held_index (index (line_at s from)) → and_then with-point x ≡ held_names (element_name (line_at s at))
+    element-from h = ap (and_then with-point) h ∙ sym (on_found (λ u. held >>= with-point) begun) ∙ element_held (line_at s at)
+
+    pub element-refused : {k p : ℕ} → refused k p ≡ held_index (index (line_at s from)) → refused k p ≡ held_names (element_name (line_at s at))
+    element-refused h = element-from h
+
+    module _ {a e : ℕ} (array : found a (line_at s e) ≡ held_index (index (line_at s from))) where
+      pub element-no-point : {k p : ℕ} → refused k p ≡ mark point (line_at s e) → refused k p ≡ held_names (element_name (line_at s at))
+      element-no-point h = sym (on_refused (λ u. held >>= with-element a) h) ∙ element-from array
+
+      module _ {q : ℕ} (pointed : found tt (line_at s q) ≡ mark point (line_at s e)) where
+        element-last : {x : Read ℕ} → x ≡ held_index (index (line_at s q)) → and_then (with-element a) x ≡ held_names (element_name (line_at s at))
+        element-last h = ap (and_then (with-element a)) h ∙ sym (on_found (λ u. held >>= with-element a) pointed) ∙ element-from array
+
+        pub element-stops : {k p : ℕ} → refused k p ≡ held_index (index (line_at s q)) → refused k p ≡ held_names (element_name (line_at s at))
+        element-stops h = element-last h
+
+        pub element-found : {i c : ℕ} → found i (line_at s c) ≡ held_index (index (line_at s q)) →
+            found (element a i) (line_at s c) ≡ held_names (element_name (line_at s at))
+        element-found h = element-last h
 
 module _ (s : Bytes) (at : ℕ) where
-  pub scalar-no : begins (bytes "v") (drop at s) ≡ false → refused 5 at ≡ held_names (scalar_name (line_at s at))
-  unfolding scalar_name
-  scalar-no h = ap held_names (sym (exactly-no s at (bytes "v") 5 (index >>= λ n. give (scalar n)) h))
-
-  pub scalar-yes : begins (bytes "v") (drop at s) ≡ true → (x y : Index) → index_read s x ≡ held_index (index (line_at s (at + 1))) → x ≡ y
-      → mapped scalar (index_read s y) ≡ held_names (scalar_name (line_at s at))
-  unfolding scalar_name
-  scalar-yes h x y is told =
-      ap (mapped scalar) (ap (index_read s) (sym told) ∙ is) ∙ go (index (line_at s (at + 1)))
-      ∙ ap held_names (sym (exactly-yes s at (bytes "v") 5 (index >>= λ n. give (scalar n)) h))
-    where
-      go : (r : Read ℕ) → mapped scalar (held_index r) ≡ held_names (and_then (λ n. give (scalar n)) r)
-      go (refused k p) = refl
-      go (found n r) = refl
-
-  pub after-no : (a : ℕ) → (class_at s at ≡ class_number point → ⊥) → refused 5 at ≡ element_after a (line_at s at)
-  unfolding element_after
-  after-no a h = sym (mark-no s at point (λ r. mapped (element a) (held_index (index r))) h)
-
-  pub after-yes : (a : ℕ) → class_at s at ≡ class_number point → (x y : Index) → index_read s x ≡ held_index (index (line_at s (at + 1))) → x ≡ y
-      → mapped (element a) (index_read s y) ≡ element_after a (line_at s at)
-  unfolding element_after
-  after-yes a h x y is told =
-      ap (mapped (element a)) (ap (index_read s) (sym told) ∙ is) ∙ sym (mark-yes s at point (λ r. mapped (element a) (held_index (index r))) h)
-
-  pub element-no : begins (bytes "a") (drop at s) ≡ false → refused 5 at ≡ held_names (element_name (line_at s at))
-  unfolding element_name
-  element-no h = ap held_names (sym (exactly-no s at (bytes "a") 5 (index >>= element_from) h))
-
-  module _ (h : begins (bytes "a") (drop at s) ≡ true) (x : Index) (is : index_read s x ≡ held_index (index (line_at s (at + 1)))) where
-    begun : held_names (and_then element_from (index (line_at s (at + 1)))) ≡ held_names (element_name (line_at s at))
-    unfolding element_name
-    begun = ap held_names (sym (exactly-yes s at (bytes "a") 5 (index >>= element_from) h))
-
-    pub element-refused : (k p : ℕ) → x ≡ indexed.Refused k p → refused k p ≡ held_names (element_name (line_at s at))
-    element-refused k p told =
-        rw (mapped-refused index_word k p (index (line_at s (at + 1))) (rw told at is)) at begun
-
-    pub element-yes : (a e : ℕ) → x ≡ indexed.Is a e → element_after a (line_at s e) ≡ held_names (element_name (line_at s at))
-    unfolding element_after
-    element-yes a e told =
-        let from = mapped-found index_word a (line_at s e) (index (line_at s (at + 1))) (rw told at is) in
-        let q = rw from.is at begun in
-        rw (sym from.made) (go from.origin (mark point (line_at s e)) ∙ q)
-      where
-        last : (m : ℕ) (r : Read ℕ) → mapped (element (index_word m)) (held_index r) ≡ held_names (and_then (λ i. give (element m i)) r)
-        last m (refused k p) = refl
-        last m (found i r) = refl
-
-        go : (m : ℕ) (r : Read (Unit {0}))
-            → and_then (λ u r. mapped (element (index_word m)) (held_index (index r))) r ≡ held_names (and_then (λ u. index >>= λ i. give (element m i)) r)
-        go m (refused k p) = refl
-        go m (found u r) = last m (index r)
-
   pub name-scalar : begins (bytes "v") (drop at s) ≡ true → held_names (scalar_name (line_at s at)) ≡ held_names (name (line_at s at))
   unfolding name
   name-scalar h = rw h
@@ -99,8 +121,8 @@ module _ (s : Bytes) (at : ℕ) where
 -- ---- cells
 
 -- the number of a declared cell
-abbrev pub cell_in : Declared → CellName → Cell
-cell_in D n = pick (is_declared D n) (cell.Is (cell_of D n)) cell.Undeclared
+abbrev pub cell_in : Declared → CellName → Option ℕ
+cell_in D n = pick (is_declared D n) (Some (cell_of D n)) None
 
 module _ (D : Declared) where
   below : (n : CellName) → is_declared D n ≡ true → cell_of D n < cells D
@@ -109,10 +131,10 @@ module _ (D : Declared) where
   below (element a i) h = element-declared D a i (ltb-true i (length_of D a) h)
 
   -- a declared cell lies among the cells
-  pub cell_below : (n : CellName) (c : ℕ) → cell_in D n ≡ cell.Is c → c < cells D
+  pub cell_below : (n : CellName) (c : ℕ) → cell_in D n ≡ Some c → c < cells D
   cell_below n c e = go (is_declared D n) refl e
     where
-      go : (t : Bool) → is_declared D n ≡ t → pick t (cell.Is (cell_of D n)) cell.Undeclared ≡ cell.Is c → c < cells D
+      go : (t : Bool) → is_declared D n ≡ t → pick t (Some (cell_of D n)) None ≡ Some c → c < cells D
       go true d e = let q : cell_of D n ≡ c = cc in omega (arith, below n d)
       go false d e = contradiction cc
 
@@ -143,7 +165,7 @@ module _ {D : Declared} {scalars arrays : ℕ} {w : Words} (d : Declares D scala
       q : n ≡ min m 4294967295
       q = cc
 
-      go : (t : Bool) → ltb m D.scalars ≡ t → scalar_in scalars n ≡ pick t (cell.Is m) cell.Undeclared
+      go : (t : Bool) → ltb m D.scalars ≡ t → scalar_in scalars n ≡ pick t (Some m) None
       go true h =
           let l : m < D.scalars = ltb-true m D.scalars h in
           let s : n ≡ m = omega (arith, q, scalars-few) in
@@ -168,8 +190,8 @@ module _ {D : Declared} {scalars arrays : ℕ} {w : Words} (d : Declares D scala
       b-is l = omega (arith, qa, d.few)
 
       by_index : a < arrays → (t : Bool) → ltb j (length_of D b) ≡ t
-          → pick (ltb (first_at w a + i) (first_at w (a + 1))) (cell.Is (first_at w a + i)) cell.Undeclared
-          ≡ pick t (cell.Is (first_of D b + j)) cell.Undeclared
+          → pick (ltb (first_at w a + i) (first_at w (a + 1))) (Some (first_at w a + i)) None
+          ≡ pick t (Some (first_of D b + j)) None
       by_index l true h =
           let k : j < length_of D b = ltb-true j (length_of D b) h in
           let m : j ≡ i = omega (arith, qi, length-few b) in
@@ -181,22 +203,22 @@ module _ {D : Declared} {scalars arrays : ℕ} {w : Words} (d : Declares D scala
           (omega (arith, qi, length-few b, first-held a l, end-held a l, ap (length_of D) (b-is l))))
 
       by-array : (t : Bool) → ltb a arrays ≡ t
-          → pick t (pick (ltb (first_at w a + i) (first_at w (a + 1))) (cell.Is (first_at w a + i)) cell.Undeclared) cell.Undeclared
-          ≡ pick (ltb j (length_of D b)) (cell.Is (first_of D b + j)) cell.Undeclared
+          → pick t (pick (ltb (first_at w a + i) (first_at w (a + 1))) (Some (first_at w a + i)) None) None
+          ≡ pick (ltb j (length_of D b)) (Some (first_of D b + j)) None
       by-array true h = by_index (ltb-true a arrays h) (ltb j (length_of D b)) refl
       by-array false h = rw (none-beyond b (omega (arith, ltb-false a arrays h, qa, d.few)) j)
 
 -- ---- an element's cell, by the words
 
 module _ (arrays : ℕ) (w : Words) (a i : ℕ) where
-  pub element-undeclared : arrays ≤ a → cell.Undeclared ≡ element_in arrays w a i
+  pub element-undeclared : arrays ≤ a → None ≡ element_in arrays w a i
   unfolding element_in
   element-undeclared h = rw (le-ltb a arrays h)
 
-  pub element-out : a < arrays → first_at w (a + 1) ≤ first_at w a + i → cell.Undeclared ≡ element_in arrays w a i
+  pub element-out : a < arrays → first_at w (a + 1) ≤ first_at w a + i → None ≡ element_in arrays w a i
   unfolding element_in
   element-out h l = rw (lt-ltb a arrays h, le-ltb (first_at w a + i) (first_at w (a + 1)) l)
 
-  pub element-in : a < arrays → (c : ℕ) → c ≡ first_at w a + i → c < first_at w (a + 1) → cell.Is c ≡ element_in arrays w a i
+  pub element-in : a < arrays → (c : ℕ) → c ≡ first_at w a + i → c < first_at w (a + 1) → Some c ≡ element_in arrays w a i
   unfolding element_in
   element-in h c e l = rw (lt-ltb a arrays h, sym e, lt-ltb c (first_at w (a + 1)) l)

@@ -2,6 +2,7 @@
 use Prim.Native.Nat.{ℕ, ◌+◌, ◌<◌, ◌≤◌}
 use native.Mathlib.Omega.{arith}
 use mathlib.Core.Path.{◌≡◌, refl, sym, ap, ◌∙◌}
+use Rattle.std.specs.Prelude.{Ok, Err}
 use mathlib.Core.Bool.{Bool, true, false}
 use lib.ListN.{length, get_or, set, replicate, length-set, length-replicate}
 use lib.Seq.{get_or-set_same, get_or-set_other, ext_get_or}
@@ -12,14 +13,11 @@ use Rattle.specification.specs.Parser.{found}
 use Rattle.specification.specs.Sheet.{read_with}
 use Rattle.specification.proofs.Laws.ReadSheet.{read-well-formed}
 use Rattle.tables.specs.Layout.{dues_at, dues_end, path_at}
-use Rattle.sheet.specs.declared.formula.Limits.{Limits}
-use Rattle.sheet.specs.declared.formula.Reached.{Reached}
 use Rattle.sheet.specs.declared.Reading.{Reading}
-use Rattle.sheet.specs.declared.Reading.TheVariants as reading
-use Rattle.sheet.specs.declared.whole.Progress.{Progress}
-use Rattle.sheet.specs.declared.whole.Progress.TheVariants as progress
+use Rattle.sheet.specs.declared.reader.Progress.{Progress}
+use Rattle.sheet.specs.Answers.{Answer}
 use Rattle.sheet.specs.Tables.{Words, tables}
-use Rattle.sheet.specs.Whole.{reading_of, words_of, Zeroed, Tabled, Went}
+use Rattle.sheet.specs.Whole.{reading_of, words_of, Zeroed, Stopped, Tabled}
 use Rattle.sheet.proofs.Regions.{zeros}
 use Rattle.sheet.proofs.Tables.{rest-zero}
 use Rattle.sheet.proofs.ReadSheet.{read-counts}
@@ -53,7 +51,7 @@ zeroed-all {w} {w'} z =
 
 -- ---- the reading of a sheet
 
-abbrev Leaves : Bool → Bytes → ℕ → Reading → Words → Type 0
+abbrev Leaves : Bool → Bytes → ℕ → Answer Reading → Words → Type 0
 Leaves strict s n r w = (r ≡ reading_of (read_with strict s)) × (w ≡ words_of n (read_with strict s))
 
 -- cleared words are zero, as many as there were
@@ -61,19 +59,14 @@ pub cleared : (w w₁ : Words) → w₁ ≡ replicate (length w) 0 → (length w
 cleared w w₁ e = let l : length w₁ ≡ length w = ap length e ∙ length-replicate (length w) 0 in (l, e ∙ ap (λ n. replicate n 0) (sym l))
 
 -- the words are w after all lines, over n words, and w₁ at the end
-module _ (strict : Bool) (s : Bytes) (n : ℕ) (w : Words) (p : Progress) (h : Went strict 7 s n p w) (w₁ : Words) where
+module _ (strict : Bool) (s : Bytes) (n : ℕ) (w : Words) (w₁ : Words) where
   -- refused, and all words cleared
-  pub refused-whole : (k q : ℕ) → p ≡ progress.Refused k q → w₁ ≡ replicate (length w) 0 → Leaves strict s n (reading.Refused k q) w₁
+  pub refused-whole : (e : ℕ × ℕ) → Stopped strict s e → w₁ ≡ replicate n 0 → Leaves strict s n (Err e) w₁
   unfolding read_with
-  refused-whole k q i e =
-      let x : Went strict 7 s n (progress.Refused k q) w = rw i at h in
-      (sym (ap reading_of x.0), e ∙ ap (λ m. replicate m 0) x.1 ∙ sym (ap (words_of n) x.0))
+  refused-whole e x z = (sym (ap reading_of x), z ∙ sym (ap (words_of n) x))
 
-  module _ (d : Limits) (x : Reached) (i : p ≡ progress.Read d x) (long : path_at ≤ n) (z : Zeroed w w₁ dues_at dues_end) where
-    went : (d.strict ≡ strict) × Tabled s n d x w
-    went = rw i at h
-
-    abbrev f : Tabled s n d x w
+  module _ (p : Progress) (went : (p.limits.strict ≡ strict) × Tabled s n p w) (long : path_at ≤ n) (z : Zeroed w w₁ dues_at dues_end) where
+    abbrev f : Tabled s n p w
     f = went.1
 
     is : read_with strict s ≡ found f.whole f.after
@@ -93,5 +86,10 @@ module _ (strict : Bool) (s : Bytes) (n : ℕ) (w : Words) (p : Progress) (h : W
     by_place j false e false d = z.above j (ltb-false j dues_end d) ∙ f.words.above j (ltb-false j dues_end d)
 
     -- read, and what was due cleared
-    pub found-whole : Leaves strict s n (reading.Read d.scalars d.arrays x.tokens x.first) w₁
-    found-whole = (rw (is, f.scalars, f.arrays, f.tokens, f.first), ext_get_or 0 w₁ T (z.long ∙ f.words.long) (λ j _. by_place j (ltb j dues_at) refl (ltb j dues_end) refl) ∙ sym (ap (words_of n) is))
+    pub found-whole : let d = p.limits in let x = p.reached in
+        Leaves strict s n (Ok (record { scalars = d.scalars; arrays = d.arrays; tokens = x.tokens; formula = x.first })) w₁
+    found-whole = (told f.scalars f.arrays f.tokens f.first ∙ sym (ap reading_of is), ext_get_or 0 w₁ T (z.long ∙ f.words.long) (λ j _. by_place j (ltb j dues_at) refl (ltb j dues_end) refl) ∙ sym (ap (words_of n) is))
+      where
+        told : {a b c e a' b' c' e' : ℕ} → a' ≡ a → b' ≡ b → c' ≡ c → e' ≡ e →
+            ◌≡◌ {A = Answer Reading} (Ok (record { scalars = a; arrays = b; tokens = c; formula = e })) (Ok (record { scalars = a'; arrays = b'; tokens = c'; formula = e' }))
+        told p q r s = rw (p, q, r, s)

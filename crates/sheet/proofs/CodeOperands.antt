@@ -8,7 +8,7 @@ use lib.Dec.{T, eqb, leb, ltb, eqb→eq}
 use borrow.Author.Tests.{eqb-true, ne_eqb, leb-true, le-leb, lt-leb, ltb-true, ltb-false}
 use Rattle.specification.specs.Bytes.{pick, between}
 use Rattle.tables.specs.Codes.{and_code, imp_code, not_code, eq_code, ge_code, ex_code, some_code, all_code, call_code, first_term, last_term, first_operation, last_operation, array_code, procedure_code}
-use Rattle.sheet.specs.declared.sorts.Operands.{Operands}
+use Rattle.sheet.specs.Sorts.{Operands}
 use Rattle.sheet.specs.Sorts.{formula_sort, term_sort, procedure_sort, ex_sort, range_sort, operands, word_operands, operands_of}
 use Rattle.text.proofs.Laws.Ranges.{over}
 

@@ -6,7 +6,7 @@ use mathlib.Core.List.{List, [], ◌∷◌, ◌++◌}
 use lib.ListN.{length, get_or, set, replicate, length-set, length-append, length-replicate}
 use lib.Seq.{get_or-set_same, get_or-set_other}
 use Rattle.tables.specs.Layout.{max_dues, due_slot, dues_at, path_at}
-use Rattle.sheet.specs.declared.stack.Entry.{Entry}
+use Rattle.sheet.specs.Stack.{Entry}
 use Rattle.sheet.specs.Dues.{Due}
 use Rattle.sheet.specs.Tables.{Words}
 use Rattle.sheet.specs.Stack.{Means, entry, entry_at, entered, Stacked, Beside, Repeated}

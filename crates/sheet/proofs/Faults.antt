@@ -1,64 +1,29 @@
--- Laws of one token's refusal: by the number of the sort that is due, and what a token that may stand shows. Assumes nothing.
-use Prim.Native.Nat.{ℕ, zero, suc, ◌-◌, ◌<◌, ◌≤◌}
+-- Laws of one token's refusal: what a binder binds, and what a token that may stand shows. Assumes nothing.
+use Prim.Native.Nat.{ℕ, zero, suc, ◌<◌}
 use native.Mathlib.Omega.{arith}
-use mathlib.Core.Path.{◌≡◌, refl, ◌∙◌}
-use mathlib.Core.Bool.{Bool, true, false, not, ◌&&◌}
+use mathlib.Core.Path.{◌≡◌, refl}
+use mathlib.Core.Bool.{Bool, true, false}
 use mathlib.Core.List.{◌∷◌}
 use lib.ListN.{length-replicate}
 use lib.Dec.{eqb, ltb}
-use borrow.Author.Tests.{eqb-true, eq-eqb, ne_eqb, ltb-true}
+use borrow.Author.Tests.{eqb-true, ltb-true}
 use Rattle.specification.specs.Bytes.{pick, between}
 use Rattle.specification.specs.Lines.{Declared}
-use Rattle.specification.specs.Formula.{Locals, has}
+use Rattle.specification.specs.Formula.{Locals}
 use Rattle.specification.proofs.Laws.Contradiction.{contradiction}
-use Rattle.tables.specs.Layout.{max_tokens, operand_at}
-use Rattle.tables.specs.Codes.{first_formula, last_formula, first_term, last_term, constant_code, local_code, parameter_code, bad_constant_code, procedure_code, last_code}
+use Rattle.tables.specs.Layout.{max_tokens}
+use Rattle.tables.specs.Codes.{first_formula, last_formula, first_term, last_term, local_code, parameter_code, bad_constant_code, procedure_code, last_code}
 use Rattle.sheet.specs.declared.Token.{Token}
-use Rattle.sheet.specs.declared.stack.Entry.{Entry}
+use Rattle.sheet.specs.Stack.{Entry}
 use Rattle.sheet.specs.declared.formula.Limits.{Limits}
-use Rattle.sheet.specs.Sorts.{formula_sort, term_sort, upper_sort, bounds_sort, procedure_sort}
+use Rattle.sheet.specs.Sorts.{procedure_sort}
 use Rattle.sheet.specs.Dues.{Due, due_formula, due_term, due_procedure, due_ex, due_range, due_bounds, due_upper}
-use Rattle.sheet.specs.Turn.{room, suits, declared, undeclared, placed, fault_of, empties, binds}
-use Rattle.sheet.specs.Tables.{Words}
-use Rattle.sheet.specs.Stack.{sort_of, scope_of, Means, Kept, Coded}
+use Rattle.sheet.specs.Turn.{room, suits, declared, undeclared, fault_of, binds}
+use Rattle.sheet.specs.Stack.{sort_of, Means, Coded}
 use Rattle.sheet.specs.FormulaLine.{Counts, counted, refusal_of}
 use Rattle.text.proofs.Laws.Ranges.{within}
 
--- ---- by the number of the sort
-
-pub suits-by : (d : Due) (sort c : ℕ) → sort ≡ sort_of d →
-    suits d c ≡
-    pick (eqb sort formula_sort) (between first_formula last_formula c)
-    (pick (between term_sort bounds_sort sort) (between first_term last_term c)
-    (pick (eqb sort procedure_sort) (between procedure_code last_code c) (eqb c local_code)))
-suits-by (due_formula k S) sort c e = rw e
-suits-by (due_term k S) sort c e = rw e
-suits-by (due_procedure k S) sort c e = rw e
-suits-by (due_ex k S) sort c e = rw e
-suits-by (due_range k S p) sort c e = rw e
-suits-by (due_bounds k S p) sort c e = rw e
-suits-by (due_upper k S p x) sort c e = rw e
-
-pub placed_by : (d : Due) (B : Locals) (sort l : ℕ) → sort ≡ sort_of d →
-    placed d B l ≡
-    pick (eqb sort formula_sort) true (pick (between term_sort bounds_sort sort) (has l (scope_of d))
-    (pick (eqb sort procedure_sort) true (not (has l B))))
-placed_by (due_formula k S) B sort l e = rw e
-placed_by (due_term k S) B sort l e = rw e
-placed_by (due_procedure k S) B sort l e = rw e
-placed_by (due_ex k S) B sort l e = rw e
-placed_by (due_range k S p) B sort l e = rw e
-placed_by (due_bounds k S p) B sort l e = rw e
-placed_by (due_upper k S p x) B sort l e = rw e
-
-pub binds-none : (d : Due) (t : Token) (B : Locals) → sort_of d ≤ procedure_sort → binds d t B ≡ B
-binds-none (due_formula k S) t B h = refl
-binds-none (due_term k S) t B h = refl
-binds-none (due_procedure k S) t B h = refl
-binds-none (due_ex k S) t B h = absurd (omega arith)
-binds-none (due_range k S p) t B h = absurd (omega arith)
-binds-none (due_bounds k S p) t B h = refl
-binds-none (due_upper k S p x) t B h = refl
+-- ---- what a binder binds
 
 pub binds-local : (d : Due) (t : Token) (B : Locals) → procedure_sort < sort_of d → binds d t B ≡ t.operand ∷ B
 binds-local (due_formula k S) t B h = absurd (omega arith)
@@ -68,51 +33,6 @@ binds-local (due_ex k S) t B h = refl
 binds-local (due_range k S p) t B h = refl
 binds-local (due_bounds k S p) t B h = absurd (omega arith)
 binds-local (due_upper k S p x) t B h = absurd (omega arith)
-
--- ---- an upper bound that makes a range empty: by the sort, then by whether that is refused, by the code and by the word
-
-pub empties-other : (refusing : Bool) (d : Due) (t : Token) → (sort_of d ≡ upper_sort → ⊥) → false ≡ empties refusing d t
-empties-other refusing (due_formula k S) t n = refl
-empties-other refusing (due_term k S) t n = refl
-empties-other refusing (due_procedure k S) t n = refl
-empties-other refusing (due_ex k S) t n = refl
-empties-other refusing (due_range k S p) t n = refl
-empties-other refusing (due_bounds k S p) t n = refl
-empties-other refusing (due_upper k S p x) t n = absurd (n refl)
-
-module _ (refusing : Bool) (w : Words) (n p : ℕ) (t : Token) where
-  -- the lower bound is the last of n tokens
-  abbrev below : Bool
-  below = refusing && (eqb t.code constant_code && ltb t.operand (operand_at w (n - 1)))
-
-  empties-upper : (d : Due) → sort_of d ≡ upper_sort → Kept w n p d → below ≡ empties refusing d t
-  empties-upper (due_formula k S) e h = absurd (omega arith)
-  empties-upper (due_term k S) e h = absurd (omega arith)
-  empties-upper (due_procedure k S) e h = absurd (omega arith)
-  empties-upper (due_ex k S) e h = absurd (omega arith)
-  empties-upper (due_range k S q) e h = absurd (omega arith)
-  empties-upper (due_bounds k S q) e h = absurd (omega arith)
-  empties-upper (due_upper k S q x) e h = rw h.2
-
-  module _ (d : Due) (e : sort_of d ≡ upper_sort) (h : Kept w n p d) where
-    pub empties-off : refusing ≡ false → false ≡ empties refusing d t
-    empties-off q = is ∙ empties-upper d e h
-      where
-        is : false ≡ below
-        is = rw q
-
-    pub empties-word : (t.code ≡ constant_code → ⊥) → false ≡ empties refusing d t
-    empties-word q = is refusing ∙ empties-upper d e h
-      where
-        is : (b : Bool) → false ≡ b && (eqb t.code constant_code && ltb t.operand (operand_at w (n - 1)))
-        is true = rw (ne_eqb t.code constant_code q)
-        is false = refl
-
-    pub empties-constant : refusing ≡ true → t.code ≡ constant_code → (x : ℕ) → x ≡ operand_at w (n - 1) → ltb t.operand x ≡ empties refusing d t
-    empties-constant q c x y = is ∙ empties-upper d e h
-      where
-        is : ltb t.operand x ≡ below
-        is = rw (q, eq-eqb t.code constant_code c, y)
 
 -- ---- what is declared
 

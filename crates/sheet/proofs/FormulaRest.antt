@@ -1,27 +1,23 @@
 -- A formula's line from its parts: the tokens and a line feed; for the sheet's formula the key before them and the sheet's end after them.
 -- Assumes nothing.
-use Prim.Native.Nat.{ℕ, ◌+◌, ◌<◌, ◌≤◌}
+use Prim.Native.Nat.{ℕ, ◌<◌, ◌≤◌}
 use native.Mathlib.Omega.{arith}
-use mathlib.Core.Path.{◌≡◌, ap, ◌∙◌}
-use mathlib.Core.Bool.{true, false}
+use mathlib.Core.Path.{◌≡◌, sym, ap, ◌∙◌}
 use mathlib.Core.List.{[], ◌++◌}
-use lib.ListN.{length, drop, drop_of_length-le, length-append}
+use lib.ListN.{length, drop_of_length-le, length-append}
 use lib.Seq.{drop-cons, drop-drop}
-use Rattle.specification.specs.Bytes.{Bytes, bytes, feed, class_number, begins}
-use Rattle.specification.specs.Parser.{Reader, Read, refused, found, give, and_then, ◌>>◌, mark, exactly, finish}
+use Rattle.specification.specs.Bytes.{bytes, feed}
+use Rattle.specification.specs.Parser.{Reader, Read, refused, found, give, and_then, ◌>>◌, mark, key, exactly, finish}
 use Rattle.specification.specs.Lines.{Declared}
 use Rattle.specification.specs.Ast.{Formula}
 use Rattle.specification.specs.Formula.{formula}
-use Rattle.text.specs.Class.{class_at}
-use Rattle.text.proofs.Laws.Class.{class-next, class-not-next, class-inside}
-use Rattle.tables.specs.Layout.{max_tokens, max_nesting, path_at}
-use Rattle.sheet.specs.declared.formula.Scanned.{Scanned}
-use Rattle.sheet.specs.declared.formula.Scanned.TheVariants as scanned
+use Rattle.tables.specs.Layout.{max_nesting, path_at}
 use Rattle.sheet.specs.Codes.{formula_tokens}
-use Rattle.sheet.specs.Reader.{reader_at}
+use Rattle.sheet.specs.Reader.{reader_at, line_at}
 use Rattle.sheet.specs.Tables.{Words, laid_ends}
 use Rattle.sheet.specs.Ends.{tokens_in}
-use Rattle.sheet.specs.FormulaLine.{line_formula, formula_rest, Known, Begin, begin, at_begin, refusing_at, whole, Through, Scans, Within, Closed, Closes, Laid}
+use Rattle.sheet.specs.FormulaLine.{line_formula, formula_rest, Known, Begin, begin, at_begin, refusing_at, whole, Through, Closed, Laid}
+use Rattle.sheet.proofs.Keys.{exactly-found, exactly-refused, mark-found, mark-refused}
 use Rattle.sheet.proofs.Left.{left-formula, spelled-found, spelled-refused}
 use Rattle.sheet.proofs.Laid.{tokens-length, ends-length}
 use Rattle.sheet.proofs.Beside.{beside-ends}
@@ -44,26 +40,6 @@ module _ (b : Begin) (D : Declared) where
   pub line_refused : (k p : ℕ) → whole b D ≡ refused k p → line_formula (refusing_at b) D (at_begin b) ≡ refused k p
   line_refused k p h = line_read (refused k p) (spelled-refused reads (left-formula (refusing_at b) D (at_begin b) ∙ h))
 
-pub within-read : (s : Bytes) (r : Scanned) (n e m : ℕ) → r ≡ scanned.Read n e m → Within s r → (n ≤ max_tokens) × (e ≤ length s)
-within-read s r n e m q h = rw q at h
-
--- the answers of the scan
-module _ (b : Begin) (w w' : Words) (r : Scanned) where
-  pub scans-refused : (k p : ℕ) → r ≡ scanned.Refused k p → Scans b w w' r → (length w' ≡ length w) × ((D : Declared) → Known b.limits w D → whole b D ≡ refused k p)
-  scans-refused k p q h = rw q at h
-
-  pub scans-read : (n e m : ℕ) → r ≡ scanned.Read n e m → Scans b w w' r → Through b w w' n e m
-  scans-read n e m q h = rw q at h
-
-  -- and of the line
-  module _ (D : Declared) where
-    pub closes-refused : (k p : ℕ) → r ≡ scanned.Refused k p → Closes b D w w' r →
-        (line_formula (refusing_at b) D (at_begin b) ≡ refused k p) × (length w' ≡ length w)
-    closes-refused k p q h = rw q at h
-
-    pub closes-read : (n e m : ℕ) → r ≡ scanned.Read n e m → Closes b D w w' r → Closed b D w w' n e m
-    closes-read n e m q h = rw q at h
-
 module _ {b : Begin} {w w' : Words} {n e m : ℕ} (p : Through b w w' n e m) where
   pub through-long : length w' ≡ length w
   through-long = p.words.long ∙ tokens-length b.tokens p.tokens w
@@ -72,19 +48,19 @@ module _ {b : Begin} {w w' : Words} {n e m : ℕ} (p : Through b w w' n e m) whe
     spelt : (F : Formula) × (reads b D ≡ found F (reader_at b.bytes e n p.locals)) × (formula_tokens F ≡ p.tokens)
     spelt = spelled-found (reads b D) (left-formula (refusing_at b) D (at_begin b) ∙ p.all D g)
 
-    pub through-no-feed : (class_at b.bytes e ≡ 4 → ⊥) → line_formula (refusing_at b) D (at_begin b) ≡ refused 5 e
-    unfolding mark class_number
-    through-no-feed q = line_read b D _ spelt.1 ∙ rw (class-not-next b.bytes e feed q)
+    pub through-no-feed : {k q : ℕ} → refused k q ≡ mark feed (line_at b.bytes e) → line_formula (refusing_at b) D (at_begin b) ≡ refused k q
+    unfolding mark
+    through-no-feed h = let (q, k, p) = mark-refused b.bytes e feed h in line_read b D _ spelt.1 ∙ rw (q, k, p)
 
-    pub through-feed : class_at b.bytes e ≡ 4 → Closed b D w w' n (e + 1) m
-    unfolding mark class_number
-    through-feed q = record {
+    pub through-feed : {c : ℕ} → found tt (line_at b.bytes c) ≡ mark feed (line_at b.bytes e) → c ≤ length b.bytes → Closed b D w w' n c m
+    unfolding mark
+    through-feed h l = let (q, a) = mark-found b.bytes e feed h in record {
       formula = spelt.0;
       locals = p.locals;
-      is = line_read b D _ spelt.1 ∙ rw (class-next b.bytes e feed q, drop-drop);
+      is = line_read b D _ spelt.1 ∙ rw (q, drop-drop, sym a);
       count = rw spelt.2 p.count;
       few = p.few;
-      within = omega (arith, class-inside b.bytes e feed q);
+      within = l;
       set = p.set;
       words = rw spelt.2 p.words;
     }
@@ -92,28 +68,31 @@ module _ {b : Begin} {w w' : Words} {n e m : ℕ} (p : Through b w w' n e m) whe
 -- ---- the sheet's formula
 
 -- behind the key
-abbrev pub keyed : Begin → Begin
-keyed b = begin b.bytes b.limits (b.from + 8) b.tokens b.bound
+abbrev pub keyed : Begin → ℕ → Begin
+keyed b from = begin b.bytes b.limits from b.tokens b.bound
 
 -- what follows the line feed
 abbrev ending : Formula → Reader → Read Formula
 ending F = finish >> give F
 
 module _ (b : Begin) (D : Declared) where
-  pub rest-no-key : begins (bytes "formula=") (drop b.from b.bytes) ≡ false → formula_rest (refusing_at b) D (at_begin b) ≡ refused 3 b.from
+  pub rest-no-key : {k p : ℕ} → refused k p ≡ key (bytes "formula=") (line_at b.bytes b.from) → formula_rest (refusing_at b) D (at_begin b) ≡ refused k p
   unfolding formula_rest exactly
-  rest-no-key e = rw e
+  rest-no-key h = let (q, k, p) = exactly-refused b.bytes b.from (bytes "formula=") 3 h in rw (q, k, p)
 
-  module _ (e : begins (bytes "formula=") (drop b.from b.bytes) ≡ true) where
-    rest-key : (x : Read Formula) → line_formula (refusing_at b) D (at_begin (keyed b)) ≡ x → formula_rest (refusing_at b) D (at_begin b) ≡ and_then ending x
+  module _ {from : ℕ} (begun : found tt (line_at b.bytes from) ≡ key (bytes "formula=") (line_at b.bytes b.from)) where
+    rest-key : (x : Read Formula) → line_formula (refusing_at b) D (at_begin (keyed b from)) ≡ x →
+        formula_rest (refusing_at b) D (at_begin b) ≡ and_then ending x
     unfolding formula_rest exactly
-    rest-key x h = rw (e, drop-drop) (ap (and_then ending) h)
+    rest-key x h =
+        let (q, a) = exactly-found b.bytes b.from (bytes "formula=") 3 begun in
+        rw (q, drop-drop, sym a) (ap (and_then ending) h)
 
-    pub rest-refused : (k p : ℕ) → line_formula (refusing_at b) D (at_begin (keyed b)) ≡ refused k p →
+    pub rest-refused : {k p : ℕ} → line_formula (refusing_at b) D (at_begin (keyed b from)) ≡ refused k p →
         formula_rest (refusing_at b) D (at_begin b) ≡ refused k p
-    rest-refused k p h = rest-key (refused k p) h
+    rest-refused h = rest-key _ h
 
-    module _ {w w' : Words} {n c m : ℕ} (p : Closed (keyed b) D w w' n c m) where
+    module _ {w w' : Words} {n c m : ℕ} (p : Closed (keyed b from) D w w' n c m) where
       pub rest-long : length w' ≡ length w
       rest-long = p.words.long ∙ tokens-length b.tokens (formula_tokens p.formula) w
 

@@ -2,11 +2,12 @@
 use Prim.Native.Nat.{ℕ, ◌+◌, ◌<◌, ◌≤◌}
 use mathlib.Core.Path.{◌≡◌, refl, sym, ap, ◌∙◌}
 use mathlib.Core.Bool.{Bool, true, false}
+use Rattle.std.specs.Prelude.{Option, Some, None}
 use native.Mathlib.Omega.{arith}
 use lib.Dec.{T, leb, ltb}
 use lib.IntN.{ℤ}
 use borrow.Author.Tests.{leb-true, le-leb, lt-leb, ltb-true}
-use Rattle.specification.specs.Bytes.{Bytes, pick, colon, class_number}
+use Rattle.specification.specs.Bytes.{Bytes, pick, colon}
 use Rattle.specification.specs.Parser.{Reader, Read, refused, found, require, and_then, ◌>>=◌, ◌>>◌, give, mark}
 use Rattle.specification.specs.Number.{in32}
 use Rattle.specification.specs.Lines.{value, Declared, cells, CellName, scalar, element, is_declared, cell_of, in_range}
@@ -16,51 +17,42 @@ use Rattle.specification.proofs.Laws.Parser.{Post, of-found}
 use Rattle.specification.proofs.Laws.Elements.{first-limit}
 use Rattle.specification.proofs.Laws.ReadLines.{value-post}
 use Rattle.specification.proofs.Laws.ReadGiven.{declared-cell}
-use Rattle.text.specs.Class.{class_at}
 use Rattle.values.specs.Word.{biased, signed}
 use Rattle.values.proofs.Laws.Word.{biased-signed}
 use Rattle.tables.specs.Layout.{first_at, value_at}
 use Rattle.tables.specs.Ranges.{allows}
-use Rattle.sheet.specs.declared.lines.Integer.{Integer}
-use Rattle.sheet.specs.declared.lines.Integer.TheVariants as integer
-use Rattle.sheet.specs.declared.given.Name.{Name}
-use Rattle.sheet.specs.declared.given.Name.TheVariants as names
-use Rattle.sheet.specs.declared.given.Cell.{Cell}
-use Rattle.sheet.specs.declared.given.Cell.TheVariants as cell
-use Rattle.sheet.specs.declared.given.Entry.{Entry}
 use Rattle.sheet.specs.Reader.{line_at}
 use Rattle.sheet.specs.Tables.{Words}
-use Rattle.sheet.specs.Answers.{integer_read}
-use Rattle.sheet.specs.Items.{held_name, held_names, name_read, scalar_in, element_in, item_of, Below, judged, after_name, entry_read, Arranged, Vacant}
-use Rattle.sheet.proofs.Answers.{mapped-refused, mapped-found}
-use Rattle.sheet.proofs.Keys.{mark-yes, mark-no}
+use Rattle.sheet.specs.Items.{held_name, held_names, scalar_in, element_in, item_of, Below, judged, after_name, Arranged, Vacant}
+use Rattle.sheet.proofs.Answers.{on_found, on_refused, mapped-refused, mapped-found}
 use Rattle.sheet.proofs.CellNames.{cell_in, cell_below, held-scalar, held-element}
 
 -- ---- the rest of an item after its name, which ends at e
 
-module _ (s : Bytes) (p e floor : ℕ) (w : Words) (c : Cell) where
-  pub valued-no : (class_at s e ≡ class_number colon → ⊥) → refused 5 e ≡ after_name p floor w c (line_at s e)
+module _ (s : Bytes) (p e floor : ℕ) (w : Words) (c : Option ℕ) where
+  pub valued-no : {k q : ℕ} → refused k q ≡ mark colon (line_at s e) → refused k q ≡ after_name p floor w c (line_at s e)
   unfolding after_name
-  valued-no h = sym (mark-no s e colon (value >>= judged p floor w c) h)
+  valued-no h = sym (on_refused _ h)
 
-  -- of what the value is told to be
-  module _ (h : class_at s e ≡ class_number colon) (x : Integer) (is : integer_read s x ≡ value (line_at s (e + 1))) where
-    valued_read : (y : Integer) → x ≡ y → and_then (judged p floor w c) (integer_read s y) ≡ after_name p floor w c (line_at s e)
+  module _ {from : ℕ} (h : found tt (line_at s from) ≡ mark colon (line_at s e)) where
+    after-colon : and_then (judged p floor w c) (value (line_at s from)) ≡ after_name p floor w c (line_at s e)
     unfolding after_name
-    valued_read y told =
-        ap (and_then (judged p floor w c)) (ap (integer_read s) (sym told) ∙ is) ∙ sym (mark-yes s e colon (value >>= judged p floor w c) h)
+    after-colon = sym (on_found _ h)
 
-    pub valued-refused : (k q : ℕ) → x ≡ integer.Refused k q → refused k q ≡ after_name p floor w c (line_at s e)
-    valued-refused k q told = valued_read (integer.Refused k q) told
+    pub valued-refused : {k q : ℕ} → refused k q ≡ value (line_at s from) → refused k q ≡ after_name p floor w c (line_at s e)
+    valued-refused is = sym (on_refused (judged p floor w c) is) ∙ after-colon
 
-    module _ (z q : ℕ) (told : x ≡ integer.Is z q) where
-      pub valued-undeclared : c ≡ cell.Undeclared → refused 7 p ≡ after_name p floor w c (line_at s e)
-      valued-undeclared d = ap (λ (c : Cell). judged p floor w c (signed z) (line_at s q)) (sym d) ∙ valued_read (integer.Is z q) told
+    module _ (z : ℕ) {q : ℕ} (is : found (signed z) (line_at s q) ≡ value (line_at s from)) where
+      valued_read : judged p floor w c (signed z) (line_at s q) ≡ after_name p floor w c (line_at s e)
+      valued_read = sym (on_found (judged p floor w c) is) ∙ after-colon
 
-      module _ (n : ℕ) (d : c ≡ cell.Is n) where
+      pub valued-undeclared : c ≡ None → refused 7 p ≡ after_name p floor w c (line_at s e)
+      valued-undeclared d = ap (λ (c : Option ℕ). judged p floor w c (signed z) (line_at s q)) (sym d) ∙ valued_read
+
+      module _ (n : ℕ) (d : c ≡ Some n) where
         valued-declared : require (leb floor n) 10 p (require (allows w (value_at w n) (biased (signed z))) 13 p (give (item_of n (signed z)))) (line_at s q) ≡
             after_name p floor w c (line_at s e)
-        valued-declared = ap (λ (c : Cell). judged p floor w c (signed z) (line_at s q)) (sym d) ∙ valued_read (integer.Is z q) told
+        valued-declared = ap (λ (c : Option ℕ). judged p floor w c (signed z) (line_at s q)) (sym d) ∙ valued_read
 
         pub valued-low : n < floor → refused 10 p ≡ after_name p floor w c (line_at s e)
         valued-low l = rw (lt-leb floor n l) at valued-declared
@@ -76,31 +68,31 @@ module _ (s : Bytes) (p e floor : ℕ) (w : Words) (c : Cell) where
           valued_found o = rw o at valued-rising
 
 -- an item that was read has a cell, at the floor or above it
-after-found : (p floor : ℕ) (w : Words) (c : Cell) (r r' : Reader) (i : Item) → found i r' ≡ after_name p floor w c r → (c ≡ cell.Is i.cell) × (floor ≤ i.cell)
+after-found : (p floor : ℕ) (w : Words) (c : Option ℕ) (r r' : Reader) (i : Item) → found i r' ≡ after_name p floor w c r → (c ≡ Some i.cell) × (floor ≤ i.cell)
 unfolding after_name
 after-found p floor w c r r' i e = by-colon (mark colon r) e
   where
     by-range : (n : ℕ) (z : ℤ) (q : Reader) (t : Bool) → floor ≤ n → found i r' ≡ require t 13 p (give (item_of n z)) q
-        → (cell.Is n ≡ cell.Is i.cell) × (floor ≤ i.cell)
+        → (Some n ≡ Some i.cell) × (floor ≤ i.cell)
     by-range n z q true l e =
         let same : i ≡ item_of n z = cc in
-        (ap (λ (j : Item). cell.Is j.cell) (sym same), omega (arith, l, ap (λ (j : Item). j.cell) same))
+        (ap (λ (j : Item). Some j.cell) (sym same), omega (arith, l, ap (λ (j : Item). j.cell) same))
     by-range n z q false l e = contradiction cc
 
     by-floor : (n : ℕ) (z : ℤ) (q : Reader) (t : Bool) → leb floor n ≡ t → found i r' ≡ require t 10 p (require (allows w (value_at w n) (biased z)) 13 p (give (item_of n z))) q
-        → (cell.Is n ≡ cell.Is i.cell) × (floor ≤ i.cell)
+        → (Some n ≡ Some i.cell) × (floor ≤ i.cell)
     by-floor n z q true l e = by-range n z q (allows w (value_at w n) (biased z)) (leb-true floor n l) e
     by-floor n z q false l e = contradiction cc
 
-    by-cell : (c : Cell) (z : ℤ) (q : Reader) → found i r' ≡ judged p floor w c z q → (c ≡ cell.Is i.cell) × (floor ≤ i.cell)
-    by-cell cell.Undeclared z q e = contradiction cc
-    by-cell (cell.Is n) z q e = by-floor n z q (leb floor n) refl e
+    by-cell : (c : Option ℕ) (z : ℤ) (q : Reader) → found i r' ≡ judged p floor w c z q → (c ≡ Some i.cell) × (floor ≤ i.cell)
+    by-cell None z q e = contradiction cc
+    by-cell (Some n) z q e = by-floor n z q (leb floor n) refl e
 
-    by_value : (x : Read ℤ) → found i r' ≡ and_then (judged p floor w c) x → (c ≡ cell.Is i.cell) × (floor ≤ i.cell)
+    by_value : (x : Read ℤ) → found i r' ≡ and_then (judged p floor w c) x → (c ≡ Some i.cell) × (floor ≤ i.cell)
     by_value (refused k q) e = contradiction cc
     by_value (found z q) e = by-cell c z q e
 
-    by-colon : (x : Read (Unit {0})) → found i r' ≡ and_then (λ u. value >>= judged p floor w c) x → (c ≡ cell.Is i.cell) × (floor ≤ i.cell)
+    by-colon : (x : Read (Unit {0})) → found i r' ≡ and_then (λ u. value >>= judged p floor w c) x → (c ≡ Some i.cell) × (floor ≤ i.cell)
     by-colon (refused k q) e = contradiction cc
     by-colon (found u q) e = by_value (value q) e
 
@@ -124,7 +116,7 @@ module _ {D : Declared} {scalars arrays floor : ℕ} {w : Words} (v : Vacant D s
 
       by-cell : (n : CellName) (z : ℤ) (q : Reader) (t : Bool) → is_declared D n ≡ t → T (in32 z) →
           require t 7 p (require (leb floor (cell_of D n)) 10 p (require (in_range D (cell_of D n) z) 13 p (give (item_of (cell_of D n) z)))) q ≡
-          judged p floor w (pick t (cell.Is (cell_of D n)) cell.Undeclared) z q
+          judged p floor w (pick t (Some (cell_of D n)) None) z q
       by-cell n z q true d i = by-floor (cell_of D n) z q (leb floor (cell_of D n)) refl (declared-cell D n d) i
       by-cell n z q false d i = refl
 
@@ -157,47 +149,47 @@ module _ {D : Declared} {scalars arrays floor : ℕ} {w : Words} (v : Vacant D s
 
 -- a cell that the words have is within the limit
 module _ {scalars arrays : ℕ} {w : Words} (a : Arranged scalars arrays w) where
-  pub scalar_below : (n : ℕ) (c : Cell) → c ≡ scalar_in scalars n → Below c
+  pub scalar_below : (n : ℕ) (c : Option ℕ) → c ≡ scalar_in scalars n → Below c
   unfolding scalar_in cells
   scalar_below n c e = rw e (go (ltb n scalars) refl)
     where
-      go : (t : Bool) → ltb n scalars ≡ t → Below (pick t (cell.Is n) cell.Undeclared)
+      go : (t : Bool) → ltb n scalars ≡ t → Below (pick t (Some n) None)
       go true l = omega (arith, ltb-true n scalars l, a.declares.scalar, a.declares.small)
       go false l = tt
 
-  pub element-below : (b i : ℕ) (c : Cell) → c ≡ element_in arrays w b i → Below c
+  pub element-below : (b i : ℕ) (c : Option ℕ) → c ≡ element_in arrays w b i → Below c
   unfolding element_in
   element-below b i c e = rw e (by-array (ltb b arrays) refl)
     where
-      by-element : b < arrays → (t : Bool) → ltb (first_at w b + i) (first_at w (b + 1)) ≡ t → Below (pick t (cell.Is (first_at w b + i)) cell.Undeclared)
+      by-element : b < arrays → (t : Bool) → ltb (first_at w b + i) (first_at w (b + 1)) ≡ t → Below (pick t (Some (first_at w b + i)) None)
       by-element l true f =
           let d = a.declares in
           omega (arith, ltb-true (first_at w b + i) (first_at w (b + 1)) f, d.held (b + 1) (omega (arith, l, d.few)), first-limit a.declared (b + 1), d.small)
       by-element l false f = tt
 
       by-array : (t : Bool) → ltb b arrays ≡ t →
-          Below (pick t (pick (ltb (first_at w b + i) (first_at w (b + 1))) (cell.Is (first_at w b + i)) cell.Undeclared) cell.Undeclared)
+          Below (pick t (pick (ltb (first_at w b + i) (first_at w (b + 1))) (Some (first_at w b + i)) None) None)
       by-array true f = by-element (ltb-true b arrays f) (ltb (first_at w b + i) (first_at w (b + 1))) refl
       by-array false f = tt
 
-module _ (s : Bytes) (at floor : ℕ) (x : Name) (is : name_read s x ≡ held_names (name (line_at s at)))
-    {D : Declared} {scalars arrays : ℕ} {w : Words} (v : Vacant D scalars arrays floor w) where
-  pub item_refused : (k p : ℕ) → x ≡ names.Refused k p → refused k p ≡ item D floor (line_at s at)
-  item_refused k p told =
-      let q : name (line_at s at) ≡ refused k p = mapped-refused held_name k p (name (line_at s at)) (rw told at is) in
+module _ (s : Bytes) (at floor : ℕ) {D : Declared} {scalars arrays : ℕ} {w : Words} (v : Vacant D scalars arrays floor w) where
+  pub item_refused : {k p : ℕ} → refused k p ≡ held_names (name (line_at s at)) → refused k p ≡ item D floor (line_at s at)
+  item_refused {k} {p} is =
+      let q : name (line_at s at) ≡ refused k p = mapped-refused held_name k p (name (line_at s at)) is in
       rw (item-named v (line_at s at), q)
 
   -- by the cell that the words have, with y the rest of the item
-  module _ (e : ℕ) (c : Cell) (y : Entry) (rest : entry_read s y ≡ after_name at floor w c (line_at s e)) where
+  module _ {e : ℕ} {c : Option ℕ} {y : Read Item} (rest : y ≡ after_name at floor w c (line_at s e)) where
     by_name : (n : CellName) → found n (line_at s e) ≡ held_names (name (line_at s at)) → ((m : CellName) → held_name m ≡ n → c ≡ cell_in D m)
-        → entry_read s y ≡ item D floor (line_at s at)
+        → y ≡ item D floor (line_at s at)
     by_name n found_name same =
         let from = mapped-found held_name n (line_at s e) (name (line_at s at)) found_name in
-        rest ∙ ap (λ (c : Cell). after_name at floor w c (line_at s e)) (same from.origin from.made)
+        rest ∙ ap (λ (c : Option ℕ). after_name at floor w c (line_at s e)) (same from.origin from.made)
         ∙ ap (and_then (λ n. after_name at floor w (cell_in D n))) (sym from.is) ∙ sym (item-named v (line_at s at))
 
-    pub item-scalar : (n : ℕ) → x ≡ names.Scalar n e → c ≡ scalar_in scalars n → entry_read s y ≡ item D floor (line_at s at)
-    item-scalar n told k = by_name (scalar n) (rw told at is) (λ m h. k ∙ held-scalar v.declares n m h)
+    pub item-scalar : {n : ℕ} → found (scalar n) (line_at s e) ≡ held_names (name (line_at s at)) → c ≡ scalar_in scalars n → y ≡ item D floor (line_at s at)
+    item-scalar {n} is k = by_name (scalar n) is (λ m h. k ∙ held-scalar v.declares n m h)
 
-    pub item-element : (a i : ℕ) → x ≡ names.Element a i e → c ≡ element_in arrays w a i → entry_read s y ≡ item D floor (line_at s at)
-    item-element a i told k = by_name (element a i) (rw told at is) (λ m h. k ∙ held-element v.declares a i m h)
+    pub item-element : {a i : ℕ} → found (element a i) (line_at s e) ≡ held_names (name (line_at s at)) → c ≡ element_in arrays w a i →
+        y ≡ item D floor (line_at s at)
+    item-element {a} {i} is k = by_name (element a i) is (λ m h. k ∙ held-element v.declares a i m h)

@@ -2,33 +2,30 @@
 -- answer. Assumes nothing.
 use Prim.Native.Nat.{ℕ, zero, suc, ◌+◌, ◌-◌, ◌<◌, ◌≤◌}
 use mathlib.Core.Path.{◌≡◌, refl, sym, ap, ◌∙◌}
+use Rattle.std.specs.Prelude.{Ok, Err}
 use mathlib.Core.Bool.{true, false}
 use mathlib.Core.List.{List, [], ◌∷◌}
 use native.Mathlib.Numerals.{add-one}
 use native.Mathlib.Omega.{arith}
 use lib.ListN.{length, get_or, drop, set, length-set}
 use lib.Seq.{get_or-set_other}
-use Rattle.specification.specs.Bytes.{Bytes, bytes, pick, feed, comma, class_number, begins}
-use Rattle.specification.specs.Parser.{Read, refused, found, and_then, ◌>>◌, give, next, mark}
+use Rattle.specification.specs.Bytes.{Bytes, bytes, pick, feed, comma}
+use Rattle.specification.specs.Parser.{Read, refused, found, and_then, ◌>>◌, give, next, mark, key}
 use Rattle.specification.specs.Lines.{Declared}
 use Rattle.specification.specs.Given.{Item, item, items, given_line}
-use Rattle.text.specs.Class.{class_at}
-use Rattle.text.proofs.Laws.Class.{class-next, class-not-next}
 use Rattle.values.specs.Word.{signed}
 use Rattle.values.proofs.Laws.Word.{biased-signed}
 use Rattle.tables.specs.Layout.{max_cells, cell_slot, first_slot}
 use Rattle.tables.specs.Ranges.{range_slot}
 use Rattle.tables.proofs.Laws.Ranges.{SameRanges}
 use Rattle.sheet.specs.declared.given.Entry.{Entry}
-use Rattle.sheet.specs.declared.given.Entry.TheVariants as entry
-use Rattle.sheet.specs.declared.given.Given.{Given}
-use Rattle.sheet.specs.declared.given.Given.TheVariants as goal
 use Rattle.sheet.specs.Reader.{line_at}
 use Rattle.sheet.specs.Tables.{Words, laid_given}
-use Rattle.sheet.specs.Items.{item_of, entry_read, Arranged, Vacant, Furnished, laid_items, given_read, given_value, GivenFound}
-use Rattle.sheet.proofs.Answers.{Origin, mapped-refused, mapped-found}
+use Rattle.sheet.specs.Items.{item_of, Arranged, Vacant, Furnished, laid_items, given_value, GivenFound, GivenDone}
+use Rattle.sheet.specs.Answers.{Answer, place_read}
+use Rattle.sheet.proofs.Answers.{on_found, on_refused, Origin, mapped-refused, mapped-found}
 use Rattle.sheet.proofs.Ranged.{ranges-keep}
-use Rattle.sheet.proofs.Keys.{exactly-yes, exactly-no, mark-yes, closed, closed-yes, closed-no}
+use Rattle.sheet.proofs.Keys.{mark-yes, closed, closed-found, closed-refused}
 use Rattle.sheet.proofs.GivenItems.{item-cell}
 
 -- ---- a cell that is laid
@@ -92,29 +89,32 @@ pub turn-arranged : {s : Bytes} {from scalars arrays : ℕ} {w₀ w : Words} {at
     Furnished scalars arrays w₀ → Arranged scalars arrays w
 turn-arranged st a = record { declared = a.declared; declares = (st.each a.declared a.vacant).vacant.declares }
 
-module _ {s : Bytes} {from scalars arrays : ℕ} {w₀ w : Words} {at floor : ℕ} (st : Turning s from scalars arrays w₀ w at floor)
-    (x : Entry) (read : (D : Declared) → Vacant D scalars arrays floor w → entry_read s x ≡ item D floor (line_at s at)) where
+module _ {s : Bytes} {from scalars arrays : ℕ} {w₀ w : Words} {at floor : ℕ} (st : Turning s from scalars arrays w₀ w at floor) where
   -- what the line's value lays for a sheet
   abbrev Whole : Read Words → Type 0
   Whole y = (D : Declared) → Vacant D scalars arrays 0 w₀ → y ≡ laid_items w₀ (items D max_cells 0 (line_at s from))
 
-  pub turn-refused : (k p : ℕ) → x ≡ entry.Refused k p → Whole (refused k p)
+  pub turn-refused : {k p : ℕ} → ((D : Declared) → Vacant D scalars arrays floor w → refused k p ≡ item D floor (line_at s at)) → Whole (refused k p)
   unfolding items
-  turn-refused k p told D d = go t.left t.rest
+  turn-refused {k} {p} read D d = go t.left t.rest
     where
       t : Turn D s from scalars arrays w₀ w at floor
       t = st.each D d
 
       e : item D floor (line_at s at) ≡ refused k p
-      e = sym (rw told at (read D t.vacant))
+      e = sym (read D t.vacant)
 
       go : (l : ℕ) → laid_items w₀ (items D max_cells 0 (line_at s from)) ≡ laid_items w (items D l floor (line_at s at)) → refused k p ≡ laid_items w₀ (items D max_cells 0 (line_at s from))
       go zero r = sym (rw e at r)
       go (suc l) r = sym (rw e at r)
 
-  module _ (c z e : ℕ) (told : x ≡ entry.Is c z e) where
-    is : (D : Declared) → Vacant D scalars arrays floor w → found (item_of c (signed z)) (line_at s e) ≡ item D floor (line_at s at)
-    is D d = rw told at (read D d)
+  module _ (i : Entry) {e : ℕ}
+      (is : (D : Declared) → Vacant D scalars arrays floor w → found (item_of i.cell (signed i.word)) (line_at s e) ≡ item D floor (line_at s at)) where
+    abbrev c : ℕ
+    c = i.cell
+
+    abbrev z : ℕ
+    z = i.word
 
     within : (D : Declared) → Vacant D scalars arrays floor w → (floor ≤ c) × (c < max_cells)
     within D d =
@@ -143,12 +143,12 @@ module _ {s : Bytes} {from scalars arrays : ℕ} {w₀ w : Words} {at floor : �
       pub turn-length : length w' ≡ length w₀
       turn-length = ap length laid ∙ stored-length c z w ∙ st.long
 
-      pub turn_last : (class_at s e ≡ class_number comma → ⊥) → Whole (found w' (line_at s e))
+      pub turn_last : false ≡ next comma (drop e s) → Whole (found w' (line_at s e))
       unfolding laid_given
       turn_last other D d =
-          rw laid (sym (laid_more c z w (found [] (line_at s e))) ∙ sym (rw (class-not-next s e comma other) at (turned D d)))
+          rw laid (sym (laid_more c z w (found [] (line_at s e))) ∙ sym (rw (sym other) at (turned D d)))
 
-      pub turn-next : class_at s e ≡ class_number comma → Turning s from scalars arrays w₀ w' (e + 1) (c + 1)
+      pub turn-next : true ≡ next comma (drop e s) → Turning s from scalars arrays w₀ w' (e + 1) (c + 1)
       turn-next is-comma = record {
         long = turn-length;
         each = λ D d. let t = st.each D d in let h = within D t.vacant in record {
@@ -157,46 +157,49 @@ module _ {s : Bytes} {from scalars arrays : ℕ} {w₀ w : Words} {at floor : �
           vacant = rw laid (stored-vacant w c z h.1 h.0 t.vacant);
           rest = let more = items D (t.left - 1) (suc c) in
               rw (laid, add-one c)
-              (rw (class-next s e comma is-comma, mark-yes s e comma more is-comma) at (turned D d) ∙ laid_more c z w (more (line_at s (e + 1))));
+              (rw (sym is-comma, sym (mark-yes s e comma is-comma)) at (turned D d) ∙ laid_more c z w (more (line_at s (e + 1))));
         };
       }
 
 -- ---- the line
 
 module _ (D : Declared) (s : Bytes) (from : ℕ) (w : Words) where
-  pub value_none : class_at s from ≡ class_number feed → found w (line_at s from) ≡ laid_items w (given_value D (line_at s from))
+  pub value_none : true ≡ next feed (drop from s) → found w (line_at s from) ≡ laid_items w (given_value D (line_at s from))
   unfolding laid_given
-  value_none is-feed = rw (class-next s from feed is-feed)
+  value_none is-feed = rw (sym is-feed)
 
-  pub value-some : (class_at s from ≡ class_number feed → ⊥) → laid_items w (items D max_cells 0 (line_at s from)) ≡ laid_items w (given_value D (line_at s from))
-  value-some other = rw (class-not-next s from feed other)
+  pub value-some : false ≡ next feed (drop from s) → laid_items w (items D max_cells 0 (line_at s from)) ≡ laid_items w (given_value D (line_at s from))
+  value-some other = rw (sym other)
 
 module _ (D : Declared) (s : Bytes) (at : ℕ) where
-  pub lined-no : begins (bytes "given=") (drop at s) ≡ false → given_line D (line_at s at) ≡ refused 3 at
+  pub lined-no : {k p : ℕ} → refused k p ≡ key (bytes "given=") (line_at s at) → given_line D (line_at s at) ≡ refused k p
   unfolding given_line
-  lined-no h = exactly-no s at (bytes "given=") 3 _ h
+  lined-no h = on_refused _ h
 
-  -- with x what is read of the value, over the words w, which it leaves as w'
-  module _ (key : begins (bytes "given=") (drop at s) ≡ true) (w w' : Words) (x : Given)
-      (is : given_read s x w' ≡ laid_items w (given_value D (line_at s (at + 6)))) where
-    lined : given_line D (line_at s at) ≡ closed (given_value D (line_at s (at + 6)))
+  -- with what is read of the value, over the words w, which it leaves as w'
+  module _ {from : ℕ} (begun : found tt (line_at s from) ≡ key (bytes "given=") (line_at s at)) (w w' : Words) where
+    lined : given_line D (line_at s at) ≡ closed (given_value D (line_at s from))
     unfolding given_line
-    lined = exactly-yes s at (bytes "given=") 3 _ key
+    lined = on_found _ begun
 
-    pub lined-refused : (k p : ℕ) → x ≡ goal.Refused k p → given_line D (line_at s at) ≡ refused k p
-    lined-refused k p told =
-        lined ∙ ap closed (mapped-refused (λ is. laid_given is w) k p (given_value D (line_at s (at + 6))) (rw told at is))
+    abbrev contents : Read (List Item)
+    contents = given_value D (line_at s from)
 
-    module _ (e : ℕ) (told : x ≡ goal.Read e) where
-      from : Origin (λ is. laid_given is w) w' (line_at s e) (given_value D (line_at s (at + 6)))
-      from = mapped-found (λ is. laid_given is w) _ _ (given_value D (line_at s (at + 6))) (rw told at is)
+    pub lined-refused : {k p : ℕ} → refused k p ≡ laid_items w contents → given_line D (line_at s at) ≡ refused k p
+    lined-refused is = lined ∙ ap closed (mapped-refused (λ is. laid_given is w) _ _ contents is)
 
-      pub lined-open : (class_at s e ≡ class_number feed → ⊥) → given_line D (line_at s at) ≡ refused 5 e
-      lined-open other = lined ∙ ap closed from.is ∙ sym (closed-no s e from.origin other)
+    module _ {e : ℕ} (is : found w' (line_at s e) ≡ laid_items w contents) where
+      origin : Origin (λ is. laid_given is w) w' (line_at s e) contents
+      origin = mapped-found (λ is. laid_given is w) _ _ contents is
 
-      pub lined-found : class_at s e ≡ class_number feed → GivenFound D s at w w' (e + 1)
-      lined-found is-feed = record {
-        items = from.origin;
-        read = lined ∙ ap closed from.is ∙ sym (closed-yes s e from.origin is-feed);
-        laid = sym from.made;
+      lined-found : {q : ℕ} → found tt (line_at s q) ≡ mark feed (line_at s e) → GivenFound D s at w w' q
+      lined-found h = record {
+        items = origin.origin;
+        read = lined ∙ ap closed origin.is ∙ closed-found origin.origin s e h;
+        laid = sym origin.made;
       }
+
+      -- by the line feed
+      pub lined-done : length w' ≡ length w → (x : Answer ℕ) → place_read tt s x ≡ mark feed (line_at s e) → GivenDone D s at w w' x
+      lined-done long (Err k) h = (lined ∙ ap closed origin.is ∙ closed-refused origin.origin s e h, long)
+      lined-done long (Ok q) h = lined-found h

@@ -15,10 +15,8 @@ use Rattle.specification.specs.Number.{natural, integer, in32}
 use Rattle.specification.specs.Words.{Entry, TermWord, constant_word, scalar_word, local_word, array_word, parameter_word, term_word, unknown, words, named, name_of, find, constant_of, word_of, numeral, number_of}
 use Rattle.values.specs.Word.{biased}
 use Rattle.text.specs.Decimal.{held, capped, worded}
-use Rattle.text.specs.declared.Word.{Word as Numbered}
-use Rattle.text.specs.declared.Word.TheVariants as word
-use Rattle.text.specs.declared.Decimal.{Decimal}
-use Rattle.text.specs.declared.Decimal.TheVariants as read
+use Rattle.std.specs.Prelude.{Some, None}
+use Rattle.std.specs.Prelude as code
 use Rattle.tables.specs.Codes.{constant_code, scalar_code, local_code, array_code, parameter_code, unknown_code, bad_constant_code, procedure_code}
 use Rattle.sheet.specs.declared.Token.{Token}
 use Rattle.sheet.specs.Codes.{token, index_word, term_token, token_of}
@@ -72,23 +70,23 @@ module _ (edition : ℕ) where
 -- ---- constants and names
 
 -- the token of a constant's word
-abbrev pub constant_token : Numbered → Token
-constant_token word.Bad = token bad_constant_code 0
-constant_token (word.Is v) = token constant_code v
+abbrev pub constant_token : code.Option ℕ → Token
+constant_token None = token bad_constant_code 0
+constant_token (Some v) = token constant_code v
 
 pub constant-token : (o : Option ℤ) → constant_token (worded o) ≡ token_of (constant_of o)
 unfolding token_of
 constant-token none = refl
 constant-token (just z) = go (in32 z)
   where
-    go : (u : Bool) → constant_token (pick u (word.Is (biased z)) word.Bad) ≡ token_of (pick u (just (term_word (constant_word z))) none)
+    go : (u : Bool) → constant_token (pick u (Some (biased z)) None) ≡ token_of (pick u (just (term_word (constant_word z))) none)
     go true = refl
     go false = refl
 
 -- the token of a name, by what was read of its index
-abbrev pub index_token : ℕ → Decimal → Token
-index_token c read.Malformed = token unknown_code 0
-index_token c (read.Is n) = token c (index_word n)
+abbrev pub index_token : ℕ → code.Option ℕ → Token
+index_token c None = token unknown_code 0
+index_token c (Some n) = token c (index_word n)
 
 pub index-token : (c : ℕ) (o : Option ℕ) → index_token c (capped o) ≡ indexed c o
 index-token c none = refl
@@ -154,9 +152,9 @@ number-numeral [] h e = absurd (omega arith)
 number-numeral (x ∷ xs) h e = rw e
 
 -- by what was read of it
-abbrev pub numeral_token : Decimal → Token
-numeral_token read.Malformed = token bad_constant_code 0
-numeral_token (read.Is n) = token procedure_code (index_word n)
+abbrev pub numeral_token : code.Option ℕ → Token
+numeral_token None = token bad_constant_code 0
+numeral_token (Some n) = token procedure_code (index_word n)
 
 pub numeral-token : (o : Option ℕ) → numeral_token (capped o) ≡ token_of (numeral o)
 unfolding token_of

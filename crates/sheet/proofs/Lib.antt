@@ -47,6 +47,7 @@ pub mod RangeDues
 pub mod Faults
 pub mod Beside
 pub mod Loop
+pub mod SortNumbers
 pub mod Scan
 pub mod Subtrees
 pub mod FormulaRest

@@ -4,24 +4,24 @@ use Prim.Native.Nat.{ℕ, suc, ◌+◌, ◌≤◌}
 use native.Mathlib.Nat.{add-zero}
 use native.Mathlib.Omega.{arith}
 use mathlib.Core.Path.{◌≡◌, refl, sym, ap, ◌∙◌}
+use mathlib.Core.Bool.{true, false}
 use mathlib.Core.List.{List, [], ◌∷◌}
-use lib.ListN.{length, set}
+use lib.ListN.{length, drop, set}
 use lib.Seq.{drop-drop}
-use Rattle.specification.specs.Bytes.{space, class_number}
-use Rattle.specification.specs.Parser.{refused}
+use Rattle.specification.specs.Bytes.{space}
+use Rattle.specification.specs.Parser.{refused, found, next, mark}
 use Rattle.specification.specs.Lines.{Declared}
 use Rattle.specification.specs.Formula.{Locals}
-use Rattle.text.specs.Class.{class_at}
-use Rattle.text.proofs.Laws.Class.{class-next, class-not-next, class-inside}
 use Rattle.tables.specs.Layout.{max_tokens, max_nesting, max_dues, path_at}
 use Rattle.sheet.specs.declared.Token.{Token}
 use Rattle.sheet.specs.declared.formula.Limits.{Limits}
-use Rattle.sheet.specs.Reader.{reader_at}
+use Rattle.sheet.specs.Reader.{reader_at, line_at}
 use Rattle.sheet.specs.Sorts.{formula_sort}
 use Rattle.sheet.specs.Dues.{Due, due_formula, left, left_here}
 use Rattle.sheet.specs.Tables.{Words, laid_tokens}
 use Rattle.sheet.specs.Stack.{Bits, Kept, entry, entered, Stacked, Beside}
 use Rattle.sheet.specs.FormulaLine.{Small, Sized, Known, Begin, refusing_at, whole, Through}
+use Rattle.sheet.proofs.Keys.{mark-found, mark-refused}
 use Rattle.sheet.proofs.Left.{left-none, left-space, left-no-space}
 use Rattle.sheet.proofs.Bounds.{Fits, fits-start, fits-length}
 use Rattle.sheet.proofs.Bits.{bits_none}
@@ -116,21 +116,26 @@ module _ {b : Begin} {w₀ w : Words} {n count bound e word : ℕ} (i : Taken b 
       none (d ∷ ds) q = absurd (omega arith)
 
   module _ (h : n ≡ 0 → ⊥) where
-    pub taken-stops : (class_at b.bytes e ≡ 3 → ⊥) → (D : Declared) → Known b.limits w₀ D → whole b D ≡ refused 5 e
-    unfolding class_number
-    taken-stops c D g = i.rest D g ∙ by i.dues i.depth
+    pub taken-stops : {k p : ℕ} → refused k p ≡ mark space (line_at b.bytes e) → (D : Declared) → Known b.limits w₀ D → whole b D ≡ refused k p
+    taken-stops c D g = let m = mark-refused b.bytes e space c in i.rest D g ∙ by m.0 i.dues i.depth ∙ rw (m.1, m.2)
       where
-        by : (ds : List Due) → n ≡ length ds → left (refusing_at b) D ds i.read (reader_at b.bytes e count i.locals) ≡ refused 5 e
-        by [] q = absurd (h q)
-        by (d ∷ ds) q = left-no-space (refusing_at b) D d ds i.read (reader_at b.bytes e count i.locals) (class-not-next b.bytes e space c)
+        by : next space (drop e b.bytes) ≡ false → (ds : List Due) → n ≡ length ds → left (refusing_at b) D ds i.read (reader_at b.bytes e count i.locals) ≡ refused 5 e
+        by s [] q = absurd (h q)
+        by s (d ∷ ds) q = left-no-space (refusing_at b) D d ds i.read (reader_at b.bytes e count i.locals) s
 
-    pub taken_next : class_at b.bytes e ≡ 3 → Reading b w₀ w n count bound (e + 1) word
-    unfolding class_number Tops
-    taken_next c = by i.dues i.depth i.fits i.stack i.tops i.rest
+    pub taken_next : {at : ℕ} → found tt (line_at b.bytes at) ≡ mark space (line_at b.bytes e) → at ≤ length b.bytes → Reading b w₀ w n count bound at word
+    unfolding Tops
+    taken_next {at} c l = by i.dues i.depth i.fits i.stack i.tops i.rest
       where
+        yes : next space (drop e b.bytes) ≡ true
+        yes = (mark-found b.bytes e space c).0
+
+        there : at ≡ e + 1
+        there = (mark-found b.bytes e space c).1
+
         by : (ds : List Due) → n ≡ length ds → Fits ds → Stacked w ds → Tops w count word ds →
             ((D : Declared) → Known b.limits w₀ D → whole b D ≡ left (refusing_at b) D ds i.read (reader_at b.bytes e count i.locals)) →
-            Reading b w₀ w n count bound (e + 1) word
+            Reading b w₀ w n count bound at word
         by [] q f k o r = absurd (h q)
         by (d ∷ ds) q f k o r = record {
           locals = i.locals;
@@ -141,7 +146,7 @@ module _ {b : Begin} {w₀ w : Words} {n count bound e word : ℕ} (i : Taken b 
           number = i.number;
           low = omega (arith, fits-length (d ∷ ds) f);
           few = i.few;
-          within = omega (arith, class-inside b.bytes e space c);
+          within = l;
           long = i.long;
           set = i.set;
           fits = f;
@@ -150,7 +155,7 @@ module _ {b : Begin} {w₀ w : Words} {n count bound e word : ℕ} (i : Taken b 
           later = o.1;
           table = i.table;
           rest = λ D g. r D g ∙ left-space (refusing_at b) D d ds i.read (reader_at b.bytes e count i.locals)
-              (class-next b.bytes e space c) ∙ rw drop-drop;
+              yes ∙ rw (there, drop-drop);
         }
 
 -- the words before the first entry was put

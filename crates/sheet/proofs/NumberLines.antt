@@ -1,4 +1,4 @@
--- Laws of the lines with one number and of the numbers that the lines before the formula share: numerals, indices, values, counts. Assumes nothing.
+-- Laws of the numbers that the lines before the formula share: numerals, indices, values, counts. Assumes nothing.
 use Prim.Native.Nat.{ℕ, ◌+◌, ◌-◌, ◌<◌, ◌≤◌, min}
 use mathlib.Core.Path.{◌≡◌, refl, sym, ap, ◌∙◌}
 use mathlib.Core.Bool.{Bool, true, false, and-false}
@@ -9,23 +9,18 @@ use lib.IntN.{ℤ}
 use lib.ListN.{length, take, drop, length-drop}
 use lib.Seq.{drop-drop, length-take-le}
 use borrow.Author.Tests.{leb-true, leb-false, le-leb, lt-leb}
-use Rattle.specification.specs.Bytes.{Bytes, Class, pick, between, in_number, run, begins}
+use Rattle.specification.specs.Bytes.{Bytes, pick, between, in_number, run}
 use Rattle.specification.specs.Number.{natural, integer, in32}
 use Rattle.specification.specs.Parser.{Reader, Read, refused, found, present, require, and_then, give, taken}
 use Rattle.specification.specs.Lines.{index, count, value}
 use Rattle.specification.proofs.Laws.Contradiction.{contradiction}
 use Rattle.text.specs.Decimal.{capped, worded}
-use Rattle.text.specs.declared.Decimal.TheVariants as decimal
-use Rattle.text.specs.declared.Word.TheVariants as word
+use Rattle.std.specs.Prelude.{Some, None}
 use Rattle.text.proofs.Laws.Run.{run-le, run-first}
 use Rattle.values.specs.Word.{signed, biased}
 use Rattle.values.proofs.Laws.Word.{signed-biased}
-use Rattle.sheet.specs.declared.lines.Index.{Index}
-use Rattle.sheet.specs.declared.lines.Index.TheVariants as indexed
-use Rattle.sheet.specs.declared.lines.Count.{Count}
 use Rattle.sheet.specs.Reader.{line_at}
-use Rattle.sheet.specs.Answers.{number_to, held_index, index_read, count_read}
-use Rattle.sheet.proofs.Keys.{exactly-yes, exactly-no, closed_with}
+use Rattle.sheet.specs.Answers.{held_index}
 
 -- ---- numerals
 
@@ -51,18 +46,18 @@ module _ (s : Bytes) (at : ℕ) (d : Bytes) (is : d ≡ run in_number (drop at s
   unfolding index
   index-taken = rw taken_is
 
-  pub index-bad : decimal.Malformed ≡ capped (natural d) → refused 4 at ≡ held_index (index (line_at s at))
+  pub index-bad : None ≡ capped (natural d) → refused 4 at ≡ held_index (index (line_at s at))
   index-bad e = rw index-taken (go (natural d) e)
     where
-      go : (o : Option ℕ) → decimal.Malformed ≡ capped o → refused 4 at ≡ held_index (present 4 at o (line_at s (at + length d)))
+      go : (o : Option ℕ) → None ≡ capped o → refused 4 at ≡ held_index (present 4 at o (line_at s (at + length d)))
       go none e = refl
       go (some k) e = contradiction cc
 
-  pub index_is : (n m : ℕ) → m ≡ min n 4294967295 → decimal.Is n ≡ capped (natural d)
+  pub index_is : (n m : ℕ) → m ≡ min n 4294967295 → Some n ≡ capped (natural d)
       → found m (line_at s (at + length d)) ≡ held_index (index (line_at s at))
   index_is n m held e = rw index-taken (go (natural d) e)
     where
-      go : (o : Option ℕ) → decimal.Is n ≡ capped o → found m (line_at s (at + length d)) ≡ held_index (present 4 at o (line_at s (at + length d)))
+      go : (o : Option ℕ) → Some n ≡ capped o → found m (line_at s (at + length d)) ≡ held_index (present 4 at o (line_at s (at + length d)))
       go none e = contradiction cc
       go (some k) e =
           let l : n ≡ min k 4294967296 = cc in
@@ -73,28 +68,28 @@ module _ (s : Bytes) (at : ℕ) (d : Bytes) (is : d ≡ run in_number (drop at s
   unfolding value
   value_taken = rw taken_is
 
-  pub value-bad : word.Bad ≡ worded (integer d) → refused 4 at ≡ value (line_at s at)
+  pub value-bad : None ≡ worded (integer d) → refused 4 at ≡ value (line_at s at)
   value-bad e = rw value_taken (go (integer d) e)
     where
-      by-range : (z : ℤ) (t : Bool) → word.Bad ≡ pick t (word.Is (biased z)) word.Bad → refused 4 at ≡ require t 4 at (give z) (line_at s (at + length d))
+      by-range : (z : ℤ) (t : Bool) → None ≡ pick t (Some (biased z)) None → refused 4 at ≡ require t 4 at (give z) (line_at s (at + length d))
       by-range z true e = contradiction cc
       by-range z false e = refl
 
-      go : (o : Option ℤ) → word.Bad ≡ worded o → refused 4 at ≡ and_then (λ z. require (in32 z) 4 at (give z)) (present 4 at o (line_at s (at + length d)))
+      go : (o : Option ℤ) → None ≡ worded o → refused 4 at ≡ and_then (λ z. require (in32 z) 4 at (give z)) (present 4 at o (line_at s (at + length d)))
       go none e = refl
       go (some z) e = by-range z (in32 z) e
 
-  pub value-is : (w : ℕ) → word.Is w ≡ worded (integer d) → found (signed w) (line_at s (at + length d)) ≡ value (line_at s at)
+  pub value-is : (w : ℕ) → Some w ≡ worded (integer d) → found (signed w) (line_at s (at + length d)) ≡ value (line_at s at)
   value-is w e = rw value_taken (go (integer d) e)
     where
-      by-range : (z : ℤ) (t : Bool) → in32 z ≡ t → word.Is w ≡ pick t (word.Is (biased z)) word.Bad
+      by-range : (z : ℤ) (t : Bool) → in32 z ≡ t → Some w ≡ pick t (Some (biased z)) None
           → found (signed w) (line_at s (at + length d)) ≡ require t 4 at (give z) (line_at s (at + length d))
       by-range z true i e =
           let q : w ≡ biased z = cc in
           rw (q, signed-biased z (rw i tt))
       by-range z false i e = contradiction cc
 
-      go : (o : Option ℤ) → word.Is w ≡ worded o
+      go : (o : Option ℤ) → Some w ≡ worded o
           → found (signed w) (line_at s (at + length d)) ≡ and_then (λ z. require (in32 z) 4 at (give z)) (present 4 at o (line_at s (at + length d)))
       go none e = contradiction cc
       go (some z) e = by-range z (in32 z) refl e
@@ -123,31 +118,19 @@ module _ (s : Bytes) (at lo hi : ℕ) (few : hi < 4294967295) where
       go (refused k p) = refl
       go (found m r) = by-limit m r (leb m hi) refl
 
-  -- of what the index is told to be
-  module _ (x : Index) (is : index_read s x ≡ held_index (index (line_at s at))) where
-    count-read : (y : Index) → x ≡ y → limited lo hi at (index_read s y) ≡ count lo hi (line_at s at)
-    count-read y told = rw (sym told, is, count_held)
+  -- of what the index is read as
+  pub count-refused : {k p : ℕ} → refused k p ≡ held_index (index (line_at s at)) → refused k p ≡ count lo hi (line_at s at)
+  count-refused is = rw (count_held, sym is)
 
-    pub count-refused : (k p : ℕ) → x ≡ indexed.Refused k p → refused k p ≡ count lo hi (line_at s at)
-    count-refused k p told = count-read (indexed.Refused k p) told
+  module _ {n e : ℕ} (is : found n (line_at s e) ≡ held_index (index (line_at s at))) where
+    count-read : limited lo hi at (found n (line_at s e)) ≡ count lo hi (line_at s at)
+    count-read = rw (count_held, sym is)
 
-    module _ (n e : ℕ) (told : x ≡ indexed.Is n e) where
-      pub count_low : n < lo → refused 4 at ≡ count lo hi (line_at s at)
-      count_low h = rw (lt-leb lo n h) at (count-read (indexed.Is n e) told)
+    pub count_low : n < lo → refused 4 at ≡ count lo hi (line_at s at)
+    count_low h = rw (lt-leb lo n h) at count-read
 
-      pub count-high : hi < n → refused 4 at ≡ count lo hi (line_at s at)
-      count-high h = rw (lt-leb n hi h, and-false (leb lo n)) at (count-read (indexed.Is n e) told)
+    pub count-high : hi < n → refused 4 at ≡ count lo hi (line_at s at)
+    count-high h = rw (lt-leb n hi h, and-false (leb lo n)) at count-read
 
-      pub count-within : lo ≤ n → n ≤ hi → found n (line_at s e) ≡ count lo hi (line_at s at)
-      count-within l h = rw (le-leb lo n l, le-leb n hi h) at (count-read (indexed.Is n e) told)
-
--- ---- a key and a number, up to a byte of the class
-
-module _ (s key : Bytes) (at lo hi : ℕ) (c : Class) where
-  pub line-no : begins key (drop at s) ≡ false → refused 3 at ≡ number_to key lo hi c (line_at s at)
-  line-no h = sym (exactly-no s at key 3 _ h)
-
-  -- of what the count is told to be
-  pub line-yes : begins key (drop at s) ≡ true → (x y : Count) → count_read s x ≡ count lo hi (line_at s (at + length key)) → x ≡ y
-      → closed_with c (count_read s y) ≡ number_to key lo hi c (line_at s at)
-  line-yes h x y is told = ap (closed_with c) (ap (count_read s) (sym told) ∙ is) ∙ sym (exactly-yes s at key 3 _ h)
+    pub count-within : lo ≤ n → n ≤ hi → found n (line_at s e) ≡ count lo hi (line_at s at)
+    count-within l h = rw (le-leb lo n l, le-leb n hi h) at count-read

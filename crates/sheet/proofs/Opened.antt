@@ -14,8 +14,8 @@ use Rattle.specification.specs.Formula.{Locals}
 use Rattle.tables.specs.Layout.{max_dues, path_at}
 use Rattle.tables.specs.Codes.{constant_code}
 use Rattle.sheet.specs.declared.Token.{Token}
-use Rattle.sheet.specs.declared.stack.Entry.{Entry}
-use Rattle.sheet.specs.declared.sorts.Operands.{Operands}
+use Rattle.sheet.specs.Stack.{Entry}
+use Rattle.sheet.specs.Sorts.{Operands}
 use Rattle.sheet.specs.Sorts.{formula_sort, term_sort, upper_sort, bounds_sort, procedure_sort, ex_sort, range_sort, word_operands, operands_of}
 use Rattle.sheet.specs.Dues.{Due, due_formula, due_term, due_procedure, due_ex, due_range, due_bounds, due_upper}
 use Rattle.sheet.specs.Turn.{room, due_by, dues, upper, opens}

@@ -9,13 +9,15 @@ use native.Mathlib.Nat.{lt_of_lt_of_le}
 use native.Mathlib.Omega.{arith}
 use lib.Pow.{pow_mono, pow-add}
 use lib.Dec.{T, eqb, ltb, leb, ltb→lt, leb→le, eqb→eq}
-use lib.ListN.{length, get_or, drop}
-use lib.Seq.{drop-cons, drop-length}
+use lib.ListN.{length, get_or, length-append}
 use borrow.Author.Tests.{eq-eqb, ne_eqb, eqb-true, eqb-false, lt-ltb, le-ltb}
 use Rattle.specification.specs.Bytes.{Bytes, bytes, pick, same}
 use Rattle.specification.specs.Words.{call_word, formula_word, Entry, ◌means◌, common_words, older_division, first_rounding, division, own_words, words}
+use Rattle.std.specs.Prelude.{Some, None}
+use Rattle.std.specs.List.{push}
+use Rattle.specification.proofs.Laws.Contradiction.{contradiction}
 use Rattle.sheet.specs.Codes.{token_of}
-use Rattle.sheet.specs.Packed.{packed, entry_code, code_by, code_in}
+use Rattle.sheet.specs.Packed.{packed, entry_code, code_by, code_in, code_or_none}
 
 -- ---- two words
 
@@ -58,32 +60,53 @@ differs (x ∷ xs) (y ∷ ys) h = go (eqb x y) (differs xs ys (λ e. h (ap suc e
 
 -- ---- packing, from the last byte on
 
-packed_more : (s : Bytes) (i : ℕ) → i < length s → packed (drop i s) ≡ get_or s i 0 + 256 * packed (drop (suc i) s)
-unfolding packed
-packed_more s i h = rw (drop-cons s i 0 h)
+-- the number of these bytes and of those behind them, which have the number n
+abbrev pub packed_onto : Bytes → ℕ → ℕ
+packed_onto [] n = n
+packed_onto (b ∷ bs) n = b + 256 * packed_onto bs n
 
--- at most four bytes and the mark above them
+onto-one : (s : Bytes) → packed_onto s 1 ≡ packed s
+unfolding packed
+onto-one [] = refl
+onto-one (b ∷ bs) = ap (λ (k : ℕ). b + 256 * k) (onto-one bs)
+
+onto-push : (s : Bytes) (b n : ℕ) → packed_onto (push s b) n ≡ packed_onto s (b + 256 * n)
+onto-push [] b n = refl
+onto-push (c ∷ s) b n = ap (λ (k : ℕ). c + 256 * k) (onto-push s b n)
+
 pack-fits : (i n b : ℕ) → i < 4 → n < 2 ^ (40 - 8 * (i + 1)) → b < 256 → b + 256 * n < 2 ^ (40 - 8 * i)
 pack-fits i n b h l m =
     let e : 40 - 8 * i ≡ 8 + (40 - 8 * (i + 1)) = omega arith in
     rw (e, pow-add 2 8 (40 - 8 * (i + 1))) (omega arith)
 
-pub pack-word : (i n : ℕ) → n < 2 ^ (40 - 8 * i) → n < 2 ^ 40
-pack-word i n h = lt_of_lt_of_le h (pow_mono {i = 40 - 8 * i} {j = 40} (omega arith))
+-- the bytes of t of which these are left, and the number of the others
+pub record Packing (t left : Bytes) (n : ℕ) : Type 0 where
+  pub few : length left ≤ 4
+  pub is : packed_onto left n ≡ packed t
+  pub fits : n < 2 ^ (40 - 8 * length left)
 
--- the number of the bytes from the i-th on, and its room
-abbrev pub Packing : Bytes → ℕ → ℕ → Type 0
-Packing s i n = (i ≤ length s) × (n ≡ packed (drop i s)) × (n < 2 ^ (40 - 8 * i))
+pub pack-none : (t : Bytes) → length t ≤ 4 → Packing t t 1
+pack-none t h = record {
+  few = h;
+  is = onto-one t;
+  fits = lt_of_lt_of_le (omega arith) (pow_mono {i = 8} {j = 40 - 8 * length t} (omega arith));
+}
 
-pub pack-none : (s : Bytes) → length s ≤ 4 → Packing s (length s) 1
-unfolding packed
-pack-none s h = (omega arith, rw drop-length, lt_of_lt_of_le (omega arith) (pow_mono {i = 8} {j = 40 - 8 * length s} (omega arith)))
+pub pack-word : {t left : Bytes} {n : ℕ} → Packing t left n → n < 2 ^ 40
+pack-word {t} {left} p = lt_of_lt_of_le p.fits (pow_mono {i = 40 - 8 * length left} {j = 40} (omega arith))
 
-pub pack-more : (s : Bytes) (i n : ℕ) → Small s → 0 < i → length s ≤ 4 → Packing s i n → Packing s (i - 1) (get_or s (i - 1) 0 + 256 * n)
-pack-more s i n b h m (l, e, f) =
-    let q : suc (i - 1) ≡ i = omega arith in
-    let q' : i - 1 + 1 ≡ i = omega arith in
-    (omega arith, rw e (sym (rw q at (packed_more s (i - 1) (omega arith)))), pack-fits (i - 1) n (get_or s (i - 1) 0) (omega arith) (rw q' f) (b (i - 1)))
+pub pack-more : {t left : Bytes} {n : ℕ} (rest : Bytes) (b : ℕ) → left ≡ push rest b → b < 256 → Packing t left n → Packing t rest (b + 256 * n)
+pack-more {t} {left} {n} rest b is small p =
+    let long : length left ≡ length rest + 1 = ap length is ∙ length-append rest (b ∷ []) in
+    record {
+      few = omega (arith, long, p.few);
+      is = sym (onto-push rest b n) ∙ ap (λ (l : Bytes). packed_onto l n) (sym is) ∙ p.is;
+      fits = pack-fits (length rest) n b (omega (arith, long, p.few)) (rw long at p.fits) small;
+    }
+
+pub pack-done : (t left : Bytes) (n : ℕ) → length left ≡ 0 → Packing t left n → n ≡ packed t
+pack-done t [] n e p = p.is
+pack-done t (b ∷ bs) n e p = absurd (omega arith)
 
 -- ---- the search
 
@@ -175,3 +198,19 @@ second-words edition k n h = rw (ne_eqb edition 1 n, lt-ltb edition first_roundi
 pub third-words : (edition k : ℕ) → (edition ≡ 1 → ⊥) → first_rounding ≤ edition → code_by k (words 3) ≡ code_by k (words edition)
 unfolding words own_words
 third-words edition k n h = rw (ne_eqb edition 1 n, le-ltb edition first_rounding h)
+
+-- what a looked-up code says
+
+pub code-some : (k c : ℕ) → Some k ≡ code_or_none c → (c ≡ 0 → ⊥) × (c ≡ k)
+code-some k c e = go (eqb c 0) refl e
+  where
+    go : (t : Bool) → eqb c 0 ≡ t → Some k ≡ pick t None (Some c) → (c ≡ 0 → ⊥) × (c ≡ k)
+    go true q e = contradiction cc
+    go false q e = (eqb-false c 0 q, cc)
+
+pub code-none : (c : ℕ) → None ≡ code_or_none c → c ≡ 0
+code-none c e = go (eqb c 0) refl e
+  where
+    go : (t : Bool) → eqb c 0 ≡ t → None ≡ pick t None (Some c) → c ≡ 0
+    go true q e = eqb-true c 0 q
+    go false q e = contradiction cc

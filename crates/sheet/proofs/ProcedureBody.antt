@@ -3,10 +3,11 @@ use Prim.Native.Nat.{ℕ, zero, suc, pred, ◌+◌, ◌≤◌, ◌<◌}
 use native.Mathlib.Numerals.{add-one}
 use native.Mathlib.Omega.{arith}
 use mathlib.Core.Path.{◌≡◌, refl, sym, ap, ◌∙◌}
+use Rattle.std.specs.Prelude.{Err}
 use mathlib.Core.List.{List, [], ◌∷◌, ◌++◌}
 use lib.ListN.{length, get_or, set, replicate, length-append, length-set}
 use Rattle.specification.specs.Bytes.{Bytes}
-use Rattle.specification.specs.Parser.{refused, and_then}
+use Rattle.specification.specs.Parser.{and_then}
 use Rattle.specification.specs.Lines.{Range, Declared, first_of, length_of, procedure_of}
 use Rattle.specification.specs.Ast.{Procedure}
 use Rattle.specification.specs.Sheet.{with_parameters, with_procedures}
@@ -14,26 +15,27 @@ use Rattle.tables.specs.Layout.{max_parameters, max_arrays, proc_slot, first_slo
 use Rattle.sheet.specs.declared.Token.{Token}
 use Rattle.sheet.specs.declared.formula.Limits.{Limits}
 use Rattle.sheet.specs.declared.formula.Reached.{Reached}
-use Rattle.sheet.specs.declared.whole.Progress.TheVariants as progress
+use Rattle.sheet.specs.declared.reader.Progress.{Progress}
 use Rattle.sheet.specs.Codes.{formula_tokens, procedures_tokens}
 use Rattle.sheet.specs.Reader.{reader_at}
 use Rattle.sheet.specs.Tables.{Words, laid_firsts, laid_arrays, range_first, range_width, laid_range, laid_ranges, laid_cells, laid_given, laid_procs, laid_tokens, declared_tables}
 use Rattle.sheet.specs.Stack.{Beside}
-use Rattle.sheet.specs.FormulaLine.{line_formula, refuses_in, Small, Sized, Known, Begin, begin, at_begin, Closed}
+use Rattle.sheet.specs.FormulaLine.{refuses_in, Small, Sized, Known, Begin, begin, Closed, Closes}
 use Rattle.sheet.specs.Rest.{from_procedures, one_more, limits}
-use Rattle.sheet.specs.Whole.{Filled, Went, left_lines, Begun, Nearer}
+use Rattle.sheet.specs.Whole.{Stopped, Filled, left_lines, Begun, OneMore}
 use Rattle.sheet.proofs.Laid.{tokens-other, tokens-length}
 use Rattle.sheet.proofs.Tables.{declared-length}
 use Rattle.sheet.proofs.Procs.{none, tokens-one-more, entered, procs-length, procs-at, procs-more}
 use Rattle.sheet.proofs.Entries.{beside-then}
 use Rattle.sheet.proofs.Beside.{beside-set, beside-tokens, tokens-both, tokens-set}
+use Rattle.sheet.proofs.AllLines.{filled-long}
 use Rattle.sheet.proofs.ProcedureLines.{few-procedures}
 
 -- ---- where it begins
 
 -- the words have the procedures
-module _ (k : ℕ) (s : Bytes) (n : ℕ) (d : Limits) (x : Reached) (w : Words) (h : Filled k s n d x w) where
-  supplied : (K : ℕ) → K < d.procedures → parameters_at w K ≡ (procedure_of h.declared K).parameters
+module _ (k : ℕ) (s : Bytes) (n : ℕ) (p : Progress) (w : Words) (h : Filled k s n p w) where
+  supplied : (K : ℕ) → K < p.limits.procedures → parameters_at w K ≡ (procedure_of h.declared K).parameters
   supplied K l =
       let Ps = h.declared.procedures in
       let given = laid_given h.items (laid_cells h.declared (replicate n 0)) in
@@ -43,27 +45,27 @@ module _ (k : ℕ) (s : Bytes) (n : ℕ) (d : Limits) (x : Reached) (w : Words) 
       tokens-other (proc_slot K + 1) 0 (procedures_tokens Ps) (declared_tables h.declared h.items n) (λ m a b. (omega (arith, h.tokens, h.few), omega (arith, h.tokens, h.few))) ∙
       (rw e at (procs-at Ps 0 0 K given (omega (arith, h.counts.procedures)) (omega (arith, long, h.enough, h.counts.procedures, h.small.procedures))).1)
 
-  pub filled-known : Known d w h.declared
+  pub filled-known : Known p.limits w h.declared
   filled-known = record { counts = h.counts; supplied = supplied }
 
-  pub filled-sized : Sized d w
+  pub filled-sized : Sized p.limits w
   filled-sized K l = rw (supplied K l) (h.counts.limited.each K)
 
 -- in the line with m parameters
 abbrev pub in_line : Limits → ℕ → Limits
 in_line d m = limits d.strict d.edition d.scalars d.locals d.arrays d.procedures m
 
-module _ (s : Bytes) (n : ℕ) (d : Limits) (x : Reached) (m from : ℕ) (w : Words) (h : Begun s n d x m from w) where
-  abbrev f : Filled (left_lines d) s n d x w
+module _ (s : Bytes) (n : ℕ) (p : Progress) (m from : ℕ) (w : Words) (h : Begun s n p m from w) where
+  abbrev f : Filled (left_lines p.limits) s n p w
   f = h.filled
 
-  pub line_small : Small (in_line d m)
+  pub line_small : Small (in_line p.limits m)
   line_small = let z = f.small in record { scalars = z.scalars; locals = z.locals; arrays = z.arrays; procedures = z.procedures }
 
-  pub line-sized : Sized (in_line d m) w
-  line-sized K l = filled-sized (left_lines d) s n d x w f K l
+  pub line-sized : Sized (in_line p.limits m) w
+  line-sized K l = filled-sized (left_lines p.limits) s n p w f K l
 
-  pub line_known : Known (in_line d m) w (with_parameters m f.declared)
+  pub line_known : Known (in_line p.limits m) w (with_parameters m f.declared)
   line_known =
       let c = f.counts in
       let l = c.limited in
@@ -77,7 +79,7 @@ module _ (s : Bytes) (n : ℕ) (d : Limits) (x : Reached) (m from : ℕ) (w : Wo
           parameters = refl;
           limited = record { scalars = l.scalars; locals = l.locals; arrays = l.arrays; procedures = l.procedures; each = l.each; parameters = h.parameters };
         };
-        supplied = (filled-known (left_lines d) s n d x w f).supplied;
+        supplied = (filled-known (left_lines p.limits) s n p w f).supplied;
       }
 
 -- ---- one procedure more
@@ -105,8 +107,14 @@ unfolding laid_arrays
 cells_same D Ps w =
     ranges-same D Ps D.ranges 0 (laid_arrays (with_procedures Ps D) w) ∙ ap (laid_ranges D 0 D.ranges) (firsts_same D Ps 0 (suc max_arrays) w)
 
-module _ (s : Bytes) (n : ℕ) (d : Limits) (x : Reached) (m from : ℕ) (w : Words) (h : Begun s n d x m from w) where
-  abbrev before : Filled (left_lines d) s n d x w
+module _ (s : Bytes) (n : ℕ) (p : Progress) (m from : ℕ) (w : Words) (h : Begun s n p m from w) where
+  abbrev d : Limits
+  d = p.limits
+
+  abbrev x : Reached
+  x = p.reached
+
+  abbrev before : Filled (left_lines p.limits) s n p w
   before = h.filled
 
   abbrev here : Begin
@@ -115,15 +123,9 @@ module _ (s : Bytes) (n : ℕ) (d : Limits) (x : Reached) (m from : ℕ) (w : Wo
   abbrev own : Declared
   own = with_parameters m before.declared
 
-  pub body_refused : (w₁ : Words) (k p : ℕ) → (line_formula (refuses_in d) own (at_begin here) ≡ refused k p) × (length w₁ ≡ length w) →
-      Nearer d (progress.Refused k p) × Went d.strict 5 s n (progress.Refused k p) w₁
-  body_refused w₁ k p y = (
-    tt,
-    (
-      h.rest ∙ ap (and_then (λ F. from_procedures (refuses_in d) (pred (left_lines d)) (one_more before.declared m F) before.items)) y.0,
-      y.1 ∙ before.long,
-    ),
-  )
+  pub body_refused : (w₁ : Words) (e : ℕ × ℕ) → Closes here own w w₁ (Err e) → Stopped d.strict s e
+  body_refused w₁ e y =
+      h.rest ∙ ap (and_then (λ F. from_procedures (refuses_in d) (pred (left_lines d)) (one_more before.declared m F) before.items)) y.0
 
   module _ (w₁ w₂ : Words) (t e b : ℕ) (c : Closed here own w w₁ t e b)
       (put : w₂ ≡ set (set w₁ (proc_slot d.procedures) x.tokens) (proc_slot d.procedures + 1) m) where
@@ -196,7 +198,7 @@ module _ (s : Bytes) (n : ℕ) (d : Limits) (x : Reached) (m from : ℕ) (w : Wo
         let first = beside-set slot x.tokens (omega (arith, all, before.enough, enough-procedures)) behind in
         rw (tables_more, put) (beside-set (slot + 1) m (rw length-set (omega (arith, all, before.enough, enough-procedures))) first)
 
-    found-more : Filled (left_lines after) s n after there w₂
+    found-more : Filled (left_lines after) s n (record { limits = after; reached = there }) w₂
     found-more =
         let l = before.counts.limited in
         record {
@@ -233,5 +235,5 @@ module _ (s : Bytes) (n : ℕ) (d : Limits) (x : Reached) (m from : ℕ) (w : Wo
           enough = before.enough;
         }
 
-    pub body-found : Nearer d (progress.Read after there) × Went d.strict 5 s n (progress.Read after there) w₂
-    body-found = (add-one d.procedures, (refl, found-more))
+    pub body-found : length w₂ ≡ n → OneMore s p (record { limits = after; reached = there }) w₂
+    body-found long = record { strict = refl; procedures = add-one d.procedures; filled = filled-long (sym long) found-more }

@@ -1,12 +1,12 @@
 -- The lines of procedures: whether one follows, and its number of parameters. Its formula is in ProcedureBody. Assumes nothing.
 use Prim.Native.Nat.{ℕ, zero, suc, pred, ◌≤◌, ◌<◌}
 use native.Mathlib.Omega.{arith}
-use mathlib.Core.Path.{◌≡◌, refl, sym, ap, subst, ◌∙◌}
+use mathlib.Core.Path.{◌≡◌, refl, sym, ap, ◌∙◌}
 use mathlib.Core.Bool.{Bool, true, false, ◌&&◌}
 use mathlib.Core.List.{List, [], ◌∷◌, ◌++◌}
 use lib.ListN.{length, drop}
 use lib.Dec.{eqb, ltb}
-use borrow.Author.Tests.{lt-ltb, le-ltb, ltb-true, ltb-false}
+use borrow.Author.Tests.{ltb-true, ltb-false}
 use Rattle.specification.specs.Bytes.{Bytes, bytes, pick, Class, feed, colon, begins}
 use Rattle.specification.specs.Parser.{Reader, Read, refused, found, Parser, give, and_then, ◌>>=◌, ◌>>◌, mark, key}
 use Rattle.specification.specs.Lines.{count, Declared}
@@ -14,22 +14,18 @@ use Rattle.specification.specs.Given.{Item}
 use Rattle.specification.specs.Ast.{Formula, Procedure}
 use Rattle.specification.specs.Formula.{formula}
 use Rattle.specification.specs.Sheet.{with_parameters, with_procedures, procedure_line, procedure_lines, most_procedures, Sheet, sheet}
-use Rattle.specification.proofs.Laws.Contradiction.{contradiction}
 use Rattle.specification.proofs.Laws.Parser.{Post, holds, of-found, bind-post, after, and-true}
 use Rattle.specification.proofs.Laws.ReadLines.{count_post}
 use Rattle.tables.specs.Layout.{max_nesting, max_procs}
-use Rattle.sheet.specs.declared.lines.Count.{Count}
-use Rattle.sheet.specs.declared.lines.Count.TheVariants as counts
 use Rattle.sheet.specs.declared.formula.Limits.{Limits}
 use Rattle.sheet.specs.declared.formula.Reached.{Reached}
-use Rattle.sheet.specs.declared.whole.Progress.{Progress}
-use Rattle.sheet.specs.declared.whole.Progress.TheVariants as progress
+use Rattle.sheet.specs.declared.reader.Progress.{Progress}
 use Rattle.sheet.specs.Reader.{reader_at, line_at}
 use Rattle.sheet.specs.Tables.{Words}
-use Rattle.sheet.specs.Answers.{number_to, Inside, count_read}
+use Rattle.sheet.specs.Answers.{number_to}
 use Rattle.sheet.specs.FormulaLine.{line_formula, refuses_in}
 use Rattle.sheet.specs.Rest.{from_formula, from_procedures, one_more, from_body}
-use Rattle.sheet.specs.Whole.{Filled, Went, Goes, Leads, left_lines, follows, Following, Begun, Nearer, left_over}
+use Rattle.sheet.specs.Whole.{Stopped, Filled, left_lines, follows, Begun}
 use Rattle.sheet.proofs.Alike.{later_read, number-alike}
 
 -- ---- whether a line follows
@@ -53,12 +49,12 @@ unfolding procedure_lines
 none_left refusing D r = refl
 
 module _ (s : Bytes) (n : ℕ) (w : Words) where
-  filled-all : (d : Limits) (x : Reached) → follows s (progress.Read d x) ≡ false → Filled (left_lines d) s n d x w → Filled 0 s n d x w
-  filled-all d x e h = record {
+  pub no_more : (p : Progress) → false ≡ follows s p → Filled (left_lines p.limits) s n p w → Filled 0 s n p w
+  no_more p e h = record {
     declared = D;
     items = h.items;
     locals = h.locals;
-    rest = h.rest ∙ ap (and_then on) (over (ltb d.procedures (most_procedures d.edition)) refl (e) ∙ sym (none_left (refuses_in d) D r));
+    rest = h.rest ∙ ap (and_then on) (over (ltb d.procedures (most_procedures d.edition)) refl (sym e) ∙ sym (none_left (refuses_in d) D r));
     counts = h.counts;
     plain = h.plain;
     small = h.small;
@@ -70,6 +66,12 @@ module _ (s : Bytes) (n : ℕ) (w : Words) where
     enough = h.enough;
   }
     where
+      d : Limits
+      d = p.limits
+
+      x : Reached
+      x = p.reached
+
       D : Declared
       D = h.declared
 
@@ -85,42 +87,6 @@ module _ (s : Bytes) (n : ℕ) (w : Words) where
       over false q f =
           let z : left_lines d ≡ 0 = omega (arith, ltb-false d.procedures (most_procedures d.edition) q) in
           ap (λ k. procedure_lines (refuses_in d) k D r) z ∙ none_left (refuses_in d) D r
-
-  pub no_more : (strict : Bool) (p : Progress) → follows s p ≡ false → Went strict 5 s n p w → Went strict 6 s n p w
-  no_more strict (progress.Refused k q) e h = h
-  no_more strict (progress.Read d x) e h = (h.0, filled-all d x e h.1)
-
--- by what was read
-module _ (s : Bytes) (p : Progress) where
-  pub follows-not : (k q : ℕ) → p ≡ progress.Refused k q → false ≡ follows s p
-  follows-not k q e = sym (ap (follows s) e)
-
-  module _ (d : Limits) (x : Reached) (e : p ≡ progress.Read d x) where
-    pub follows-none : most_procedures d.edition ≤ d.procedures → false ≡ follows s p
-    follows-none h = sym (ap (follows s) e ∙ rw (le-ltb d.procedures (most_procedures d.edition) h))
-
-    pub follows-some : d.procedures < most_procedures d.edition → {b : Bool} → b ≡ begins (bytes "p") (drop x.at s) → b ≡ follows s p
-    follows-some h q = q ∙ sym (ap (follows s) e ∙ rw (lt-ltb d.procedures (most_procedures d.edition) h))
-
--- one line more after it
-module _ (s : Bytes) (n : ℕ) (w : Words) (p : Progress) (h : (follows s p ≡ true) × Goes 5 s n p w) where
-  -- where one follows, something was read
-  pub next-refused : (k q : ℕ) → p ≡ progress.Refused k q → (left_over (progress.Refused k q) < left_over p) × Leads 5 s n p (progress.Refused k q) w
-  next-refused k q e = let z : false ≡ true = sym (ap (follows s) e) ∙ h.0 in contradiction cc
-
-  module _ (d : Limits) (x : Reached) (e : p ≡ progress.Read d x) where
-    pub next-requires : Following s n d x w
-    next-requires = (sym (ap (follows s) e) ∙ h.0, subst (λ q. Goes 5 s n q w) e h.1)
-
-    pub next-read : (r : Progress) → Nearer d r → left_over r < left_over p
-    next-read r z = subst (λ q. left_over r < left_over q) (sym e) (by r z)
-      where
-        more : d.procedures < most_procedures d.edition
-        more = ltb-true d.procedures (most_procedures d.edition) (and-true _ _ next-requires.0).0
-
-        by : (r : Progress) → Nearer d r → left_over r < left_over (progress.Read d x)
-        by (progress.Refused k q) z = omega arith
-        by (progress.Read l y) z = omega (arith, more, few-procedures d.edition)
 
 -- ---- a line up to its formula
 
@@ -190,8 +156,13 @@ number-within k lo hi c r =
     bind-post (count_post lo hi r₁) λ n r₂ h.
     after (mark c r₂) λ u r₃. holds h.1
 
-module _ (s : Bytes) (n : ℕ) (d : Limits) (x : Reached) (w : Words) (h : Following s n d x w) (c : Count)
-    (told : count_read s c ≡ number_to (bytes "proc=") 0 8 colon (line_at s x.at)) where
+module _ (s : Bytes) (n : ℕ) (p : Progress) (w : Words) (h : (follows s p ≡ true) × Filled (left_lines p.limits) s n p w) where
+  abbrev d : Limits
+  d = p.limits
+
+  abbrev x : Reached
+  x = p.reached
+
   abbrev D : Declared
   D = h.1.declared
 
@@ -201,35 +172,26 @@ module _ (s : Bytes) (n : ℕ) (d : Limits) (x : Reached) (w : Words) (h : Follo
   known_more : (d.procedures < most_procedures d.edition) × (begins (bytes "p") (drop x.at s) ≡ true)
   known_more = let (a, b) = and-true _ _ h.0 in (ltb-true _ _ a, b)
 
+  abbrev on : ℕ → Parser Sheet
+  on m = from_body (refuses_in d) (pred (left_lines d)) D h.1.items m
+
   -- the rest of the sheet from the number on
-  headed : sheet d.strict (line_at s 0) ≡
-      and_then (λ m. from_body (refuses_in d) (pred (left_lines d)) D h.1.items m) (later_read x.tokens h.1.locals (count_read s c))
-  headed =
+  headed : {c : Read ℕ} → c ≡ number_to (bytes "proc=") 0 8 colon (line_at s x.at) → sheet d.strict (line_at s 0) ≡ and_then on (later_read x.tokens h.1.locals c)
+  headed told =
       let e : left_lines d ≡ suc (pred (left_lines d)) = omega (arith, known_more.0) in
       h.1.rest ∙ ap (λ k. from_procedures (refuses_in d) k D h.1.items here) e ∙
       body-sheet (refuses_in d) (pred (left_lines d)) D h.1.items here known_more.1 ∙
-      ap (and_then (λ m. from_body (refuses_in d) (pred (left_lines d)) D h.1.items m))
+      ap (and_then on)
       (number-alike x.tokens h.1.locals (bytes "proc=") 0 8 colon (line_at s x.at) ∙ ap (later_read x.tokens h.1.locals) (sym told))
 
-  pub head-refused : (k p : ℕ) → c ≡ counts.Refused k p → Nearer d (progress.Refused k p) × Went d.strict 5 s n (progress.Refused k p) w
-  head-refused k p q = (
-    tt,
-    (
-      headed ∙ ap (λ y. and_then (λ m. from_body (refuses_in d) (pred (left_lines d)) D h.1.items m)
-          (later_read x.tokens h.1.locals (count_read s y))) q,
-      h.1.long,
-    ),
-  )
+  pub head-refused : (e : ℕ × ℕ) → refused e.0 e.1 ≡ number_to (bytes "proc=") 0 8 colon (line_at s x.at) → Stopped d.strict s e
+  head-refused e told = headed told
 
-  pub head-found : (m from : ℕ) → c ≡ counts.Is m from → Inside s c → Begun s n d x m from w
-  head-found m from q i = record {
+  pub head-found : {m from : ℕ} → found m (line_at s from) ≡ number_to (bytes "proc=") 0 8 colon (line_at s x.at) → from ≤ length s → Begun s n p m from w
+  head-found {m} {from} told inside = record {
     more = known_more.0;
     filled = h.1;
-    parameters = of-found (number-within (bytes "proc=") 0 8 colon (line_at s x.at)) (sym told ∙ ap (count_read s) q);
+    parameters = of-found (number-within (bytes "proc=") 0 8 colon (line_at s x.at)) (sym told);
     within = inside;
-    rest = headed ∙ ap (λ y. and_then (λ m. from_body (refuses_in d) (pred (left_lines d)) D h.1.items m)
-        (later_read x.tokens h.1.locals (count_read s y))) q;
+    rest = headed told;
   }
-    where
-      inside : from ≤ length s
-      inside = let z : Inside s (counts.Is m from) = rw q at i in z

@@ -4,31 +4,28 @@ use Prim.Native.Nat.{ℕ, suc, ◌+◌, ◌-◌, ◌<◌, ◌≤◌}
 use native.Mathlib.Numerals.{add-one}
 use native.Mathlib.Omega.{arith}
 use mathlib.Core.Path.{◌≡◌, refl, sym, ap, subst, ◌∙◌}
+use Rattle.std.specs.Prelude.{Ok, Err}
 use mathlib.Core.Bool.{Bool, true, false}
 use mathlib.Core.List.{List, [], ◌∷◌}
-use lib.ListN.{length, drop, set, length-set}
+use lib.ListN.{length, set, length-set}
 use lib.Dec.{ltb}
 use borrow.Author.Tests.{ltb-false, lt-ltb, le-ltb, ne_eqb}
-use Rattle.specification.specs.Bytes.{Bytes, bytes, pick, feed, comma, class_number, begins}
-use Rattle.specification.specs.Parser.{Reader, Read, refused, found, Parser, and_then, ◌>>=◌, ◌>>◌, give, mark}
+use Rattle.specification.specs.Bytes.{Bytes, bytes, pick, feed, comma}
+use Rattle.specification.specs.Parser.{Reader, Read, refused, found, Parser, and_then, ◌>>=◌, ◌>>◌, give, mark, key}
 use Rattle.specification.specs.Lines.{Range, Declared, range, ranges, first_ranged, ranges_line, first_of, length_of}
 use Rattle.specification.proofs.Laws.Elements.{first_next}
-use Rattle.text.specs.Class.{class_at}
 use Rattle.values.specs.Word.{signed}
 use Rattle.values.proofs.Laws.Word.{biased-signed}
 use Rattle.tables.specs.Layout.{max_cells, cell_slot, first_slot, first_at}
 use Rattle.tables.specs.Ranges.{range_slot, range_mark}
 use Rattle.sheet.specs.declared.ranges.Range as code
-use Rattle.sheet.specs.declared.ranges.Range.TheVariants as one
-use Rattle.sheet.specs.declared.ranges.Ranges.{Ranges}
-use Rattle.sheet.specs.declared.ranges.Ranges.TheVariants as line
 use Rattle.sheet.specs.Reader.{line_at}
 use Rattle.sheet.specs.Tables.{Words, range_first, range_width, laid_marks, laid_range, laid_ranges}
-use Rattle.sheet.specs.Answers.{mapped}
+use Rattle.sheet.specs.Answers.{Answer, place_read, mapped}
 use Rattle.sheet.specs.Items.{Declares, Arranged}
-use Rattle.sheet.specs.RangeLine.{between, range_read, lead_of, first_in, end_in, laid_in, laid_by, ranges_read, RangesFound}
-use Rattle.sheet.proofs.Answers.{Origin, mapped-refused, mapped-found}
-use Rattle.sheet.proofs.Keys.{exactly-yes, exactly-no, closed, closed-yes, closed-no}
+use Rattle.sheet.specs.RangeLine.{between, lead_of, first_in, end_in, laid_in, laid_by, RangesFound, RangesDone}
+use Rattle.sheet.proofs.Answers.{on_found, on_refused, Origin, mapped-refused, mapped-found}
+use Rattle.sheet.proofs.Keys.{closed, closed-found, closed-refused}
 use Rattle.sheet.proofs.Marks.{marks-length, span-limit, range_other}
 
 -- ---- its words
@@ -160,21 +157,28 @@ module _ {s : Bytes} {from scalars arrays : ℕ} {w₀ w : Words} {at k : ℕ} (
     pub turn-cells : Arranged scalars arrays w₀ → (first_in scalars w k ≤ end_in scalars w k) × (end_in scalars w k ≤ max_cells)
     turn-cells a = span-cells (st.each a.declared a.declares).declares k l
 
-    module _ (x : code.Range) (read : range_read s x ≡ (lead_of k >> range) (line_at s at)) where
+    module _ {x : Read Range} (read : x ≡ (lead_of k >> range) (line_at s at)) where
       abbrev left : ℕ
       left = scalars + arrays - (k + 1)
 
       turned : (D : Declared) → Declares D scalars arrays w₀ → laid_by D w₀ (ranges (give tt) (scalars + arrays) (line_at s from))
-          ≡ mapped (λ rs. laid_ranges D k rs w) (and_then (onwards (lead_of k) left (line_at s at)) (range_read s x))
+          ≡ mapped (λ rs. laid_ranges D k rs w) (and_then (onwards (lead_of k) left (line_at s at)) x)
       turned D d =
           let q : scalars + arrays - k ≡ suc left = omega arith in
           (st.each D d).rest ∙ ap (λ n. mapped (λ rs. laid_ranges D k rs w) (ranges (lead_of k) n (line_at s at))) q ∙
           ap (mapped (λ rs. laid_ranges D k rs w)) (parted (lead_of k) left (line_at s at) ∙ ap (and_then (onwards (lead_of k) left (line_at s at))) (sym read))
 
-      pub turn-refused : (n p : ℕ) → x ≡ one.Refused n p → Whole (refused n p)
-      turn-refused n p told D d = sym (rw told at (turned D d))
+    pub turn-refused : {n p : ℕ} → refused n p ≡ (lead_of k >> range) (line_at s at) → Whole (refused n p)
+    turn-refused read D d = sym (turned read D d)
 
-      module _ (lo hi e : ℕ) (told : x ≡ one.Is lo hi e) (w' : Words) (laid : w' ≡ laid_in scalars k lo hi w) where
+    module _ (x : code.Range) {e : ℕ} (read : found (between (signed x.lo) (signed x.hi)) (line_at s e) ≡ (lead_of k >> range) (line_at s at)) where
+      abbrev lo : ℕ
+      lo = x.lo
+
+      abbrev hi : ℕ
+      hi = x.hi
+
+      module _ (w' : Words) (laid : w' ≡ laid_in scalars k lo hi w) where
         abbrev this : Range
         this = between (signed lo) (signed hi)
 
@@ -200,12 +204,12 @@ module _ {s : Bytes} {from scalars arrays : ℕ} {w₀ w : Words} {at k : ℕ} (
               let is : w' ≡ laid_range D k this w = laid ∙ laid-is t.declares k l lo hi in
               record {
                 declares = subst (Declares D scalars arrays) (sym is) (laid-declares t.declares k l this);
-                rest = rw told at (turned D d) ∙ more D (ranges (mark comma) left (line_at s e)) ∙ next D w' is;
+                rest = turned read D d ∙ more D (ranges (mark comma) (scalars + arrays - (k + 1)) (line_at s e)) ∙ next D w' is;
               };
         }
           where
             next : (D : Declared) (v : Words) → v ≡ laid_range D k this w →
-                mapped (λ rs. laid_ranges D (k + 1) rs (laid_range D k this w)) (ranges (mark comma) left (line_at s e)) ≡
+                mapped (λ rs. laid_ranges D (k + 1) rs (laid_range D k this w)) (ranges (mark comma) (scalars + arrays - (k + 1)) (line_at s e)) ≡
                 mapped (λ rs. laid_ranges D (k + 1) rs v) (ranges (lead_of (k + 1)) (scalars + arrays - (k + 1)) (line_at s e))
             next D v is = rw (is, ne_eqb (k + 1) 0 (λ e. omega arith))
 
@@ -218,39 +222,38 @@ module _ (edition scalars arrays : ℕ) (s : Bytes) (at : ℕ) where
   line-none w h = record { ranges = []; read = rw (lt-ltb edition first_ranged h); laid = λ D d. refl }
 
   module _ (h : first_ranged ≤ edition) where
-    pub line-no : begins (bytes "ranges=") (drop at s) ≡ false → ranges_line edition (scalars + arrays) (line_at s at) ≡ refused 3 at
+    pub line-no : {k p : ℕ} → refused k p ≡ key (bytes "ranges=") (line_at s at) → ranges_line edition (scalars + arrays) (line_at s at) ≡ refused k p
     unfolding ranges_line
-    line-no b = rw (le-ltb edition first_ranged h) (exactly-no s at (bytes "ranges=") 3 _ b)
+    line-no b = rw (le-ltb edition first_ranged h) (on_refused _ b)
 
-    -- with x what is read of the value, over the words w, which it leaves as w'
-    module _ (key : begins (bytes "ranges=") (drop at s) ≡ true) (w w' : Words) (x : Ranges) (a : Arranged scalars arrays w)
-        (is : (D : Declared) → Declares D scalars arrays w → ranges_read s x w' ≡ laid_by D w (ranges (give tt) (scalars + arrays) (line_at s (at + 7)))) where
+    -- with what is read of the value, over the words w, which it leaves as w'
+    module _ {from : ℕ} (begun : found tt (line_at s from) ≡ key (bytes "ranges=") (line_at s at)) (w w' : Words) (a : Arranged scalars arrays w) where
       abbrev contents : Read (List Range)
-      contents = ranges (give tt) (scalars + arrays) (line_at s (at + 7))
+      contents = ranges (give tt) (scalars + arrays) (line_at s from)
 
       lined : ranges_line edition (scalars + arrays) (line_at s at) ≡ closed contents
       unfolding ranges_line
-      lined = rw (le-ltb edition first_ranged h) (exactly-yes s at (bytes "ranges=") 3 _ key)
+      lined = rw (le-ltb edition first_ranged h) (on_found _ begun)
 
-      -- of some sheet
-      once : ranges_read s x w' ≡ laid_by a.declared w contents
-      once = is a.declared a.declares
+      pub line_refused : {n p : ℕ} → ((D : Declared) → Declares D scalars arrays w → refused n p ≡ laid_by D w contents) →
+          ranges_line edition (scalars + arrays) (line_at s at) ≡ refused n p
+      line_refused is =
+          lined ∙ ap closed (mapped-refused (λ rs. laid_ranges a.declared 0 rs w) _ _ contents (is a.declared a.declares))
 
-      pub line_refused : (n p : ℕ) → x ≡ line.Refused n p → ranges_line edition (scalars + arrays) (line_at s at) ≡ refused n p
-      line_refused n p told = lined ∙ ap closed (mapped-refused (λ rs. laid_ranges a.declared 0 rs w) n p contents (rw told at once))
+      module _ {e : ℕ} (is : (D : Declared) → Declares D scalars arrays w → found w' (line_at s e) ≡ laid_by D w contents) where
+        -- of some sheet
+        origin : Origin (λ rs. laid_ranges a.declared 0 rs w) w' (line_at s e) contents
+        origin = mapped-found (λ rs. laid_ranges a.declared 0 rs w) w' (line_at s e) contents (is a.declared a.declares)
 
-      module _ (e : ℕ) (told : x ≡ line.Read e) where
-        from : Origin (λ rs. laid_ranges a.declared 0 rs w) w' (line_at s e) contents
-        from = mapped-found (λ rs. laid_ranges a.declared 0 rs w) w' (line_at s e) contents (rw told at once)
-
-        pub line-open : (class_at s e ≡ class_number feed → ⊥) → ranges_line edition (scalars + arrays) (line_at s at) ≡ refused 5 e
-        line-open other = lined ∙ ap closed from.is ∙ sym (closed-no s e from.origin other)
-
-        pub line-found : class_at s e ≡ class_number feed → RangesFound edition scalars arrays s at w w' (e + 1)
-        line-found is-feed = record {
-          ranges = from.origin;
-          read = lined ∙ ap closed from.is ∙ sym (closed-yes s e from.origin is-feed);
+        line-found : {q : ℕ} → found tt (line_at s q) ≡ mark feed (line_at s e) → RangesFound edition scalars arrays s at w w' q
+        line-found q = record {
+          ranges = origin.origin;
+          read = lined ∙ ap closed origin.is ∙ closed-found origin.origin s e q;
           laid = λ D d.
-              let f : found w' (line_at s e) ≡ mapped (λ rs. laid_ranges D 0 rs w) contents = rw told at (is D d) in
-              let g : found w' (line_at s e) ≡ found (laid_ranges D 0 from.origin w) (line_at s e) = f ∙ ap (mapped (λ rs. laid_ranges D 0 rs w)) from.is in cc;
+              let g : found w' (line_at s e) ≡ found (laid_ranges D 0 origin.origin w) (line_at s e) = is D d ∙ ap (mapped (λ rs. laid_ranges D 0 rs w)) origin.is in cc;
         }
+
+        -- by the line feed
+        pub line-done : length w' ≡ length w → (x : Answer ℕ) → place_read tt s x ≡ mark feed (line_at s e) → RangesDone edition scalars arrays s at w w' x
+        line-done long (Err k) q = (lined ∙ ap closed origin.is ∙ closed-refused origin.origin s e q, long)
+        line-done long (Ok c) q = line-found q

@@ -3,6 +3,7 @@ use Prim.Native.Nat.{ℕ, zero, suc, ◌+◌, ◌-◌, ◌<◌, ◌≤◌}
 use native.Mathlib.Numerals.{add-one}
 use native.Mathlib.Omega.{arith}
 use mathlib.Core.Path.{◌≡◌, refl, sym, ap, subst, ◌∙◌}
+use Rattle.std.specs.Prelude.{Option, Some, None}
 use mathlib.Core.Bool.{Bool, true, false}
 use mathlib.Core.List.{List, [], ◌∷◌, ◌++◌}
 use lib.ListN.{length, get_or, set, take, drop, length-set, length-append}
@@ -13,15 +14,19 @@ use Rattle.specification.specs.Lines.{Declared}
 use Rattle.specification.proofs.Laws.Contradiction.{contradiction}
 use Rattle.text.proofs.Laws.Run.{end-le, end-part}
 use Rattle.tables.specs.Layout.{max_tokens, max_locals, max_dues, token_slot, dues_at, path_at, operand_at}
+use Rattle.specification.specs.declared.Reason.{Reason}
+use Rattle.specification.specs.declared.Reason.TheVariants as reason
+use Rattle.specification.specs.Refusals.{reason_number}
 use Rattle.sheet.specs.declared.Token.{Token}
-use Rattle.sheet.specs.declared.stack.Entry.{Entry}
+use Rattle.sheet.specs.Stack.{Entry}
 use Rattle.sheet.specs.Reader.{reader_at}
 use Rattle.sheet.specs.Sorts.{upper_sort, procedure_sort, operands_of}
 use Rattle.sheet.specs.Dues.{Due, due_formula, due_term, due_procedure, due_ex, due_range, due_bounds, due_upper}
 use Rattle.sheet.specs.Turn.{room, empties, word_place, opens, binds, word_for, token_in, token_at, fault_at, behind}
 use Rattle.sheet.specs.Tables.{Words, laid_tokens}
-use Rattle.sheet.specs.Stack.{sort_of, Means, Kept, Coded, entry_at, Stacked, Opened}
-use Rattle.sheet.specs.FormulaLine.{Small, Sized, Known, Spells, Refuses, Binds, Begin, refusing_at, whole}
+use Rattle.sheet.specs.Stack.{sort_of, Means, Kept, Coded, sorted, entry_at, Stacked, Opened}
+use Rattle.sheet.proofs.SortNumbers.{sorted-means}
+use Rattle.sheet.specs.FormulaLine.{fault_number, Small, Sized, Known, Spells, Refuses, Binds, Begin, refusing_at, whole}
 use Rattle.sheet.proofs.Turn.{turn-refused, turn-empty, turn-taken}
 use Rattle.sheet.proofs.Bounds.{weights, Fits, fits-turn, fits-length}
 use Rattle.sheet.proofs.Opened.{opens-length}
@@ -71,6 +76,33 @@ empties-place w n word refusing t (due_range k S p) h e = contradiction cc
 empties-place w n word refusing t (due_bounds k S p) h e = contradiction cc
 empties-place w n word refusing t (due_upper k S p x) h e = h.0
 
+-- a reason has a number
+numbered : (r : Reason) → 0 < reason_number r
+numbered reason.Memory = omega arith
+numbered reason.TooLong = omega arith
+numbered reason.Key = omega arith
+numbered reason.Number = omega arith
+numbered reason.Byte = omega arith
+numbered reason.Word = omega arith
+numbered reason.Undeclared = omega arith
+numbered reason.Binder = omega arith
+numbered reason.TooMany = omega arith
+numbered reason.NotRising = omega arith
+numbered reason.Procedure = omega arith
+numbered reason.Parameter = omega arith
+numbered reason.OutOfRange = omega arith
+numbered reason.EmptyRange = omega arith
+numbered reason.NarrowRange = omega arith
+numbered reason.Rounding = omega arith
+numbered reason.EmptyBounds = omega arith
+
+-- of what the code says of a token: why it is refused, or that it may stand
+pub faulty : {o : Option Reason} {r : Reason} → o ≡ Some r → (fault_number o ≡ reason_number r) × (fault_number o ≡ 0 → ⊥)
+faulty {r = r} e = let q = ap fault_number e in (q, λ z. omega (arith, numbered r, q, z))
+
+pub faultless : {o : Option Reason} → o ≡ None → fault_number o ≡ 0
+faultless e = ap fault_number e
+
 -- what a token shows that may stand after so many others, with n entries on the stack
 pub record May (e : Entry) (t : Token) (n count : ℕ) : Type 0 where
   pub room : 0 < e.room
@@ -92,11 +124,11 @@ module _ {b : Begin} {w₀ w : Words} {n count bound at word : ℕ} (i : Reading
 -- the token at a place, with k its refusal
 module _ {b : Begin} {w₀ w : Words} {n count bound at word : ℕ} (i : Reading b w₀ w n count bound at word)
     (small : Small b.limits) (wide : path_at ≤ length w₀) (e : ℕ) (is : e ≡ at + length (run in_token (drop at b.bytes)))
-    (en : Entry) (top : en ≡ entry_at w (n - 1)) (t : Token) (spelt : Spells (take (e - at) (drop at b.bytes)) en.sort b.limits w t)
+    (en : Entry) (top : en ≡ sorted (entry_at w (n - 1))) (t : Token) (spelt : Spells (take (e - at) (drop at b.bytes)) en.sort b.limits w t)
     (k : ℕ) (judged : Refuses b.limits en bound count t k) where
   means : Means en i.due
   unfolding Stacked
-  means = let q : n - 1 ≡ length i.dues = omega (arith, i.depth) in rw (top, q) i.stack.0
+  means = let q : n - 1 ≡ length i.dues = omega (arith, i.depth) in rw (top, q) (sorted-means _ _ i.stack.0)
 
   abbrev refusing : Bool
   refusing = refusing_at b

@@ -1,17 +1,38 @@
--- The answers of the code that reads the lines before the formula's, put into the specification's words. Assumes nothing.
-use Rattle.std.specs.Prelude.{ℕ, ◌≤◌, length, ℤ}
+-- The answers of the code that reads the lines, put into the specification's words. Assumes nothing.
+use Rattle.std.specs.Prelude.{ℕ, ℤ, Result, Ok, Err}
 use Rattle.specification.specs.Bytes.{Bytes, Class}
 use Rattle.specification.specs.Parser.{Read, refused, found, Parser, give, ◌>>=◌, ◌>>◌, mark, key}
 use Rattle.specification.specs.Lines.{count}
 use Rattle.values.specs.Word.{signed}
-use Rattle.sheet.specs.declared.lines.Index.{Index}
-use Rattle.sheet.specs.declared.lines.Integer.{Integer}
-use Rattle.sheet.specs.declared.lines.Count.{Count}
-use Rattle.sheet.specs.declared.lines.Index.TheVariants as index
-use Rattle.sheet.specs.declared.lines.Integer.TheVariants as integer
-use Rattle.sheet.specs.declared.lines.Count.TheVariants as count
 use Rattle.sheet.specs.Codes.{index_word}
 use Rattle.sheet.specs.Reader.{line_at}
+
+-- ---- an answer as a reading
+
+-- what the code answers: a value, or a refusal as its number and place
+abbrev pub Answer : Type 0 → Type 0
+Answer A = Result A (ℕ × ℕ)
+
+-- by what the value is read as
+abbrev pub reading : {A B : Type 0} → (A → Read B) → Answer A → Read B
+reading f (Ok a) = f a
+reading f (Err e) = refused e.0 e.1
+
+-- the place after what was read, which is told beside
+abbrev pub place_read : {A : Type 0} → A → Bytes → Answer ℕ → Read A
+place_read a s r = reading (λ e. found a (line_at s e)) r
+
+-- what was read, made into another thing, and the place after it
+abbrev pub made_read : {A B : Type 0} → (A → B) → Bytes → Answer (A × ℕ) → Read B
+made_read f s r = reading (λ x. found (f x.0) (line_at s x.1)) r
+
+-- as it is
+abbrev pub value_read : {A : Type 0} → Bytes → Answer (A × ℕ) → Read A
+value_read s r = made_read (λ a. a) s r
+
+-- a value's word
+abbrev pub word_read : Bytes → Answer (ℕ × ℕ) → Read ℤ
+word_read s r = made_read signed s r
 
 -- ---- numbers
 
@@ -28,20 +49,3 @@ mapped f (found a r) = found (f a) r
 -- an index that is too large for a word is not declared, so the largest word stands for it
 abbrev pub held_index : Read ℕ → Read ℕ
 held_index r = mapped index_word r
-
-abbrev pub index_read : Bytes → Index → Read ℕ
-index_read s (index.Refused k p) = refused k p
-index_read s (index.Is n e) = found n (line_at s e)
-
-abbrev pub integer_read : Bytes → Integer → Read ℤ
-integer_read s (integer.Refused k p) = refused k p
-integer_read s (integer.Is w e) = found (signed w) (line_at s e)
-
--- what was read lies within the sheet
-abbrev pub Inside : Bytes → Count → Type 0
-Inside s (count.Refused k p) = Unit {0}
-Inside s (count.Is n e) = e ≤ length s
-
-abbrev pub count_read : Bytes → Count → Read ℕ
-count_read s (count.Refused k p) = refused k p
-count_read s (count.Is n e) = found n (line_at s e)

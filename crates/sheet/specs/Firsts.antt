@@ -1,14 +1,14 @@
 -- The line of arrays as the code reads it: each first cell is laid as its length is read, and what the line's answer says.
 -- Assumes nothing.
-use Rattle.std.specs.Prelude.{ℕ, zero, suc, ◌+◌, ◌-◌, ◌≡◌, List, [], length, get_or, drop, set}
+use Rattle.std.specs.Prelude.{ℕ, zero, suc, ◌+◌, ◌-◌, ◌≡◌, List, [], length, get_or, drop, set, Ok, Err}
 use Rattle.specification.specs.Bytes.{Bytes, pick, feed}
 use Rattle.specification.specs.Parser.{Read, refused, found, Parser, give, next}
 use Rattle.specification.specs.Lines.{lengths, sum, Declared, arrays_line}
 use Rattle.tables.specs.Layout.{max_arrays, max_cells, first_slot}
 use Rattle.sheet.specs.declared.arrays.Arrays.{Arrays}
-use Rattle.sheet.specs.declared.arrays.Arrays.TheVariants as arrays
 use Rattle.sheet.specs.Reader.{line_at}
 use Rattle.sheet.specs.Tables.{Words, laid_arrays}
+use Rattle.sheet.specs.Answers.{Answer, made_read}
 
 -- ---- while the line is read
 
@@ -31,9 +31,12 @@ tabled a end w ns = record { arrays = a + length ns; end = end + sum ns; words =
 abbrev pub arrays_value : ℕ → Parser (List ℕ)
 arrays_value scalars r = pick (next feed r.rest) (give []) (lengths max_arrays (max_cells - scalars)) r
 
-abbrev pub arrays_read : Bytes → Arrays → Words → Read Table
-arrays_read s (arrays.Refused k p) w = refused k p
-arrays_read s (arrays.Read n end e) w = found (record { arrays = n; end = end; words = w }) (line_at s e)
+-- what the code's answer tells of the table, with the words that it left
+abbrev pub table_of : Words → Arrays → Table
+table_of w a = record { arrays = a.count; end = a.end; words = w }
+
+abbrev pub arrays_read : Bytes → Answer (Arrays × ℕ) → Words → Read Table
+arrays_read s r w = made_read (table_of w) s r
 
 -- ---- the line's answer, over the words w
 
@@ -46,6 +49,6 @@ pub record ArraysFound (s : Bytes) (at scalars : ℕ) (w : Words) (t : Table) (e
   pub laid : (D : Declared) → D.scalars ≡ scalars → D.arrays ≡ lengths → t.words ≡ laid_arrays D w
 
 -- the line leaves the words as w'
-abbrev pub ArraysDone : Bytes → ℕ → ℕ → Words → Words → Arrays → Type 0
-ArraysDone s at scalars w w' (arrays.Refused k p) = (arrays_line scalars (line_at s at) ≡ refused k p) × (length w' ≡ length w)
-ArraysDone s at scalars w w' (arrays.Read n end e) = ArraysFound s at scalars w (record { arrays = n; end = end; words = w' }) e
+abbrev pub ArraysDone : Bytes → ℕ → ℕ → Words → Words → Answer (Arrays × ℕ) → Type 0
+ArraysDone s at scalars w w' (Err e) = (arrays_line scalars (line_at s at) ≡ refused e.0 e.1) × (length w' ≡ length w)
+ArraysDone s at scalars w w' (Ok x) = ArraysFound s at scalars w (table_of w' x.0) x.1

@@ -1,27 +1,26 @@
 -- A formula's line, and what the code's answers say of it: a refusal, or the tokens laid in the table, at the end of the sheet with the ends
 -- of their subtrees. Assumes nothing.
-use Rattle.std.specs.Prelude.{ℕ, ◌+◌, ◌≤◌, ◌<◌, ◌≡◌, Bool, List, [], ◌++◌, length, replicate, eqb, ltb}
+use Rattle.std.specs.Prelude.{ℕ, ◌+◌, ◌≤◌, ◌<◌, ◌≡◌, Bool, List, [], ◌++◌, length, replicate, eqb, ltb, Option, Some, None, Ok, Err}
 use Rattle.specification.specs.Bytes.{Bytes, bytes, pick, feed}
 use Rattle.specification.specs.Parser.{Reader, Read, refused, found, Parser, give, ◌>>=◌, ◌>>◌, mark, key, finish}
+use Rattle.specification.specs.declared.Reason.{Reason}
+use Rattle.specification.specs.Refusals.{reason_number}
 use Rattle.specification.specs.Lines.{Declared, procedure_of}
 use Rattle.specification.specs.Ast.{truth, Formula}
 use Rattle.specification.specs.Formula.{Locals, formula}
 use Rattle.specification.specs.Sheet.{refuses}
 use Rattle.tables.specs.Layout.{max_tokens, max_scalars, max_locals, max_arrays, max_nesting, max_procs, max_parameters, parameters_at}
 use Rattle.sheet.specs.declared.Token.{Token}
-use Rattle.sheet.specs.declared.stack.Entry.{Entry}
 use Rattle.sheet.specs.declared.formula.Limits.{Limits}
-use Rattle.sheet.specs.declared.formula.Parsed.{Parsed}
-use Rattle.sheet.specs.declared.formula.Parsed.TheVariants as parsed
-use Rattle.sheet.specs.declared.formula.Scanned.{Scanned}
-use Rattle.sheet.specs.declared.formula.Scanned.TheVariants as scanned
+use Rattle.sheet.specs.declared.formula.Reached.{Reached}
 use Rattle.sheet.specs.Codes.{formula_tokens}
 use Rattle.sheet.specs.Reader.{reader_at}
+use Rattle.sheet.specs.Answers.{Answer}
 use Rattle.sheet.specs.Dues.{Due, due_formula, left_here}
 use Rattle.sheet.specs.Turn.{Limited, room, fault_of, binds, word_for, token_in}
 use Rattle.sheet.specs.Tables.{Words, laid_tokens, laid_ends}
 use Rattle.sheet.specs.Ends.{tokens_in}
-use Rattle.sheet.specs.Stack.{Bits, sort_of, Means, Beside}
+use Rattle.sheet.specs.Stack.{Bits, Entry, sort_of, Means, Beside}
 
 -- a formula and the line feed after it
 unfoldable pub line_formula : Bool → Declared → Parser Formula
@@ -81,6 +80,11 @@ counted d = record {
 abbrev pub Spells : Bytes → ℕ → Limits → Words → Token → Type 0
 Spells bs sort l w t = (D : Declared) (d : Due) → Known l w D → sort ≡ sort_of d → t ≡ token_in D d (word_for D d bs)
 
+-- the number of the reason why it is refused, 0 where it may stand
+abbrev pub fault_number : Option Reason → ℕ
+fault_number None = 0
+fault_number (Some r) = reason_number r
+
 -- its refusal where d is due: 9 where it nests too deep or is the 1,025th, then its own
 abbrev pub refusal_of : Limits → Due → Locals → ℕ → Token → ℕ
 refusal_of l d B n t = pick (eqb (room d) 0) 9 (pick (ltb n max_tokens) (fault_of (counted l) d B t) 9)
@@ -130,9 +134,9 @@ pub record Through (b : Begin) (w w' : Words) (n e m : ℕ) : Type 0 where
   pub words : Beside (laid_tokens b.tokens tokens w) w'
   pub all : (D : Declared) → Known b.limits w D → whole b D ≡ found tokens (reader_at b.bytes e n locals)
 
-abbrev pub Scans : Begin → Words → Words → Scanned → Type 0
-Scans b w w' (scanned.Refused k p) = (length w' ≡ length w) × ((D : Declared) → Known b.limits w D → whole b D ≡ refused k p)
-Scans b w w' (scanned.Read n e m) = Through b w w' n e m
+abbrev pub Scans : Begin → Words → Words → Answer Reached → Type 0
+Scans b w w' (Err e) = (length w' ≡ length w) × ((D : Declared) → Known b.limits w D → whole b D ≡ refused e.0 e.1)
+Scans b w w' (Ok x) = Through b w w' x.tokens x.at x.bound
 
 -- ---- the line
 
@@ -148,13 +152,13 @@ pub record Closed (b : Begin) (D : Declared) (w w' : Words) (n e m : ℕ) : Type
   pub words : Beside (laid_tokens b.tokens (formula_tokens formula) w) w'
 
 -- no token and no byte was read beyond the last
-abbrev pub Within : Bytes → Scanned → Type 0
-Within s (scanned.Refused k p) = Unit {0}
-Within s (scanned.Read n e m) = (n ≤ max_tokens) × (e ≤ length s)
+abbrev pub Within : Bytes → Answer Reached → Type 0
+Within s (Err e) = Unit {0}
+Within s (Ok x) = (x.tokens ≤ max_tokens) × (x.at ≤ length s)
 
-abbrev pub Closes : Begin → Declared → Words → Words → Scanned → Type 0
-Closes b D w w' (scanned.Refused k p) = (line_formula (refusing_at b) D (at_begin b) ≡ refused k p) × (length w' ≡ length w)
-Closes b D w w' (scanned.Read n e m) = Closed b D w w' n e m
+abbrev pub Closes : Begin → Declared → Words → Words → Answer Reached → Type 0
+Closes b D w w' (Err e) = (line_formula (refusing_at b) D (at_begin b) ≡ refused e.0 e.1) × (length w' ≡ length w)
+Closes b D w w' (Ok x) = Closed b D w w' x.tokens x.at x.bound
 
 -- the formula's line was read, and the table has n tokens: those before it, and its own
 pub record Laid (b : Begin) (D : Declared) (w w' : Words) (n : ℕ) : Type 0 where
@@ -167,6 +171,6 @@ pub record Laid (b : Begin) (D : Declared) (w w' : Words) (n : ℕ) : Type 0 whe
   pub words :
       Beside (laid_ends 0 (tokens_in w 0 b.tokens ++ formula_tokens formula) (laid_tokens b.tokens (formula_tokens formula) w)) w'
 
-abbrev pub LineRead : Begin → Declared → Words → Words → Parsed → Type 0
-LineRead b D w w' (parsed.Refused k p) = (formula_rest (refusing_at b) D (at_begin b) ≡ refused k p) × (length w' ≡ length w)
-LineRead b D w w' (parsed.Read n) = Laid b D w w' n
+abbrev pub LineRead : Begin → Declared → Words → Words → Answer ℕ → Type 0
+LineRead b D w w' (Err e) = (formula_rest (refusing_at b) D (at_begin b) ≡ refused e.0 e.1) × (length w' ≡ length w)
+LineRead b D w w' (Ok n) = Laid b D w w' n

@@ -1,26 +1,21 @@
 -- The line of given values as the code reads it: names with held indices, cells found in the work words, each item laid as it is
 -- read, and what the line's answer says. Assumes nothing.
-use Rattle.std.specs.Prelude.{ℕ, ◌+◌, ◌≤◌, ◌<◌, ◌≡◌, List, [], leb, ltb, length, ℤ}
-use Rattle.specification.specs.Bytes.{Bytes, pick, feed, colon, point}
+use Rattle.std.specs.Prelude.{ℕ, ◌+◌, ◌≤◌, ◌<◌, ◌≡◌, List, [], leb, ltb, length, ℤ, Option, Some, None, Ok, Err}
+use Rattle.specification.specs.Bytes.{Bytes, pick, feed, colon}
 use Rattle.specification.specs.Parser.{Read, refused, found, Parser, give, refuse, require, next, mark, ◌>>=◌, ◌>>◌}
-use Rattle.specification.specs.Lines.{index, value, Declared, cells, CellName, scalar, element}
+use Rattle.specification.specs.Lines.{value, Declared, cells, CellName, scalar, element}
 use Rattle.specification.specs.Given.{Item, items, given_line}
 use Rattle.values.specs.Word.{biased, signed}
 use Rattle.tables.specs.Layout.{max_arrays, max_cells, first_at, value_at}
 use Rattle.tables.specs.Ranges.{allows}
 use Rattle.sheet.specs.declared.given.Name.{Name}
 use Rattle.sheet.specs.declared.given.Name.TheVariants as names
-use Rattle.sheet.specs.declared.given.Cell.{Cell}
-use Rattle.sheet.specs.declared.given.Cell.TheVariants as cell
 use Rattle.sheet.specs.declared.given.Entry.{Entry}
-use Rattle.sheet.specs.declared.given.Entry.TheVariants as entry
-use Rattle.sheet.specs.declared.given.Given.{Given}
-use Rattle.sheet.specs.declared.given.Given.TheVariants as given
 use Rattle.sheet.specs.Codes.{index_word}
 use Rattle.sheet.specs.Reader.{line_at}
 use Rattle.sheet.specs.Tables.{Words, mark_of, laid_given}
 use Rattle.sheet.specs.Held.{ArraysAt, RangesAt}
-use Rattle.sheet.specs.Answers.{mapped, held_index}
+use Rattle.sheet.specs.Answers.{Answer, place_read, made_read, mapped}
 
 -- ---- names
 
@@ -31,26 +26,25 @@ held_name (element a i) = element (index_word a) (index_word i)
 abbrev pub held_names : Read CellName → Read CellName
 held_names r = mapped held_name r
 
--- the element of an array, after the array's index
-unfoldable pub element_after : ℕ → Parser CellName
-element_after a = mark point >> λ r. mapped (λ i. element a i) (held_index (index r))
+-- the name that the code's answer tells
+abbrev pub name_of : Name → CellName
+name_of (names.Scalar n) = scalar n
+name_of (names.Element a i) = element a i
 
-abbrev pub name_read : Bytes → Name → Read CellName
-name_read s (names.Refused k p) = refused k p
-name_read s (names.Scalar n e) = found (scalar n) (line_at s e)
-name_read s (names.Element a i e) = found (element a i) (line_at s e)
+abbrev pub name_read : Bytes → Answer (Name × ℕ) → Read CellName
+name_read s r = made_read name_of s r
 
--- ---- cells
+-- ---- cells: none where the name is not declared
 
-unfoldable pub scalar_in : ℕ → ℕ → Cell
-scalar_in scalars n = pick (ltb n scalars) (cell.Is n) cell.Undeclared
+unfoldable pub scalar_in : ℕ → ℕ → Option ℕ
+scalar_in scalars n = pick (ltb n scalars) (Some n) None
 
 -- by the first cells in the words
-unfoldable pub element_in : ℕ → Words → ℕ → ℕ → Cell
+unfoldable pub element_in : ℕ → Words → ℕ → ℕ → Option ℕ
 element_in arrays w a i =
     pick (ltb a arrays)
-    (pick (ltb (first_at w a + i) (first_at w (a + 1))) (cell.Is (first_at w a + i)) cell.Undeclared)
-    cell.Undeclared
+    (pick (ltb (first_at w a + i) (first_at w (a + 1))) (Some (first_at w a + i)) None)
+    None
 
 -- ---- items
 
@@ -58,22 +52,21 @@ abbrev pub item_of : ℕ → ℤ → Item
 item_of c z = record { cell = c; value = z }
 
 -- a cell within the limit
-abbrev pub Below : Cell → Type 0
-Below cell.Undeclared = Unit {0}
-Below (cell.Is c) = c < max_cells
+abbrev pub Below : Option ℕ → Type 0
+Below None = Unit {0}
+Below (Some c) = c < max_cells
 
 -- 7 at the item's place, then 10, then 13 by the cell's mark
-abbrev pub judged : ℕ → ℕ → Words → Cell → ℤ → Parser Item
-judged p floor w cell.Undeclared z = refuse 7 p
-judged p floor w (cell.Is c) z = require (leb floor c) 10 p (require (allows w (value_at w c) (biased z)) 13 p (give (item_of c z)))
+abbrev pub judged : ℕ → ℕ → Words → Option ℕ → ℤ → Parser Item
+judged p floor w None z = refuse 7 p
+judged p floor w (Some c) z = require (leb floor c) 10 p (require (allows w (value_at w c) (biased z)) 13 p (give (item_of c z)))
 
 -- the rest of an item after its name
-unfoldable pub after_name : ℕ → ℕ → Words → Cell → Parser Item
+unfoldable pub after_name : ℕ → ℕ → Words → Option ℕ → Parser Item
 after_name p floor w c = mark colon >> (value >>= judged p floor w c)
 
-abbrev pub entry_read : Bytes → Entry → Read Item
-entry_read s (entry.Refused k p) = refused k p
-entry_read s (entry.Is c z e) = found (item_of c (signed z)) (line_at s e)
+abbrev pub entry_read : Bytes → Answer (Entry × ℕ) → Read Item
+entry_read s r = made_read (λ i. item_of i.cell (signed i.word)) s r
 
 -- ---- the words have the arrays of a sheet
 
@@ -104,9 +97,8 @@ pub record Furnished (scalars arrays : ℕ) (w : Words) : Type 0 where
 abbrev pub laid_items : Words → Read (List Item) → Read Words
 laid_items w r = mapped (λ is. laid_given is w) r
 
-abbrev pub given_read : Bytes → Given → Words → Read Words
-given_read s (given.Refused k p) w = refused k p
-given_read s (given.Read e) w = found w (line_at s e)
+abbrev pub given_read : Bytes → Answer ℕ → Words → Read Words
+given_read s r w = place_read w s r
 
 -- the line's value: empty, or items
 abbrev pub given_value : Declared → Parser (List Item)
@@ -118,6 +110,6 @@ pub record GivenFound (D : Declared) (s : Bytes) (at : ℕ) (w w' : Words) (e : 
   pub read : given_line D (line_at s at) ≡ found items (line_at s e)
   pub laid : w' ≡ laid_given items w
 
-abbrev pub GivenDone : Declared → Bytes → ℕ → Words → Words → Given → Type 0
-GivenDone D s at w w' (given.Refused k p) = (given_line D (line_at s at) ≡ refused k p) × (length w' ≡ length w)
-GivenDone D s at w w' (given.Read e) = GivenFound D s at w w' e
+abbrev pub GivenDone : Declared → Bytes → ℕ → Words → Words → Answer ℕ → Type 0
+GivenDone D s at w w' (Err e) = (given_line D (line_at s at) ≡ refused e.0 e.1) × (length w' ≡ length w)
+GivenDone D s at w w' (Ok e) = GivenFound D s at w w' e

@@ -1,6 +1,7 @@
 -- Words by their numbers: a word's bytes packed into one number, by which the code looks it up, and the code that stands for it.
 -- Assumes nothing.
 use Rattle.std.specs.Prelude.{ℕ, ◌+◌, ◌*◌, List, [], ◌∷◌, eqb}
+use Rattle.std.specs.Prelude as code
 use Rattle.std.proofs.Math.Option.{Option, none, some as just}
 use Rattle.specification.specs.Bytes.{Bytes, pick, same}
 use Rattle.specification.specs.Words.{Entry}
@@ -25,6 +26,10 @@ code_in t (e ∷ es) = let r = code_in t es in pick (same t e.text) (entry_code 
 unfoldable pub code_by : ℕ → List Entry → ℕ
 code_by k [] = 0
 code_by k (e ∷ es) = let r = code_by k es in pick (eqb k (packed e.text)) (entry_code e) r
+
+-- no word has the code 0, which says that there is none
+abbrev pub code_or_none : ℕ → code.Option ℕ
+code_or_none c = pick (eqb c 0) code.None (code.Some c)
 
 -- a name's token, by the code of its letter and its index
 abbrev pub indexed : ℕ → Option ℕ → Token

@@ -1,20 +1,16 @@
 -- The line of ranges as the code reads it: each range is laid as it is read, by the first cells in the words, and what the line's answer says.
 -- Assumes nothing.
-use Rattle.std.specs.Prelude.{ℕ, ◌+◌, ◌-◌, ◌≡◌, List, ltb, eqb, length, set, ℤ}
-use Rattle.std.specs.Int.Signed.{le_z}
-use Rattle.specification.specs.Bytes.{Bytes, pick, comma, colon}
-use Rattle.specification.specs.Parser.{Read, refused, found, Parser, give, require, mark, ◌>>=◌, ◌>>◌}
-use Rattle.specification.specs.Lines.{value, Range, Declared, range, ranges_line}
+use Rattle.std.specs.Prelude.{ℕ, ◌+◌, ◌-◌, ◌≡◌, List, ltb, eqb, length, set, ℤ, Ok, Err}
+use Rattle.specification.specs.Bytes.{Bytes, pick, comma}
+use Rattle.specification.specs.Parser.{Read, refused, found, Parser, give, mark, ◌>>◌}
+use Rattle.specification.specs.Lines.{Range, Declared, range, ranges_line}
 use Rattle.values.specs.Word.{signed}
 use Rattle.tables.specs.Layout.{first_at}
 use Rattle.tables.specs.Ranges.{range_slot, range_mark}
 use Rattle.sheet.specs.declared.ranges.Range as code
-use Rattle.sheet.specs.declared.ranges.Range.TheVariants as one
-use Rattle.sheet.specs.declared.ranges.Ranges.{Ranges}
-use Rattle.sheet.specs.declared.ranges.Ranges.TheVariants as ranges
 use Rattle.sheet.specs.Reader.{line_at}
 use Rattle.sheet.specs.Tables.{Words, laid_marks, laid_ranges}
-use Rattle.sheet.specs.Answers.{mapped}
+use Rattle.sheet.specs.Answers.{Answer, place_read, made_read, mapped}
 use Rattle.sheet.specs.Items.{Declares}
 
 -- ---- one range
@@ -22,13 +18,8 @@ use Rattle.sheet.specs.Items.{Declares}
 abbrev pub between : ℤ → ℤ → Range
 between lo hi = record { low = lo; high = hi }
 
--- the rest of a range after its lowest value, which began at a place
-unfoldable pub up_to : ℕ → ℤ → Parser Range
-up_to p lo = mark colon >> (value >>= λ hi. require (le_z lo hi) 14 p (give (between lo hi)))
-
-abbrev pub range_read : Bytes → code.Range → Read Range
-range_read s (one.Refused k p) = refused k p
-range_read s (one.Is lo hi e) = found (between (signed lo) (signed hi)) (line_at s e)
+abbrev pub range_read : Bytes → Answer (code.Range × ℕ) → Read Range
+range_read s r = made_read (λ x. between (signed x.lo) (signed x.hi)) s r
 
 -- what comes before range k: nothing before the first, else a comma
 abbrev pub lead_of : ℕ → Parser (Unit {0})
@@ -55,9 +46,8 @@ laid_in scalars k lo hi w =
 abbrev pub laid_by : Declared → Words → Read (List Range) → Read Words
 laid_by D w r = mapped (λ rs. laid_ranges D 0 rs w) r
 
-abbrev pub ranges_read : Bytes → Ranges → Words → Read Words
-ranges_read s (ranges.Refused k p) w = refused k p
-ranges_read s (ranges.Read e) w = found w (line_at s e)
+abbrev pub ranges_read : Bytes → Answer ℕ → Words → Read Words
+ranges_read s r w = place_read w s r
 
 -- the ranges that were read, and what they make of the words of a sheet with such scalars and arrays
 pub record RangesFound (edition scalars arrays : ℕ) (s : Bytes) (at : ℕ) (w w' : Words) (e : ℕ) : Type 0 where
@@ -65,6 +55,6 @@ pub record RangesFound (edition scalars arrays : ℕ) (s : Bytes) (at : ℕ) (w 
   pub read : ranges_line edition (scalars + arrays) (line_at s at) ≡ found ranges (line_at s e)
   pub laid : (D : Declared) → Declares D scalars arrays w → w' ≡ laid_ranges D 0 ranges w
 
-abbrev pub RangesDone : ℕ → ℕ → ℕ → Bytes → ℕ → Words → Words → Ranges → Type 0
-RangesDone edition scalars arrays s at w w' (ranges.Refused n p) = (ranges_line edition (scalars + arrays) (line_at s at) ≡ refused n p) × (length w' ≡ length w)
-RangesDone edition scalars arrays s at w w' (ranges.Read e) = RangesFound edition scalars arrays s at w w' e
+abbrev pub RangesDone : ℕ → ℕ → ℕ → Bytes → ℕ → Words → Words → Answer ℕ → Type 0
+RangesDone edition scalars arrays s at w w' (Err e) = (ranges_line edition (scalars + arrays) (line_at s at) ≡ refused e.0 e.1) × (length w' ≡ length w)
+RangesDone edition scalars arrays s at w w' (Ok e) = RangesFound edition scalars arrays s at w w' e

@@ -1,7 +1,7 @@
 -- The rest of the sheet after some of its lines, as a reader of its own: from each line on the specification reads as this says.
 -- Assumes nothing.
-use Rattle.std.specs.Prelude.{ℕ, zero, suc, ◌+◌, Bool, List, [], ◌∷◌, ◌++◌, length, eqb}
-use Rattle.specification.specs.Bytes.{bytes, feed, pick}
+use Rattle.std.specs.Prelude.{ℕ, zero, suc, ◌+◌, Bool, List, [], ◌∷◌, ◌++◌, length}
+use Rattle.specification.specs.Bytes.{bytes, feed}
 use Rattle.specification.specs.Parser.{Parser, and_then, give, ◌>>=◌, ◌>>◌, mark, key, finish}
 use Rattle.specification.specs.Lines.{line, Range, Declared, arrays_line, ranges_line}
 use Rattle.specification.specs.Given.{Item, given_line}
@@ -49,30 +49,18 @@ from_ranges d ns = ranges_line d.edition (d.scalars + length ns) >>= λ rs. from
 abbrev pub from_arrays : Limits → Parser Sheet
 from_arrays d = arrays_line d.scalars >>= from_ranges d
 
--- the line with one number that comes k-th, and what is declared with it
-abbrev pub number_of : ℕ → Parser ℕ
-number_of k =
-    pick (eqb k 0) (line (bytes "edition=") 1 3)
-    (pick (eqb k 1) (line (bytes "scalars=") 0 max_scalars)
-    (line (bytes "locals=") 0 max_locals))
-
 abbrev pub limits : Bool → ℕ → ℕ → ℕ → ℕ → ℕ → ℕ → Limits
 limits b e v l a p m = record { strict = b; edition = e; scalars = v; locals = l; arrays = a; procedures = p; parameters = m }
 
-abbrev pub with_number : ℕ → Limits → ℕ → Limits
-with_number k d n =
-    pick (eqb k 0) (limits d.strict n d.scalars d.locals d.arrays d.procedures d.parameters)
-    (pick (eqb k 1) (limits d.strict d.edition n d.locals d.arrays d.procedures d.parameters)
-    (limits d.strict d.edition d.scalars n d.arrays d.procedures d.parameters))
-
+-- from the locals on, from the scalars on, and from the edition on
 abbrev pub from_locals : Limits → Parser Sheet
-from_locals d = number_of 2 >>= λ n. from_arrays (with_number 2 d n)
+from_locals d = line (bytes "locals=") 0 max_locals >>= λ n. from_arrays (limits d.strict d.edition d.scalars n d.arrays d.procedures d.parameters)
 
 abbrev pub from_scalars : Limits → Parser Sheet
-from_scalars d = number_of 1 >>= λ n. from_locals (with_number 1 d n)
+from_scalars d = line (bytes "scalars=") 0 max_scalars >>= λ n. from_locals (limits d.strict d.edition n d.locals d.arrays d.procedures d.parameters)
 
 abbrev pub from_edition : Limits → Parser Sheet
-from_edition d = number_of 0 >>= λ n. from_scalars (with_number 0 d n)
+from_edition d = line (bytes "edition=") 1 3 >>= λ n. from_scalars (limits d.strict n d.scalars d.locals d.arrays d.procedures d.parameters)
 
 -- after k of the first three lines
 abbrev pub after_numbers : ℕ → Limits → Parser Sheet

@@ -1,9 +1,11 @@
 -- The sorts of what is due, and the operands of each code: one definition gives their sort and how many there are, and from it follows how
--- many stand in the table. src/sorts.rt has the same numbers for the code. Assumes nothing.
+-- many stand in the table. The enum of src/sorts.rt has them in the order of their numbers. Assumes nothing.
 use Rattle.std.specs.Prelude.{ℕ, ◌-◌, eqb, leb}
 use Rattle.specification.specs.Bytes.{pick, between}
 use Rattle.tables.specs.Codes.{and_code, imp_code, not_code, eq_code, ge_code, ex_code, some_code, all_code, call_code, first_operation, last_operation, array_code, procedure_code}
-use Rattle.sheet.specs.declared.sorts.Operands.{Operands}
+use Rattle.sheet.specs.declared.sorts.Sort.{Sort}
+use Rattle.sheet.specs.declared.sorts.Sort.TheVariants as sort
+use Rattle.sheet.specs.declared.sorts.Operands as code
 
 -- ---- sorts
 
@@ -33,7 +35,25 @@ ex_sort = 5
 abbrev pub range_sort : ℕ
 range_sort = 6
 
+-- the number of a sort
+abbrev pub sort_number : Sort → ℕ
+sort_number sort.Formula = formula_sort
+sort_number sort.Term = term_sort
+sort_number sort.Upper = upper_sort
+sort_number sort.Bounds = bounds_sort
+sort_number sort.Procedure = procedure_sort
+sort_number sort.ExLocal = ex_sort
+sort_number sort.RangeLocal = range_sort
+
 -- ---- operands
+
+-- the number of their sort, and how many they are
+pub record Operands : Type 0 where
+  pub sort : ℕ
+  pub count : ℕ
+
+abbrev pub numbered : code.Operands → Operands
+numbered o = record { sort = sort_number o.sort; count = o.count }
 
 abbrev pub operands : ℕ → ℕ → Operands
 operands s n = record { sort = s; count = n }

@@ -1,13 +1,13 @@
 -- What is due, as it stands in the work words: three words an entry, the topmost last; a set of locals is a number, with a bit for each.
 -- Assumes nothing.
-use Rattle.std.specs.Prelude.{ℕ, ◌+◌, ◌-◌, ◌<◌, ◌≤◌, ◌≡◌, List, [], ◌∷◌, ◌++◌, length, get_or, set, replicate}
+use Rattle.std.specs.Prelude.{ℕ, ◌+◌, ◌-◌, ◌<◌, ◌≤◌, ◌≡◌, List, [], ◌∷◌, ◌++◌, length, get_or, set, replicate, min}
 use Rattle.specification.specs.Formula.{Locals, has}
 use Rattle.tables.specs.Layout.{max_locals, due_slot, dues_at, dues_end, operand_at}
 use Rattle.tables.specs.Locals.{in_set}
 use Rattle.tables.specs.Codes.{procedure_code}
 use Rattle.sheet.specs.declared.Token.{Token}
-use Rattle.sheet.specs.declared.stack.Entry.{Entry}
-use Rattle.sheet.specs.Sorts.{formula_sort, term_sort, upper_sort, bounds_sort, procedure_sort, ex_sort, range_sort}
+use Rattle.sheet.specs.declared.stack.Entry as code
+use Rattle.sheet.specs.Sorts.{formula_sort, term_sort, upper_sort, bounds_sort, procedure_sort, ex_sort, range_sort, sort_number}
 use Rattle.sheet.specs.Dues.{Due, due_formula, due_term, due_procedure, due_ex, due_range, due_bounds, due_upper}
 use Rattle.sheet.specs.Turn.{room, opens}
 use Rattle.sheet.specs.Tables.{Words}
@@ -19,6 +19,15 @@ pub record Bits (m : ℕ) (S : Locals) : Type 0 where
   pub at : (l : ℕ) → l < max_locals → in_set m l ≡ has l S
 
 -- ---- entries
+
+-- the three words of an entry: the number of its sort, how much deeper nesting may go, and the locals in scope
+pub record Entry : Type 0 where
+  pub sort : ℕ
+  pub room : ℕ
+  pub scope : ℕ
+
+abbrev pub worded : code.Entry → Entry
+worded e = record { sort = sort_number e.sort; room = e.room; scope = e.scope }
 
 abbrev pub sort_of : Due → ℕ
 sort_of (due_formula k S) = formula_sort
@@ -62,6 +71,10 @@ entry s k m = record { sort = s; room = k; scope = m }
 -- the i-th entry from the bottom
 abbrev pub entry_at : Words → ℕ → Entry
 entry_at w i = entry (get_or w (due_slot i) 0) (get_or w (due_slot i + 1) 0) (get_or w (due_slot i + 2) 0)
+
+-- an entry with the last sort for what is no sort's number
+abbrev pub sorted : Entry → Entry
+sorted e = entry (min e.sort range_sort) e.room e.scope
 
 -- the words with an entry at i
 abbrev pub entered : Words → ℕ → Entry → Words

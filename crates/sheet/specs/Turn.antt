@@ -11,8 +11,7 @@ use Rattle.tables.specs.Layout.{max_tokens, max_scalars, max_locals, max_arrays,
 use Rattle.tables.specs.Codes.{first_formula, last_formula, first_term, last_term, constant_code, scalar_code, local_code, array_code, parameter_code, bad_constant_code, procedure_code, last_code}
 use Rattle.sheet.specs.declared.Token.{Token}
 use Rattle.sheet.specs.Codes.{token, token_of}
-use Rattle.sheet.specs.declared.sorts.Operands.{Operands}
-use Rattle.sheet.specs.Sorts.{formula_sort, term_sort, procedure_sort, ex_sort, operands_of}
+use Rattle.sheet.specs.Sorts.{formula_sort, term_sort, procedure_sort, ex_sort, Operands, operands_of}
 use Rattle.sheet.specs.Dues.{Due, due_formula, due_term, due_procedure, due_ex, due_range, due_bounds, due_upper}
 
 -- the documents' limits on what is declared

@@ -23,10 +23,8 @@ fn subtree(w: &[u32], n: u32, i: u32) -> u32
     ensures { result ≡ end_in (tokens_in w.now 0 n) i }
 {
     let mut e = i + 1;
-    let mut k = sorts::arity(tables::code(w, i));
-    while 0 < k {
+    for _ in 0..sorts::arity(tables::code(w, i)) {
         e = end(w, n, e);
-        k -= 1;
     }
     e
 }
@@ -36,9 +34,7 @@ pub(crate) fn ends(w: &mut [u32], n: u32)
     requires { (n ≤ max_tokens) × (path_at ≤ length w.old) }
     ensures { w.new ≡ laid_ends 0 (tokens_in w.old 0 n) w.old }
 {
-    let mut i = n;
-    while 0 < i {
-        i -= 1;
+    for i in (0..n).rev() {
         let e = subtree(w, n, i);
         tables::set_end(w, i, e);
     }

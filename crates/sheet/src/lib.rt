@@ -15,14 +15,12 @@ mod lines;
 mod procedures;
 mod ranges;
 mod reader;
-mod refusals;
 mod sorts;
 mod stack;
-mod whole;
 mod words;
 
-use crate::lines::Count;
-use crate::whole::Progress;
+use specification::Refusal;
+use text::Class;
 
 // A token: its code and operand (a constant's word, or the number of a scalar, local, array, parameter or procedure).
 #[derive(Clone, Copy)]
@@ -31,19 +29,13 @@ pub struct Token {
     pub operand: u32,
 }
 
-// A sheet as it was read: a refusal's number and place, or how many scalars, arrays and tokens there are, and the formula's first token.
+// A sheet as it was read: how many scalars, arrays and tokens there are, and the formula's first token.
 #[derive(Clone, Copy)]
-pub enum Reading {
-    Refused {
-        number: u32,
-        place: usize,
-    },
-    Read {
-        scalars: u32,
-        arrays: u32,
-        tokens: u32,
-        formula: u32,
-    },
+pub struct Reading {
+    pub scalars: u32,
+    pub arrays: u32,
+    pub tokens: u32,
+    pub formula: u32,
 }
 
 // Where the words have what is due while formulas are read, and its end.
@@ -56,56 +48,52 @@ fn zero(w: &mut [u32], from: usize, to: usize)
     requires { (from ≤ to) × (to ≤ length w.old) }
     ensures { Zeroed w.old w.new from to }
 {
-    let mut i = from;
-    while i < to {
-        w[i] = 0;
-        i += 1;
-    }
+    w[from..to].fill(0);
 }
 
 // Every word is 0.
 pub fn clear(w: &mut [u32])
     ensures { w.new ≡ replicate (length w.old) 0 }
 {
-    zero(w, 0, w.len());
+    w.fill(0);
 }
 
 // Reads a sheet: its tables stand in the work words, and nothing else; where it is refused they are all 0. Only strict reading refuses empty
 // ranges.
-pub fn read_sheet(s: &[u8], strict: bool, w: &mut [u32]) -> Reading
+pub fn read_sheet(s: &[u8], strict: bool, w: &mut [u32]) -> Result<Reading, Refusal>
     requires { path_at ≤ length w.old }
     ensures { (result ≡ reading_of (read_with strict s.now))
         × (w.new ≡ words_of (length w.old) (read_with strict s.now)) }
 {
     clear(w);
-    match whole::all_lines(s, strict, w) {
-        Progress::Refused(number, place) => {
+    match reader::all_lines(s, strict, w) {
+        Err(refusal) => {
             clear(w);
-            Reading::Refused { number, place }
+            Err(refusal)
         }
-        Progress::Read(d, x) => {
+        Ok(read) => {
             zero(w, DUES, DUES_END);
-            Reading::Read {
-                scalars: d.scalars,
-                arrays: d.arrays,
-                tokens: x.tokens,
-                formula: x.first,
-            }
+            Ok(Reading {
+                scalars: read.limits.scalars,
+                arrays: read.limits.arrays,
+                tokens: read.reached.tokens,
+                formula: read.reached.first,
+            })
         }
     }
 }
 
 // The same, where only this edition is read: another is refused at the edition.
-pub fn read_only(s: &[u8], edition: u32, strict: bool, w: &mut [u32]) -> Reading
+pub fn read_only(s: &[u8], edition: u32, strict: bool, w: &mut [u32]) -> Result<Reading, Refusal>
     requires { (edition < 4294967295) × (path_at ≤ length w.old) }
     ensures { (result ≡ reading_of (read_only strict edition s.now))
         × (w.new ≡ words_of (length w.old) (read_only strict edition s.now)) }
 {
-    match lines::count_line(s, 0, b"edition=", edition, edition, text::FEED) {
-        Count::Refused(number, place) => {
+    match lines::count_line(s, 0, b"edition=", edition, edition, Class::Feed) {
+        Err(refusal) => {
             clear(w);
-            Reading::Refused { number, place }
+            Err(refusal)
         }
-        Count::Is(_, _) => read_sheet(s, strict, w),
+        Ok(_) => read_sheet(s, strict, w),
     }
 }

@@ -1,35 +1,57 @@
-// The lines with one number, and the readers of numbers that the lines before the formula's share.
-ghost use Rattle.std.specs.Prelude.{◌≡◌, ◌<◌, drop};
-ghost use Rattle.specification.specs.Bytes.{Class, class_number, run, in_number};
+// What the readers of lines share: bytes that are due, numbers, and the line with one number. Each gives what it read with the place after
+// it, or a refusal. They take the slice and a place apart, as document 01 asks of what lies under the one reader (src/reader.rt).
+ghost use Rattle.std.specs.Prelude.{◌≡◌, ◌<◌, ◌≤◌, length, drop, IfOk};
+ghost use Rattle.specification.specs.Bytes.{run, in_number};
+ghost use Rattle.text.specs.Class.{specified};
+ghost use Rattle.specification.specs.Refusals.{reason_number};
+ghost use Rattle.specification.specs.Parser.{exactly, key, next, mark};
 ghost use Rattle.specification.specs.Lines.{index, count, value};
 ghost use Rattle.sheet.specs.Reader.{line_at};
-ghost use Rattle.sheet.specs.Answers.{number_to, Inside, held_index, index_read, integer_read, count_read};
+ghost use Rattle.sheet.specs.Answers.{number_to, held_index, value_read, word_read, place_read};
 
-use crate::refusals;
-use text::{Decimal, Word};
+use specification::{Reason, Refusal};
+use text::{Class, Run};
 
-// ---- numbers: a refusal's number and place; or what was read, and the place after it
+// ---- bytes that are due, and the place after them
 
-// A number without a minus, held at 2^32 - 1 where it is more.
-#[derive(Clone, Copy)]
-pub(crate) enum Index {
-    Refused(u32, usize),
-    Is(u32, usize),
+// These bytes; others are refused for the reason.
+pub(crate) fn exactly(s: &[u8], at: usize, bytes: &[u8], reason: Reason) -> Result<usize, Refusal>
+    ensures { place_read tt s.now result ≡ exactly (reason_number reason) bytes.now (line_at s.now at) }
+{
+    if text::begins(s, at, bytes) {
+        Ok(at + bytes.len())
+    } else {
+        Err(Refusal::new(reason, at))
+    }
 }
 
-// A value's word.
-#[derive(Clone, Copy)]
-pub(crate) enum Integer {
-    Refused(u32, usize),
-    Is(u32, usize),
+// A line's key.
+pub(crate) fn key(s: &[u8], at: usize, bytes: &[u8]) -> Result<usize, Refusal>
+    ensures { place_read tt s.now result ≡ key bytes.now (line_at s.now at) }
+{
+    exactly(s, at, bytes, Reason::Key)
 }
 
-// A number within its limits.
-#[derive(Clone, Copy)]
-pub(crate) enum Count {
-    Refused(u32, usize),
-    Is(u32, usize),
+// Whether a byte of the class comes next.
+pub(crate) fn sees(s: &[u8], at: usize, class: Class) -> bool
+    ensures { result ≡ next (specified class) (drop at s.now) }
+{
+    text::class_at(s, at) == Some(class)
 }
+
+// A byte of the class.
+pub(crate) fn mark(s: &[u8], at: usize, class: Class) -> Result<usize, Refusal>
+    ensures within { IfOk result (λ e. e ≤ length s.now) }
+    ensures reading { place_read tt s.now result ≡ mark (specified class) (line_at s.now at) }
+{
+    if sees(s, at, class) {
+        Ok(at + 1)
+    } else {
+        Err(Refusal::new(Reason::Byte, at))
+    }
+}
+
+// ---- numbers
 
 // 2^32 - 1, which is above every limit of a sheet.
 const MOST: u64 = 4294967295;
@@ -39,70 +61,59 @@ fn numeral(s: &[u8], at: usize) -> &[u8]
     ensures { result.now ≡ run in_number (drop at s.now) }
 {
     let v = text::value(s, at);
-    let e = text::run_end(v, 0, text::NUMBER);
+    let e = text::run_end(v, 0, Run::Number);
     &v[..e]
 }
 
-pub(crate) fn index_at(s: &[u8], at: usize) -> Index
-    ensures { index_read s.now result ≡ held_index (index (line_at s.now at)) }
+// A number without a minus, held at 2^32 - 1 where it is more.
+pub(crate) fn index_at(s: &[u8], at: usize) -> Result<(u32, usize), Refusal>
+    ensures { value_read s.now result ≡ held_index (index (line_at s.now at)) }
 {
     let d = numeral(s, at);
     match text::natural(d) {
-        Decimal::Malformed => Index::Refused(refusals::NUMBER, at),
-        Decimal::Is(n) => {
-            if MOST < n {
-                return Index::Is(MOST as u32, at + d.len());
-            }
-            Index::Is(n as u32, at + d.len())
-        }
+        None => Err(Refusal::new(Reason::Number, at)),
+        Some(n) => Ok((MOST.min(n) as u32, at + d.len())),
     }
 }
 
-pub(crate) fn integer_at(s: &[u8], at: usize) -> Integer
-    ensures { integer_read s.now result ≡ value (line_at s.now at) }
+// A value's word.
+pub(crate) fn integer_at(s: &[u8], at: usize) -> Result<(u32, usize), Refusal>
+    ensures { word_read s.now result ≡ value (line_at s.now at) }
 {
     let d = numeral(s, at);
     match text::integer(d) {
-        Word::Bad => Integer::Refused(refusals::NUMBER, at),
-        Word::Is(w) => Integer::Is(w, at + d.len()),
+        None => Err(Refusal::new(Reason::Number, at)),
+        Some(w) => Ok((w, at + d.len())),
     }
 }
 
-pub(crate) fn count_at(s: &[u8], at: usize, lo: u32, hi: u32) -> Count
+// A number within its limits.
+pub(crate) fn count_at(s: &[u8], at: usize, lo: u32, hi: u32) -> Result<(u32, usize), Refusal>
     requires { hi < 4294967295 }
-    ensures { count_read s.now result ≡ count lo hi (line_at s.now at) }
+    ensures { value_read s.now result ≡ count lo hi (line_at s.now at) }
 {
-    match index_at(s, at) {
-        Index::Refused(k, p) => Count::Refused(k, p),
-        Index::Is(n, e) => {
-            if n < lo {
-                return Count::Refused(refusals::NUMBER, at);
-            }
-            if hi < n {
-                return Count::Refused(refusals::NUMBER, at);
-            }
-            Count::Is(n, e)
-        }
+    let (n, e) = index_at(s, at)?;
+    if n < lo || hi < n {
+        return Err(Refusal::new(Reason::Number, at));
     }
+    Ok((n, e))
 }
 
 // ---- a key and a number, up to the mark of a class: of a line with one number that is the line feed
 
-pub(crate) fn count_line(s: &[u8], at: usize, key: &[u8], lo: u32, hi: u32, class: u8) -> Count
-    requires { (hi < 4294967295) × (class < 10) }
-    ensures { Inside s.now result × ((c : Class) → class ≡ class_number c
-        → count_read s.now result ≡ number_to key.now lo hi c (line_at s.now at)) }
+pub(crate) fn count_line(
+    s: &[u8],
+    at: usize,
+    bytes: &[u8],
+    lo: u32,
+    hi: u32,
+    class: Class,
+) -> Result<(u32, usize), Refusal>
+    requires { hi < 4294967295 }
+    ensures within { IfOk result (λ r. r.1 ≤ length s.now) }
+    ensures reading { value_read s.now result ≡ number_to bytes.now lo hi (specified class) (line_at s.now at) }
 {
-    if !text::begins(s, at, key) {
-        return Count::Refused(refusals::KEY, at);
-    }
-    match count_at(s, at + key.len(), lo, hi) {
-        Count::Refused(k, p) => Count::Refused(k, p),
-        Count::Is(n, e) => {
-            if text::class_at(s, e) != class {
-                return Count::Refused(refusals::BYTE, e);
-            }
-            Count::Is(n, e + 1)
-        }
-    }
+    let from = key(s, at, bytes)?;
+    let (n, e) = count_at(s, from, lo, hi)?;
+    Ok((n, mark(s, e, class)?))
 }

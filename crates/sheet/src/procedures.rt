@@ -1,96 +1,88 @@
 // The lines of procedures: each one's tokens into the table behind those of the lines before, and its entry into the table of procedures.
-ghost use Rattle.std.specs.Prelude.{◌≡◌, true, ◌<◌, length};
+ghost use Rattle.std.specs.Prelude.{◌≡◌, true, length, MatchResult};
 ghost use Rattle.specification.specs.Sheet.{most_procedures};
-ghost use Rattle.sheet.specs.Whole.{Filled, left_lines, Went, Goes, Leads, follows, Following, Begun, left_over, Nearer};
+ghost use Rattle.sheet.specs.Whole.{Stopped, Filled, left_lines, follows, Begun, OneMore};
 
-use crate::formula::{Limits, Reached, Scanned};
-use crate::lines::Count;
-use crate::whole::Progress;
+use crate::formula::{Limits, Reached};
+use crate::reader::Progress;
 use crate::{formula, lines, words};
+use specification::Refusal;
+use text::Class;
 
 // How many procedures an edition has at most.
 fn most(edition: u32) -> u32
     ensures { result ≡ most_procedures edition }
 {
     if edition == words::FIRST_EDITION {
-        return 0;
+        0
+    } else {
+        tables::MAX_PROCS
     }
-    tables::MAX_PROCS
 }
 
 // Whether one more line of a procedure follows what was read.
 fn more(s: &[u8], p: Progress) -> bool
     ensures { result ≡ follows s.now p }
 {
-    match p {
-        Progress::Refused(_, _) => false,
-        Progress::Read(d, x) => {
-            if most(d.edition) <= d.procedures {
-                return false;
-            }
-            text::begins(s, x.at, b"p")
-        }
-    }
+    p.limits.procedures < most(p.limits.edition) && text::begins(s, p.reached.at, b"p")
 }
 
 // ---- one line
 
 // The formula of a procedure with n parameters, from a place on, and the line feed after it.
-fn body(s: &[u8], from: usize, d: Limits, x: Reached, n: u32, w: &mut [u32]) -> Progress
-    requires { Begun s.now (length w.old) d x n from w.old }
-    ensures { Nearer d result × Went d.strict 5 s.now (length w.old) result w.new }
+fn body(s: &[u8], from: usize, p: Progress, n: u32, w: &mut [u32]) -> Result<Progress, Refusal>
+    requires { Begun s.now (length w.old) p n from w.old }
+    ensures { MatchResult result (λ q. OneMore s.now p q w.new) (Stopped p.limits.strict s.now) }
 {
-    let mut l = d;
-    l.parameters = n;
-    match formula::to_feed(s, from, l, x.tokens, x.bound, w) {
-        Scanned::Refused(k, p) => Progress::Refused(k, p),
-        Scanned::Read(tokens, at, bound) => {
-            tables::set_proc(w, d.procedures, x.tokens, n);
-            l.parameters = 0;
-            l.procedures = d.procedures + 1;
-            Progress::Read(
-                l,
-                Reached {
-                    first: x.tokens,
-                    tokens,
-                    bound,
-                    at,
-                },
-            )
-        }
-    }
+    let d = p.limits;
+    let x = p.reached;
+    let read = formula::to_feed(
+        s,
+        Limits { parameters: n, ..d },
+        Reached { at: from, ..x },
+        w,
+    )?;
+    tables::set_proc(w, d.procedures, x.tokens, n);
+    let procedures = d.procedures + 1;
+    Ok(Progress {
+        limits: Limits {
+            procedures,
+            parameters: 0,
+            ..d
+        },
+        reached: Reached {
+            first: x.tokens,
+            ..read
+        },
+    })
 }
 
-fn procedure_line(s: &[u8], d: Limits, x: Reached, w: &mut [u32]) -> Progress
-    requires { Following s.now (length w.old) d x w.old }
-    ensures { Nearer d result × Went d.strict 5 s.now (length w.old) result w.new }
+fn procedure_line(s: &[u8], p: Progress, w: &mut [u32]) -> Result<Progress, Refusal>
+    requires { (follows s.now p ≡ true) × Filled (left_lines p.limits) s.now (length w.old) p w.old }
+    ensures { MatchResult result (λ q. OneMore s.now p q w.new) (Stopped p.limits.strict s.now) }
 {
-    match lines::count_line(s, x.at, b"proc=", 0, tables::MAX_PARAMETERS, text::COLON) {
-        Count::Refused(k, p) => Progress::Refused(k, p),
-        Count::Is(n, from) => body(s, from, d, x, n, w),
-    }
+    let (n, from) = lines::count_line(
+        s,
+        p.reached.at,
+        b"proc=",
+        0,
+        tables::MAX_PARAMETERS,
+        Class::Colon,
+    )?;
+    body(s, from, p, n, w)
 }
 
 // ---- all of them
 
-// One more line after what was read.
-fn next(s: &[u8], p: Progress, w: &mut [u32]) -> Progress
-    requires { (follows s.now p ≡ true) × Goes 5 s.now (length w.old) p w.old }
-    ensures { (left_over result < left_over p) × Leads 5 s.now (length w.old) p result w.new }
+pub(crate) fn procedure_lines(s: &[u8], p: Progress, w: &mut [u32]) -> Result<Progress, Refusal>
+    requires { Filled (left_lines p.limits) s.now (length w.old) p w.old }
+    ensures { MatchResult result
+        (λ q. (q.limits.strict ≡ p.limits.strict) × Filled 0 s.now (length w.new) q w.new)
+        (Stopped p.limits.strict s.now) }
 {
-    match p {
-        Progress::Refused(k, q) => Progress::Refused(k, q),
-        Progress::Read(d, x) => procedure_line(s, d, x, w),
-    }
-}
-
-pub(crate) fn procedure_lines(s: &[u8], d: Limits, x: Reached, w: &mut [u32]) -> Progress
-    requires { Filled (left_lines d) s.now (length w.old) d x w.old }
-    ensures { Went d.strict 6 s.now (length w.old) result w.new }
-{
-    let mut q = Progress::Read(d, x);
+    let mut q = p;
     while more(s, q) {
-        q = next(s, q, w);
+        q = procedure_line(s, q, w)?;
     }
-    q
+    Ok(q)
 }

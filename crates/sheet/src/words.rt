@@ -1,15 +1,14 @@
 // The words of a formula: from a token's bytes to its code and operand.
 ghost use Rattle.std.specs.Prelude.{◌≡◌, ◌≤◌, ◌<◌, length, drop};
 ghost use Rattle.std.proofs.Math.Option.{some as just};
-ghost use Rattle.specification.specs.Bytes.{in_number};
 ghost use Rattle.specification.specs.Number.{natural, integer};
 ghost use Rattle.specification.specs.Words.{words, name_of, constant_of, word_of, number_of};
-ghost use Rattle.sheet.specs.Codes.{index_word, token_of};
-ghost use Rattle.sheet.specs.Packed.{packed, code_by, code_in, indexed, parameter_token};
+ghost use Rattle.sheet.specs.Codes.{token, index_word, token_of};
+ghost use Rattle.sheet.specs.Packed.{packed, code_by, code_in, code_or_none, indexed, parameter_token};
 
 use crate::Token;
 use tables::codes;
-use text::{Decimal, Word};
+use text::Run;
 
 // The edition without procedures.
 pub(crate) const FIRST_EDITION: u32 = 1;
@@ -28,20 +27,18 @@ fn pack(t: &[u8]) -> u64
     ensures { result ≡ packed t.now }
 {
     let mut n: u64 = 1;
-    let mut i = t.len();
-    while 0 < i {
-        i -= 1;
-        n = t[i] as u64 + 256 * n;
+    for &b in t.iter().rev() {
+        n = u64::from(b) + 256 * n;
     }
     n
 }
 
-// The code of a word of edition 1 by the number of its bytes, 0 for any other: two digits a byte, the last byte first, and a 1 before them.
+// The code of a word of edition 1 by the number of its bytes, none for any other: two digits a byte, the last byte first, and a 1 before them.
 #[tactic(auto, unfolding(crate::specs::Packed::code_by, crate::specs::Packed::packed, crate::specs::Codes::token_of, specification::specs::Words::common_words, specification::specs::Words::own_words, specification::specs::Words::words, specification::specs::Words::older_division))]
-fn first_edition(word: u64) -> u32
-    ensures { result ≡ code_by word (words 1) }
+fn first_edition(word: u64) -> Option<u32>
+    ensures { result ≡ code_or_none (code_by word (words 1)) }
 {
-    match word {
+    Some(match word {
         0x1_65_75_72_74 => codes::TRUE, // true
         0x1_64_6e_61 => codes::AND, // and
         0x1_72_6f => codes::OR, // or
@@ -61,41 +58,41 @@ fn first_edition(word: u64) -> u32
         0x1_6c_75_6d => codes::MUL, // mul
         DIV => codes::QUO,
         MOD => codes::REM,
-        _ => 0,
-    }
+        _ => return None,
+    })
 }
 
 // The same of edition 2.
 #[tactic(auto, unfolding(crate::specs::Packed::code_by, crate::specs::Packed::packed, crate::specs::Codes::token_of, specification::specs::Words::common_words, specification::specs::Words::own_words, specification::specs::Words::words, specification::specs::Words::older_division))]
-fn second_edition(word: u64) -> u32
-    ensures { result ≡ code_by word (words 2) }
+fn second_edition(word: u64) -> Option<u32>
+    ensures { result ≡ code_or_none (code_by word (words 2)) }
 {
     match word {
-        0x1_6c_6c_61_63 => codes::CALL, // call
+        0x1_6c_6c_61_63 => Some(codes::CALL), // call
         _ => first_edition(word),
     }
 }
 
 // And from edition 3 on: `div` and `mod` round down, and two words carry the older pair.
 #[tactic(auto, unfolding(crate::specs::Packed::code_by, crate::specs::Packed::packed, crate::specs::Codes::token_of, specification::specs::Words::common_words, specification::specs::Words::own_words, specification::specs::Words::words, specification::specs::Words::older_division, specification::specs::Words::division))]
-fn third_edition(word: u64) -> u32
-    ensures { result ≡ code_by word (words 3) }
+fn third_edition(word: u64) -> Option<u32>
+    ensures { result ≡ code_or_none (code_by word (words 3)) }
 {
     match word {
-        DIV => codes::DIV,
-        MOD => codes::MOD,
-        0x1_6f_75_71 => codes::QUO, // quo
-        0x1_6d_65_72 => codes::REM, // rem
+        DIV => Some(codes::DIV),
+        MOD => Some(codes::MOD),
+        0x1_6f_75_71 => Some(codes::QUO), // quo
+        0x1_6d_65_72 => Some(codes::REM), // rem
         _ => second_edition(word),
     }
 }
 
-// The code of a word of the edition's set, 0 for any other bytes.
-fn word_code(t: &[u8], edition: u32) -> u32
-    ensures { result ≡ code_in t.now (words edition) }
+// The code of a word of the edition's set, none for any other bytes.
+fn word_code(t: &[u8], edition: u32) -> Option<u32>
+    ensures { result ≡ code_or_none (code_in t.now (words edition)) }
 {
     if 4 < t.len() {
-        return 0;
+        return None;
     }
     let word = pack(t);
     if edition == FIRST_EDITION {
@@ -107,26 +104,21 @@ fn word_code(t: &[u8], edition: u32) -> u32
     third_edition(word)
 }
 
-// Whether a token that begins with this byte is a constant.
-fn numeric(b: u8) -> bool
-    ensures { result ≡ in_number b }
-{
-    let k = text::class(b);
-    if k == text::DIGIT {
-        return true;
+impl Token {
+    // The token of a word with no operand.
+    fn word(code: u32) -> Token
+        ensures { result ≡ token code 0 }
+    {
+        Token { code, operand: 0 }
     }
-    k == text::MINUS
 }
 
 fn constant(t: &[u8]) -> Token
     ensures { result ≡ token_of (constant_of (integer t.now)) }
 {
     match text::integer(t) {
-        Word::Bad => Token {
-            code: codes::BAD_CONSTANT,
-            operand: 0,
-        },
-        Word::Is(v) => Token {
+        None => Token::word(codes::BAD_CONSTANT),
+        Some(v) => Token {
             code: codes::CONSTANT,
             operand: v,
         },
@@ -137,10 +129,7 @@ fn constant(t: &[u8]) -> Token
 fn index_word(n: u64) -> u32
     ensures { result ≡ index_word n }
 {
-    if 4294967295 < n {
-        return 4294967295;
-    }
-    n as u32
+    u32::try_from(n).unwrap_or(u32::MAX)
 }
 
 // A name's token: what stands after its letter is the index.
@@ -149,11 +138,8 @@ fn index(code: u32, t: &[u8]) -> Token
     ensures { result ≡ indexed code (natural (drop 1 t.now)) }
 {
     match text::natural(&t[1..]) {
-        Decimal::Malformed => Token {
-            code: codes::UNKNOWN,
-            operand: 0,
-        },
-        Decimal::Is(n) => Token {
+        None => Token::word(codes::UNKNOWN),
+        Some(n) => Token {
             code,
             operand: index_word(n),
         },
@@ -166,10 +152,7 @@ fn parameter(t: &[u8], edition: u32) -> Token
     ensures { result ≡ parameter_token edition (natural (drop 1 t.now)) }
 {
     if edition == FIRST_EDITION {
-        return Token {
-            code: codes::UNKNOWN,
-            operand: 0,
-        };
+        return Token::word(codes::UNKNOWN);
     }
     index(codes::PARAMETER, t)
 }
@@ -178,22 +161,12 @@ fn name(t: &[u8], edition: u32) -> Token
     requires { 0 < length t.now }
     ensures { result ≡ token_of (just (name_of edition t.now)) }
 {
-    let b = t[0];
-    if b == b'v' {
-        return index(codes::SCALAR, t);
-    }
-    if b == b'l' {
-        return index(codes::LOCAL, t);
-    }
-    if b == b'a' {
-        return index(codes::ARRAY, t);
-    }
-    if b == b'p' {
-        return parameter(t, edition);
-    }
-    Token {
-        code: codes::UNKNOWN,
-        operand: 0,
+    match t[0] {
+        b'v' => index(codes::SCALAR, t),
+        b'l' => index(codes::LOCAL, t),
+        b'a' => index(codes::ARRAY, t),
+        b'p' => parameter(t, edition),
+        _ => Token::word(codes::UNKNOWN),
     }
 }
 
@@ -201,47 +174,31 @@ fn name(t: &[u8], edition: u32) -> Token
 pub(crate) fn lex(t: &[u8], edition: u32) -> Token
     ensures { result ≡ token_of (word_of edition t.now) }
 {
-    if t.len() == 0 {
-        return Token {
-            code: codes::UNKNOWN,
-            operand: 0,
-        };
-    }
-    if numeric(t[0]) {
+    let [first, ..] = t else {
+        return Token::word(codes::UNKNOWN);
+    };
+    if Run::Number.passes(*first) {
         return constant(t);
     }
-    let k = word_code(t, edition);
-    if k != 0 {
-        return Token {
-            code: k,
-            operand: 0,
-        };
+    match word_code(t, edition) {
+        Some(code) => Token::word(code),
+        None => name(t, edition),
     }
-    name(t, edition)
 }
 
 // The token that bytes spell where a procedure's number is due.
 pub(crate) fn number(t: &[u8]) -> Token
     ensures { result ≡ token_of (number_of t.now) }
 {
-    if t.len() == 0 {
-        return Token {
-            code: codes::UNKNOWN,
-            operand: 0,
-        };
-    }
-    if !numeric(t[0]) {
-        return Token {
-            code: codes::UNKNOWN,
-            operand: 0,
-        };
+    let [first, ..] = t else {
+        return Token::word(codes::UNKNOWN);
+    };
+    if !Run::Number.passes(*first) {
+        return Token::word(codes::UNKNOWN);
     }
     match text::natural(t) {
-        Decimal::Malformed => Token {
-            code: codes::BAD_CONSTANT,
-            operand: 0,
-        },
-        Decimal::Is(n) => Token {
+        None => Token::word(codes::BAD_CONSTANT),
+        Some(n) => Token {
             code: codes::PROCEDURE,
             operand: index_word(n),
         },

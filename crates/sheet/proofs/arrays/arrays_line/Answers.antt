@@ -1,35 +1,20 @@
 -- The key, the value and the line feed, in order. Assumes nothing.
-use mathlib.Core.Path.{refl, ◌∙◌, sym}
-use native.Mathlib.Omega.{arith}
-use Rattle.specification.specs.Bytes.{bytes, feed, class_number}
-use Rattle.text.proofs.Laws.Class.{class-inside}
-use Rattle.text.proofs.Laws.Keys.{key_fits}
+use mathlib.Core.Path.{refl}
+use Rattle.std.proofs.lemmas.Result.{err_from_is_err_and}
 use Rattle.sheet.proofs.ArrayLine.{lined-no, lined-refused, lined-open, lined-found}
-use borrow.Author.Rules.{rules}
 use Rattle.sheet.proofs.arrays.arrays_line.Goals as goal
 
-pub returns-then-not-begins : goal.returns-then-not-begins
-returns-then-not-begins c = (lined-no _ _ _ (sym c.begins.ensures ∙ c.if-not-begins.true), refl)
+pub returns-in_err-from : goal.returns-in_err-from
+returns-in_err-from c =
+    let p = err_from_is_err_and c.from_residual.result c.from_residual.ensures.1 in rw (p.1, p.2) (lined-no _ _ _ c.in_err-from.ensures, refl)
 
-pub overflow_add-at : goal.overflow_add-at
-overflow_add-at c =
-    omega (arith, key_fits c.args.s.now (bytes "arrays=") c.args.at (sym c.begins.ensures ∙ c.if-not-begins.false))
+pub returns-in_err-arrays : goal.returns-in_err-arrays
+returns-in_err-arrays c =
+    let p = err_from_is_err_and c.from_residual-in_err-arrays.result c.from_residual-in_err-arrays.ensures.1 in rw (p.1, p.2) (lined-refused _ _ _ c.in_ok-from.ensures _ c.contents.new.w c.in_err-arrays.ensures, c.contents.auto.w)
 
-pub returns-then-class_at-ne-FEED : goal.returns-then-class_at-ne-FEED
-unfolding class_number
-returns-then-class_at-ne-FEED c =
-    (lined-open _ _ _ (sym c.begins.ensures ∙ c.if-not-begins.false) _ _ _ c.contents.ensures _ _ _ c.in-Read.is (λ e. c.if-class_at-ne-FEED.true (c.class_at.ensures ∙ e)), search rules)
+pub returns-in_err-mark : goal.returns-in_err-mark
+returns-in_err-mark c =
+    let p = err_from_is_err_and c.from_residual-in_err-mark.result c.from_residual-in_err-mark.ensures.1 in rw (p.1, p.2) (lined-open _ _ _ c.in_ok-from.ensures _ _ c.in_ok-arrays.ensures c.in_err-mark.ensures.reading, c.contents.auto.w)
 
-pub overflow_add-result : goal.overflow_add-result
-unfolding class_number
-overflow_add-result c =
-    omega (arith, class-inside c.args.s.now _ feed (sym c.class_at.ensures ∙ c.if-class_at-ne-FEED.false))
-
-pub returns-in-Refused : goal.returns-in-Refused
-returns-in-Refused c =
-    (lined-refused _ _ _ (sym c.begins.ensures ∙ c.if-not-begins.false) _ _ _ c.contents.ensures _ _ c.in-Refused.is, search rules)
-
-pub returns-else-class_at-ne-FEED : goal.returns-else-class_at-ne-FEED
-unfolding class_number
-returns-else-class_at-ne-FEED c =
-    lined-found _ _ _ (sym c.begins.ensures ∙ c.if-not-begins.false) _ _ _ c.contents.ensures _ _ _ c.in-Read.is (sym c.class_at.ensures ∙ c.if-class_at-ne-FEED.false)
+pub returns : goal.returns
+returns c = lined-found _ _ _ c.in_ok-from.ensures _ _ c.in_ok-arrays.ensures c.in_ok-mark.ensures.reading

@@ -1,11 +1,6 @@
 -- The invariant: what is laid from the start on is laid from here on. Assumes nothing.
-use Prim.Native.Nat.{suc, ◌-◌}
-use Rattle.tables.specs.Layout.{max_arrays}
 use Rattle.sheet.proofs.ArrayLine.{Filling}
 use Rattle.sheet.proofs.arrays.fill.Given as goal
 
 abbrev pub invariant-loop-a : goal.invariant-loop-a
 invariant-loop-a l = Filling l.initial.w l.from l.end l.w l.a
-
-abbrev pub decreases-loop-a : goal.decreases-loop-a
-decreases-loop-a l = suc max_arrays - l.a

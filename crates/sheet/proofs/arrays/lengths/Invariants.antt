@@ -1,11 +1,6 @@
 -- The invariant: what is laid from the start on is laid from here on. Assumes nothing.
-use Prim.Native.Nat.{◌-◌}
-use Rattle.tables.specs.Layout.{max_arrays}
 use Rattle.sheet.proofs.ArrayLine.{Reading}
 use Rattle.sheet.proofs.arrays.lengths.Given as goal
 
 abbrev pub invariant-loop-n : goal.invariant-loop-n
 invariant-loop-n l = Reading l.s l.from l.scalars l.initial.w l.w l.at l.n l.end
-
-abbrev pub decreases-loop-n : goal.decreases-loop-n
-decreases-loop-n l = max_arrays - l.n

@@ -13,6 +13,6 @@ pub returns-then-is_number : goal.returns-then-is_number
 unfolding undeclared
 returns-then-is_number c = rw (ne_eqb _ parameter_code c.if-code-eq-PARAMETER.false, sym c.is_number.ensures ∙ c.if-is_number.true)
 
-pub returns : goal.returns
+pub returns-else-is_number : goal.returns-else-is_number
 unfolding undeclared
-returns c = rw (ne_eqb _ parameter_code c.if-code-eq-PARAMETER.false, sym c.is_number.ensures ∙ c.if-is_number.false)
+returns-else-is_number c = rw (ne_eqb _ parameter_code c.if-code-eq-PARAMETER.false, sym c.is_number.ensures ∙ c.if-is_number.false)

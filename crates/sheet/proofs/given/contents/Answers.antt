@@ -1,15 +1,7 @@
 -- By the first byte of the value. Assumes nothing.
 use mathlib.Core.Path.{◌∙◌, sym}
-use Rattle.specification.specs.Bytes.{class_number}
-use Rattle.sheet.proofs.Keys.{part-class}
-use Rattle.sheet.proofs.GivenLine.{value_none, value-some}
+use Rattle.sheet.proofs.GivenLine.{value_none}
 use Rattle.sheet.proofs.given.contents.Goals as goal
 
-pub returns-then-class_at-eq-FEED : goal.returns-then-class_at-eq-FEED
-unfolding class_number
-returns-then-class_at-eq-FEED c = λ D d. value_none D _ _ _ (sym (part-class _ _ _ c.value.ensures) ∙ sym c.class_at.ensures ∙ c.if-class_at-eq-FEED.true)
-
-pub returns : goal.returns
-unfolding class_number
-returns c =
-    λ D d. c.items_at.ensures D d ∙ value-some D _ _ _ (λ e. c.if-class_at-eq-FEED.false (c.class_at.ensures ∙ part-class _ _ _ c.value.ensures ∙ e))
+pub returns-then-sees : goal.returns-then-sees
+returns-then-sees c = λ D d. value_none D _ _ _ (sym c.if-sees.true ∙ c.sees.ensures)

@@ -1,35 +1,14 @@
 -- The key, the value and the line feed, in order. Assumes nothing.
-use mathlib.Core.Path.{refl, ◌∙◌, sym}
-use native.Mathlib.Omega.{arith}
-use Rattle.specification.specs.Bytes.{bytes, feed, class_number}
-use Rattle.text.proofs.Laws.Class.{class-inside}
-use Rattle.text.proofs.Laws.Keys.{key_fits}
-use Rattle.sheet.proofs.GivenLine.{lined-no, lined-refused, lined-open, lined-found}
-use borrow.Author.Rules.{rules}
+use mathlib.Core.Path.{refl}
+use Rattle.std.proofs.lemmas.Result.{err_from_is_err_and}
+use Rattle.sheet.proofs.GivenLine.{lined-no, lined-refused, lined-done}
 use Rattle.sheet.proofs.given.given_line.Goals as goal
 
-pub returns-then-not-begins : goal.returns-then-not-begins
-returns-then-not-begins c = λ D d. (lined-no D _ _ (sym c.begins.ensures ∙ c.if-not-begins.true), refl)
+pub returns-in_err-from : goal.returns-in_err-from
+returns-in_err-from c = λ D d. let p = err_from_is_err_and c.from_residual.result c.from_residual.ensures.1 in rw (p.1, p.2) (lined-no D _ _ c.in_err-from.ensures, refl)
 
-pub overflow_add-at : goal.overflow_add-at
-overflow_add-at c =
-    omega (arith, key_fits c.args.s.now (bytes "given=") c.args.at (sym c.begins.ensures ∙ c.if-not-begins.false))
+pub returns-in_err-e : goal.returns-in_err-e
+returns-in_err-e c = λ D d. let p = err_from_is_err_and c.from_residual-in_err-e.result c.from_residual-in_err-e.ensures.1 in rw (p.1, p.2) (lined-refused D _ _ c.in_ok-from.ensures _ c.contents.new.w (c.in_err-e.ensures D d), c.contents.auto.w)
 
-pub returns-then-class_at-ne-FEED : goal.returns-then-class_at-ne-FEED
-unfolding class_number
-returns-then-class_at-ne-FEED c =
-    λ D d. (lined-open D _ _ (sym c.begins.ensures ∙ c.if-not-begins.false) _ _ c.contents.result (c.contents.ensures D d) _ c.in-Read.is (λ e. c.if-class_at-ne-FEED.true (c.class_at.ensures ∙ e)), search rules)
-
-pub overflow_add-result : goal.overflow_add-result
-unfolding class_number
-overflow_add-result c =
-    omega (arith, class-inside c.args.s.now _ feed (sym c.class_at.ensures ∙ c.if-class_at-ne-FEED.false))
-
-pub returns-in-Refused : goal.returns-in-Refused
-returns-in-Refused c =
-    λ D d. (lined-refused D _ _ (sym c.begins.ensures ∙ c.if-not-begins.false) _ _ c.contents.result (c.contents.ensures D d) _ _ c.in-Refused.is, search rules)
-
-pub returns-else-class_at-ne-FEED : goal.returns-else-class_at-ne-FEED
-unfolding class_number
-returns-else-class_at-ne-FEED c =
-    λ D d. lined-found D _ _ (sym c.begins.ensures ∙ c.if-not-begins.false) _ _ c.contents.result (c.contents.ensures D d) _ c.in-Read.is (sym c.class_at.ensures ∙ c.if-class_at-ne-FEED.false)
+pub returns : goal.returns
+returns c = λ D d. lined-done D _ _ c.in_ok-from.ensures _ _ (c.in_ok-e.ensures D d) c.contents.auto.w _ c.mark.ensures.reading

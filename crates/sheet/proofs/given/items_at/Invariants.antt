@@ -5,8 +5,8 @@ use Rattle.tables.specs.Layout.{max_cells}
 use Rattle.sheet.proofs.GivenLine.{Turning}
 use Rattle.sheet.proofs.given.items_at.Given as goal
 
-abbrev pub invariant-loop-k : goal.invariant-loop-k
-invariant-loop-k l = Turning l.s l.from l.scalars l.arrays l.initial.w l.w l.at l.floor
+abbrev pub invariant-loop-item : goal.invariant-loop-item
+invariant-loop-item l = Turning l.s l.from l.d.scalars l.d.arrays l.initial.w l.w l.at l.floor
 
-abbrev pub decreases-loop-k : goal.decreases-loop-k
-decreases-loop-k l = max_cells - l.floor
+abbrev pub decreases-loop-item : goal.decreases-loop-item
+decreases-loop-item l = max_cells - l.floor

@@ -6,5 +6,5 @@ use Rattle.sheet.proofs.given.name_at.Goals as goal
 pub returns-then-begins : goal.returns-then-begins
 returns-then-begins c = c.scalar_name.ensures ∙ name-scalar _ _ (sym c.begins.ensures ∙ c.if-begins.true)
 
-pub returns : goal.returns
-returns c = c.element_name.ensures ∙ name-element _ _ (sym c.begins.ensures ∙ c.if-begins.false)
+pub returns-else-begins : goal.returns-else-begins
+returns-else-begins c = c.element_name.ensures ∙ name-element _ _ (sym c.begins.ensures ∙ c.if-begins.false)

@@ -1,19 +1,15 @@
 -- The letter, then the index. Assumes nothing.
-use mathlib.Core.Path.{◌∙◌, sym}
-use native.Mathlib.Omega.{arith}
-use Rattle.specification.specs.Bytes.{bytes}
-use Rattle.text.proofs.Laws.Keys.{key_fits}
-use Rattle.sheet.proofs.CellNames.{scalar-no, scalar-yes}
+use Rattle.std.proofs.lemmas.Result.{err_from_is_err_and}
+use Rattle.sheet.proofs.CellNames.{scalar-no, scalar-refused, scalar-found}
 use Rattle.sheet.proofs.given.scalar_name.Goals as goal
 
-pub returns-then-not-begins : goal.returns-then-not-begins
-returns-then-not-begins c = scalar-no _ _ (sym c.begins.ensures ∙ c.if-not-begins.true)
+pub returns-in_err-from : goal.returns-in_err-from
+returns-in_err-from c =
+    let p = err_from_is_err_and c.from_residual.result c.from_residual.ensures.1 in rw (p.1, p.2) (scalar-no _ _ c.in_err-from.ensures)
 
-pub overflow_add-at : goal.overflow_add-at
-overflow_add-at c = omega (arith, key_fits c.args.s.now (bytes "v") c.args.at (sym c.begins.ensures ∙ c.if-not-begins.false))
+pub returns-in_err-n : goal.returns-in_err-n
+returns-in_err-n c =
+    let p = err_from_is_err_and c.from_residual-in_err-n.result c.from_residual-in_err-n.ensures.1 in rw (p.1, p.2) (scalar-refused _ _ c.in_ok-from.ensures c.in_err-n.ensures)
 
-pub returns-in-Refused : goal.returns-in-Refused
-returns-in-Refused c = scalar-yes _ _ (sym c.begins.ensures ∙ c.if-not-begins.false) _ _ c.index_at.ensures c.in-Refused.is
-
-pub returns-in-Is : goal.returns-in-Is
-returns-in-Is c = scalar-yes _ _ (sym c.begins.ensures ∙ c.if-not-begins.false) _ _ c.index_at.ensures c.in-Is.is
+pub returns : goal.returns
+returns c = scalar-found _ _ c.in_ok-from.ensures c.in_ok-n.ensures

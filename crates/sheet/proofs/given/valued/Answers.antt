@@ -1,44 +1,29 @@
 -- The colon, the value, then the cell. Assumes nothing.
 use mathlib.Core.Path.{◌∙◌, sym}
-use native.Mathlib.Omega.{arith}
-use Rattle.specification.specs.Bytes.{colon, class_number}
-use Rattle.text.proofs.Laws.Class.{class-inside}
+use Rattle.std.proofs.lemmas.Result.{err_from_is_err_and}
 use Rattle.sheet.proofs.GivenItems.{valued-no, valued-refused, valued-undeclared, valued-low, valued-outside, valued_found}
 use Rattle.sheet.proofs.given.valued.Goals as goal
 
-pub returns-then-class_at-ne-COLON : goal.returns-then-class_at-ne-COLON
-unfolding class_number
-returns-then-class_at-ne-COLON c = valued-no _ _ _ _ _ _ (λ e. c.if-class_at-ne-COLON.true (c.class_at.ensures ∙ e))
+pub returns-in_err-from : goal.returns-in_err-from
+returns-in_err-from c =
+    let p = err_from_is_err_and c.from_residual.result c.from_residual.ensures.1 in rw (p.1, p.2) (valued-no _ _ _ _ _ _ c.in_err-from.ensures.reading)
 
-pub overflow_add-e : goal.overflow_add-e
-unfolding class_number
-overflow_add-e c = omega (arith, class-inside c.args.s.now c.args.e colon (sym c.class_at.ensures ∙ c.if-class_at-ne-COLON.false))
+pub returns-in_err-word : goal.returns-in_err-word
+returns-in_err-word c =
+    let p = err_from_is_err_and c.from_residual-in_err-word.result c.from_residual-in_err-word.ensures.1 in rw (p.1, p.2) (valued-refused _ _ _ _ _ _ c.in_ok-from.ensures.reading c.in_err-word.ensures)
 
 pub returns-in_default : goal.returns-in_default
-unfolding class_number
-returns-in_default c =
-    valued-undeclared _ _ _ _ _ _ (sym c.class_at.ensures ∙ c.if-class_at-ne-COLON.false) _ c.integer_at.ensures _ _ c.in-Is.is c.in_default.is
+returns-in_default c = rw c.new.ensures (valued-undeclared _ _ _ _ _ _ c.in_ok-from.ensures.reading _ c.in_ok-word.ensures c.in_default.is)
 
-pub returns-then-n-floor : goal.returns-then-n-floor
-unfolding class_number
-returns-then-n-floor c =
-    valued-low _ _ _ _ _ _ (sym c.class_at.ensures ∙ c.if-class_at-ne-COLON.false) _ c.integer_at.ensures _ _ c.in-Is.is _ c.in-Is-c.is c.if-n-floor.true
-
-pub mark-requires : goal.mark-requires
-mark-requires c =
-    let below = rw c.in-Is-c.is at c.requires.0 in
-    omega (arith, below, c.requires.1)
+pub returns-then-cell-floor : goal.returns-then-cell-floor
+returns-then-cell-floor c =
+    rw c.new-then-cell-floor.ensures (valued-low _ _ _ _ _ _ c.in_ok-from.ensures.reading _ c.in_ok-word.ensures _ c.in-Some.is c.if-cell-floor.true)
 
 pub returns-then-not-allows : goal.returns-then-not-allows
-unfolding class_number
 returns-then-not-allows c =
-    valued-outside _ _ _ _ _ _ (sym c.class_at.ensures ∙ c.if-class_at-ne-COLON.false) _ c.integer_at.ensures _ _ c.in-Is.is _ c.in-Is-c.is c.if-n-floor.false (rw c.mark.ensures at (sym c.allows.ensures ∙ c.if-not-allows.true))
+    rw c.new-then-not-allows.ensures
+    (valued-outside _ _ _ _ _ _ c.in_ok-from.ensures.reading _ c.in_ok-word.ensures _ c.in-Some.is c.if-cell-floor.false (rw c.mark-mark.ensures at (sym c.allows.ensures ∙ c.if-not-allows.true)))
 
-pub returns-in-Refused : goal.returns-in-Refused
-unfolding class_number
-returns-in-Refused c = valued-refused _ _ _ _ _ _ (sym c.class_at.ensures ∙ c.if-class_at-ne-COLON.false) _ c.integer_at.ensures _ _ c.in-Refused.is
-
-pub returns-else-not-allows : goal.returns-else-not-allows
-unfolding class_number
-returns-else-not-allows c =
-    valued_found _ _ _ _ _ _ (sym c.class_at.ensures ∙ c.if-class_at-ne-COLON.false) _ c.integer_at.ensures _ _ c.in-Is.is _ c.in-Is-c.is c.if-n-floor.false (rw c.mark.ensures at (sym c.allows.ensures ∙ c.if-not-allows.false))
+pub returns : goal.returns
+returns c =
+    valued_found _ _ _ _ _ _ c.in_ok-from.ensures.reading _ c.in_ok-word.ensures _ c.in-Some.is c.if-cell-floor.false (rw c.mark-mark.ensures at (sym c.allows.ensures ∙ c.if-not-allows.false))

@@ -1,18 +1,11 @@
 -- The number of parameters, then the formula. Assumes nothing.
-use mathlib.Core.Path.{refl}
-use Rattle.specification.specs.Bytes.{colon, class_number}
+use Rattle.std.proofs.lemmas.Result.{err_from_is_err_and}
 use Rattle.sheet.proofs.ProcedureLines.{head-refused, head-found}
 use Rattle.sheet.proofs.procedures.procedure_line.Goals as goal
 
+pub returns-in_err-n : goal.returns-in_err-n
+returns-in_err-n c =
+    let p = err_from_is_err_and c.from_residual.result c.from_residual.ensures.1 in rw (p.1, p.2) (head-refused _ _ c.args.p c.args.w.now c.requires _ c.in_err-n.ensures.reading)
+
 pub body-requires : goal.body-requires
-unfolding class_number
-body-requires c =
-    head-found c.args.s.now _ _ _ c.args.w.now c.requires c.count_line.result (c.count_line.ensures.1 colon refl) _ _ c.in-Is.is c.count_line.ensures.0
-
-pub returns-in-Refused : goal.returns-in-Refused
-unfolding class_number
-returns-in-Refused c =
-    head-refused c.args.s.now _ _ _ c.args.w.now c.requires c.count_line.result (c.count_line.ensures.1 colon refl) _ _ c.in-Refused.is
-
-pub returns-in-Is : goal.returns-in-Is
-returns-in-Is c = c.body.ensures
+body-requires c = head-found _ _ c.args.p c.args.w.now c.requires c.in_ok-n.ensures.reading c.in_ok-n.ensures.within

@@ -1,11 +1,13 @@
--- One line a turn, as long as one follows. Assumes nothing.
+-- One line a turn, as long as one follows: what was read stands in the words. Assumes nothing.
+use Prim.Native.Nat.{◌-◌}
 use mathlib.Core.Path.{◌≡◌}
 use lib.ListN.{length}
-use Rattle.sheet.specs.Whole.{Leads, left_over}
+use Rattle.tables.specs.Layout.{max_procs}
+use Rattle.sheet.specs.Whole.{Filled, left_lines}
 use Rattle.sheet.proofs.procedures.procedure_lines.Given as goal
 
 abbrev pub invariant-loop-w : goal.invariant-loop-w
-invariant-loop-w l = Leads 5 l.s (length l.initial.w) l.initial.q l.q l.w × (length l.w ≡ length l.initial.w)
+invariant-loop-w l = (l.q.limits.strict ≡ l.initial.q.limits.strict) × Filled (left_lines l.q.limits) l.s (length l.w) l.q l.w
 
 abbrev pub decreases-loop-w : goal.decreases-loop-w
-decreases-loop-w l = left_over l.q
+decreases-loop-w l = max_procs - l.q.limits.procedures

@@ -3,9 +3,10 @@ use Prim.Native.Nat.{◌-◌}
 use native.Mathlib.Omega.{arith}
 use mathlib.Core.Path.{sym, ap}
 use Rattle.tables.specs.Codes.{procedure_code}
-use Rattle.sheet.specs.declared.sorts.Operands.{Operands}
+use Rattle.sheet.specs.Sorts.{Operands}
 use Rattle.sheet.specs.Sorts.{term_sort, operands}
 use Rattle.sheet.proofs.CodeOperands.{operands-number}
+use Rattle.sheet.specs.Stack.{worded}
 use Rattle.sheet.proofs.Opened.{below-number, opened-operands}
 use Rattle.sheet.proofs.stack.push_arguments.Goals as goal
 
@@ -15,7 +16,7 @@ repeat-requires c =
 
 pub returns : goal.returns
 returns c =
-    let e = c.args.e in
+    let e = worded c.args.e in
     let t = c.args.t in
     rw c.repeat.ensures.0
     (opened-operands c.args.w.now _ c.args.n e t (omega (arith, c.requires.2)) (operands term_sort (t.code - procedure_code)) (sym (operands-number _ c.requires.3)) e.room

@@ -1,13 +1,14 @@
 -- A constant, or another word of the lower bound. Assumes nothing.
 use native.Mathlib.Omega.{arith}
 use Rattle.sheet.proofs.CodeOperands.{operands-few}
+use Rattle.sheet.specs.Stack.{worded}
 use Rattle.sheet.proofs.Opened.{opened-constant, opened-lower}
 use Rattle.sheet.proofs.stack.push_bounds.Goals as goal
 
 pub returns-then-t-eq-CONSTANT : goal.returns-then-t-eq-CONSTANT
 returns-then-t-eq-CONSTANT c =
     let a = c.args in
-    rw c.put.ensures (opened-constant a.w.now a.n a.e a.t c.requires.0 c.requires.1 c.requires.3 c.if-t-eq-CONSTANT.true)
+    rw c.put.ensures (opened-constant a.w.now a.n (worded a.e) a.t c.requires.0 c.requires.1 c.requires.3 c.if-t-eq-CONSTANT.true)
 
 pub push_operands-requires : goal.push_operands-requires
 push_operands-requires c =
@@ -17,5 +18,5 @@ push_operands-requires c =
 pub returns : goal.returns
 returns c =
     let a = c.args in
-    opened-lower a.w.now a.n a.e a.t c.requires.0 c.requires.1 c.requires.3 c.if-t-eq-CONSTANT.false _ _
+    opened-lower a.w.now a.n (worded a.e) a.t c.requires.0 c.requires.1 c.requires.3 c.if-t-eq-CONSTANT.false _ _
     (rw c.put-2.ensures at c.push_operands.ensures)

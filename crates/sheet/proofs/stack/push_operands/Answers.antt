@@ -2,8 +2,9 @@
 use Prim.Native.Nat.{◌-◌}
 use native.Mathlib.Omega.{arith}
 use mathlib.Core.Path.{ap, ◌∙◌}
-use Rattle.sheet.specs.declared.sorts.Operands.{Operands}
+use Rattle.sheet.specs.Sorts.{Operands}
 use Rattle.sheet.proofs.CodeOperands.{operands-word}
+use Rattle.sheet.specs.Stack.{worded}
 use Rattle.sheet.proofs.Opened.{below_other, opened-operands}
 use Rattle.sheet.proofs.stack.push_operands.Goals as goal
 
@@ -14,7 +15,7 @@ repeat-requires c =
 
 pub returns : goal.returns
 returns c =
-    let e = c.args.e in
+    let e = worded c.args.e in
     let is = c.word_operands-o.ensures ∙ operands-word _ c.requires.4 in
     rw c.repeat.ensures.0
     (opened-operands c.args.w.now _ c.args.n e c.args.t (omega (arith, c.requires.3)) _ is (e.room - 1)

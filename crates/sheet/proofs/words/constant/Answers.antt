@@ -4,8 +4,8 @@ use Rattle.specification.specs.Number.{integer}
 use Rattle.sheet.proofs.Lexed.{constant_token, constant-token}
 use Rattle.sheet.proofs.words.constant.Goals as goal
 
-pub returns-in-Bad : goal.returns-in-Bad
-returns-in-Bad c = ap constant_token (sym c.in-Bad.is ∙ c.integer.ensures) ∙ constant-token (integer c.args.t.now)
+pub returns-in-None : goal.returns-in-None
+returns-in-None c = c.word.ensures ∙ ap constant_token (sym c.in-None.is ∙ c.integer.ensures) ∙ constant-token (integer c.args.t.now)
 
-pub returns-in-Is : goal.returns-in-Is
-returns-in-Is c = ap constant_token (sym c.in-Is.is ∙ c.integer.ensures) ∙ constant-token (integer c.args.t.now)
+pub returns-in-Some : goal.returns-in-Some
+returns-in-Some c = ap constant_token (sym c.in-Some.is ∙ c.integer.ensures) ∙ constant-token (integer c.args.t.now)

@@ -1,48 +1,30 @@
 -- By the first byte. Assumes nothing.
-use mathlib.Core.Path.{sym}
-use borrow.Author.Tests.{eq-eqb, ne_eqb}
+use native.Mathlib.Omega.{arith}
+use lib.ListN.{get_or}
+use borrow.Author.Tests.{ne_eqb}
 use Rattle.sheet.proofs.Lexed.{name-token}
 use Rattle.sheet.proofs.words.name.Goals as goal
 
-pub returns-then-b-eq118 : goal.returns-then-b-eq118
-returns-then-b-eq118 c = rw (name-token c.args.edition c.args.t.now c.requires, eq-eqb 118 _ (sym c.if-b-eq118.true)) c.index.ensures
+pub returns-in-118 : goal.returns-in-118
+returns-in-118 c = rw (name-token c.args.edition c.args.t.now c.requires, c.in-118.is) c.index.ensures
 
-pub returns-then-b-eq108 : goal.returns-then-b-eq108
-returns-then-b-eq108 c =
+pub returns-in-108 : goal.returns-in-108
+returns-in-108 c = rw (name-token c.args.edition c.args.t.now c.requires, c.in-108.is) c.index-in-108.ensures
+
+pub returns-in-97 : goal.returns-in-97
+returns-in-97 c = rw (name-token c.args.edition c.args.t.now c.requires, c.in-97.is) c.index-in-97.ensures
+
+pub returns-in-112 : goal.returns-in-112
+returns-in-112 c = rw (name-token c.args.edition c.args.t.now c.requires, c.in-112.is) c.parameter.ensures
+
+pub returns-in_default : goal.returns-in_default
+returns-in_default c =
+    let b = get_or c.args.t.now 0 0 in
     rw (
       name-token c.args.edition c.args.t.now c.requires,
-      ne_eqb 118 _ (λ e. c.if-b-eq118.false (sym e)),
-      eq-eqb 108 _ (sym c.if-b-eq108.true),
+      ne_eqb 118 b (λ e. omega arith),
+      ne_eqb 108 b (λ e. omega arith),
+      ne_eqb 97 b (λ e. omega arith),
+      ne_eqb 112 b (λ e. omega arith),
     )
-    c.index-then-b-eq108.ensures
-
-pub returns-then-b-eq97 : goal.returns-then-b-eq97
-returns-then-b-eq97 c =
-    rw (
-      name-token c.args.edition c.args.t.now c.requires,
-      ne_eqb 118 _ (λ e. c.if-b-eq118.false (sym e)),
-      ne_eqb 108 _ (λ e. c.if-b-eq108.false (sym e)),
-      eq-eqb 97 _ (sym c.if-b-eq97.true),
-    )
-    c.index-then-b-eq97.ensures
-
-pub returns-then-b-eq112 : goal.returns-then-b-eq112
-returns-then-b-eq112 c =
-    rw (
-      name-token c.args.edition c.args.t.now c.requires,
-      ne_eqb 118 _ (λ e. c.if-b-eq118.false (sym e)),
-      ne_eqb 108 _ (λ e. c.if-b-eq108.false (sym e)),
-      ne_eqb 97 _ (λ e. c.if-b-eq97.false (sym e)),
-      eq-eqb 112 _ (sym c.if-b-eq112.true),
-    )
-    c.parameter.ensures
-
-pub returns : goal.returns
-returns c =
-    rw (
-      name-token c.args.edition c.args.t.now c.requires,
-      ne_eqb 118 _ (λ e. c.if-b-eq118.false (sym e)),
-      ne_eqb 108 _ (λ e. c.if-b-eq108.false (sym e)),
-      ne_eqb 97 _ (λ e. c.if-b-eq97.false (sym e)),
-      ne_eqb 112 _ (λ e. c.if-b-eq112.false (sym e)),
-    )
+    c.word.ensures

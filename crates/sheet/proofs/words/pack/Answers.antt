@@ -1,27 +1,24 @@
 -- From the last byte to the first. Assumes nothing.
-use Prim.Native.Nat.{◌-◌}
 use native.Mathlib.Omega.{arith}
-use mathlib.Core.Path.{◌≡◌, ◌∙◌}
-use Rattle.sheet.proofs.Packed.{pack-word, pack-none, pack-more}
+use mathlib.Core.Path.{◌≡◌}
+use borrow.Author.Rules.{rules}
+use Rattle.sheet.proofs.Packed.{pack-word, pack-none, pack-more, pack-done}
 use Rattle.sheet.proofs.words.pack.Goals as goal
 
-pub loop-i-init : goal.loop-i-init
-loop-i-init c = pack-none c.args.t.now c.requires
-
-pub overflow_cast-n : goal.overflow_cast-n
-overflow_cast-n c = omega (arith, (c.shared_slice_known-1.given (c.loop-i.i - 1)).fits)
+pub loop-b-init : goal.loop-b-init
+loop-b-init c =
+    let t = c.args.t.now in
+    let all : c.into_iter-b-iterator.result.iter.rest.now ≡ t = search rules in
+    rw all (pack-none t c.requires)
 
 pub overflow_mul-n : goal.overflow_mul-n
-overflow_mul-n c = omega (arith, pack-word _ _ c.loop-i.invariant.2)
+overflow_mul-n c = omega (arith, pack-word c.loop-b.invariant)
 
 pub overflow_add-n : goal.overflow_add-n
-overflow_add-n c =
-    omega
-    (arith, pack-word _ _ c.loop-i.invariant.2, (c.shared_slice_known-1.given (c.loop-i.i - 1)).fits)
+overflow_add-n c = omega (arith, pack-word c.loop-b.invariant)
 
-pub loop-i-preserved : goal.loop-i-preserved
-loop-i-preserved c =
-    pack-more c.args.t.now c.loop-i.i c.loop-i.n (λ j. (c.shared_slice_known-1.given j).fits) c.loop-i-test.true c.requires c.loop-i.invariant
+pub loop-b-preserved : goal.loop-b-preserved
+loop-b-preserved c = rw c.from.ensures (pack-more _ _ c.in-Some.ensures.steps (omega arith) c.loop-b.invariant)
 
 pub returns : goal.returns
-returns c = let z : c.loop-i.i ≡ 0 = omega arith in c.loop-i.invariant.1 ∙ rw z
+returns c = pack-done _ _ _ c.in-None.ensures.steps.0 c.loop-b.invariant

@@ -2,8 +2,5 @@
 use Rattle.sheet.proofs.Packed.{Packing}
 use Rattle.sheet.proofs.words.pack.Given as goal
 
-abbrev pub invariant-loop-i : goal.invariant-loop-i
-invariant-loop-i l = Packing l.t l.i l.n
-
-abbrev pub decreases-loop-i : goal.decreases-loop-i
-decreases-loop-i l = l.i
+abbrev pub invariant-loop-b : goal.invariant-loop-b
+invariant-loop-b l = Packing l.t l.b-iterator.iter.rest.now l.n

@@ -1,7 +1,7 @@
 -- By the number of the bytes, in the set of the edition. Assumes nothing.
 use mathlib.Core.Path.{◌≡◌, ◌∙◌, sym, ap}
 use Rattle.specification.specs.Words.{words}
-use Rattle.sheet.specs.Packed.{code_by, code_in}
+use Rattle.sheet.specs.Packed.{code_by, code_in, code_or_none}
 use Rattle.sheet.proofs.Packed.{code-long, code-packed, first-words, second-words, third-words}
 use Rattle.sheet.proofs.words.word_code.Goals as goal
 use Rattle.sheet.proofs.words.word_code.Goals.{After-pack-word}
@@ -14,15 +14,16 @@ packed-code c =
     sym (code-packed c.args.edition c.args.t.now (λ j. (c.shared_slice_known-1.given j).fits))
 
 pub returns-then-t-gt4 : goal.returns-then-t-gt4
-returns-then-t-gt4 c = sym (code-long c.args.edition _ c.if-t-gt4.true)
+returns-then-t-gt4 c = ap code_or_none (sym (code-long c.args.edition _ c.if-t-gt4.true))
 
 pub returns-then-edition-eq-FIRST_EDITION : goal.returns-then-edition-eq-FIRST_EDITION
-returns-then-edition-eq-FIRST_EDITION c = c.first_edition.ensures ∙ first-words _ _ c.if-edition-eq-FIRST_EDITION.true ∙ packed-code (goal.at.returns-then-edition-eq-FIRST_EDITION c).After-pack-word
+returns-then-edition-eq-FIRST_EDITION c =
+    c.first_edition.ensures ∙ ap code_or_none (first-words _ _ c.if-edition-eq-FIRST_EDITION.true ∙ packed-code (goal.at.returns-then-edition-eq-FIRST_EDITION c).After-pack-word)
 
 pub returns-then-edition-lt-FIRST_ROUNDING : goal.returns-then-edition-lt-FIRST_ROUNDING
 returns-then-edition-lt-FIRST_ROUNDING c =
-    c.second_edition.ensures ∙ second-words _ _ c.if-edition-eq-FIRST_EDITION.false c.if-edition-lt-FIRST_ROUNDING.true ∙ packed-code (goal.at.returns-then-edition-lt-FIRST_ROUNDING c).After-pack-word
+    c.second_edition.ensures ∙ ap code_or_none (second-words _ _ c.if-edition-eq-FIRST_EDITION.false c.if-edition-lt-FIRST_ROUNDING.true ∙ packed-code (goal.at.returns-then-edition-lt-FIRST_ROUNDING c).After-pack-word)
 
 pub returns : goal.returns
 returns c =
-    c.third_edition.ensures ∙ third-words _ _ c.if-edition-eq-FIRST_EDITION.false c.if-edition-lt-FIRST_ROUNDING.false ∙ packed-code (goal.at.returns c).After-pack-word
+    c.third_edition.ensures ∙ ap code_or_none (third-words _ _ c.if-edition-eq-FIRST_EDITION.false c.if-edition-lt-FIRST_ROUNDING.false ∙ packed-code (goal.at.returns c).After-pack-word)

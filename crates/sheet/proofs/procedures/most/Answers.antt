@@ -1,9 +1,0 @@
--- By the edition. Assumes nothing.
-use borrow.Author.Tests.{eq-eqb, ne_eqb}
-use Rattle.sheet.proofs.procedures.most.Goals as goal
-
-pub returns-then-edition-eq-FIRST_EDITION : goal.returns-then-edition-eq-FIRST_EDITION
-returns-then-edition-eq-FIRST_EDITION c = rw (eq-eqb _ 1 c.if-edition-eq-FIRST_EDITION.true)
-
-pub returns : goal.returns
-returns c = rw (ne_eqb _ 1 c.if-edition-eq-FIRST_EDITION.false)
