@@ -1,5 +1,5 @@
 // The arguments of a call that is entered: each goes into its slot of the procedure's frame. A value stands there as in any slot; a slot without a
-// value has the slot of a bare place, or 0, and then the parameter is open (calls.rt).
+// value has the slot of a bare place, or 0, and then the parameter is open (calls.rt). Whether a slot has a value is a word of the lent memory.
 ghost use Rattle.std.specs.Prelude.{◌≡◌, true, false, ◌+◌, ◌<◌, ◌≤◌, length};
 ghost use Rattle.tables.specs.Layout.{max_parameters, path_at};
 ghost use Rattle.terms.specs.Calls.{Arrives, Arrived};
@@ -143,6 +143,7 @@ pub fn arguments(w: &mut [u32], h: u32, k: u32, env: u32) -> u32
     let mut i = number + 1;
     let mut n = 0;
     let mut set = 0;
+    // From end to end: no iterator could lend the words that each turn writes.
     while i < to {
         let e = end(w, i);
         let is = argue(w, frames::argument(k, n), i, e, env);

@@ -8,16 +8,15 @@ ghost use Rattle.terms.specs.Calls.{Settles, Settled, Active, around_at, Counted
 ghost use Rattle.terms.specs.Calls.{Revalues, Revalued, RevaluesOne, RevaluedOne};
 
 use crate::evaluation::pass;
+use tables::slots::TOKEN;
 use tables::{end, frames, word};
-
-const TOKEN_WORDS: u32 = tables::TOKEN_WORDS as u32;
 
 // The procedure around the call that p is active in.
 fn around(w: &[u32], p: u32) -> u32
     requires { Active w.now p }
     ensures { result ≡ around_at w.now p }
 {
-    tables::planned(w, frames::call(w, p - 1) / TOKEN_WORDS + 1)
+    tables::planned(w, frames::call(w, p - 1) / TOKEN + 1)
 }
 
 // Whether parameter n of procedure k is open.
@@ -26,10 +25,7 @@ fn is_open(w: &[u32], k: u32, n: u32) -> bool
     ensures { result ≡ is_open w.now k n }
 {
     let slot = frames::argument(k, n);
-    if word(w, slot) != 0 {
-        return false;
-    }
-    word(w, slot + 1) == 0
+    word(w, slot) == 0 && word(w, slot + 1) == 0
 }
 
 // Parameter n of procedure k is valued again, if it is open: its argument's tokens, in the environment around the call.
@@ -50,11 +46,12 @@ fn revalue(w: &mut [u32], p: u32)
     ensures { Revalued w.old w.new p }
 {
     let k = p - 1;
-    let number = frames::call(w, k) / TOKEN_WORDS + 1;
+    let number = frames::call(w, k) / TOKEN + 1;
     let env = tables::planned(w, number);
     let to = end(w, number);
     let mut i = number + 1;
     let mut n = 0;
+    // From end to end: no iterator could lend the words that each turn writes.
     while i < to {
         let e = end(w, i);
         revalue_one(w, i, e, env, k, n);
@@ -70,6 +67,7 @@ fn active(w: &[u32], p: u32) -> u32
 {
     let mut q = p;
     let mut n = 0;
+    // Each call says which is around it.
     while q != 0 {
         q = around(w, q);
         n += 1;
@@ -83,10 +81,8 @@ fn outward(w: &[u32], p: u32, j: u32) -> u32
     ensures { Reached w.now p j result }
 {
     let mut q = p;
-    let mut i = 0;
-    while i < j {
+    for _ in 0..j {
         q = around(w, q);
-        i += 1;
     }
     q
 }
@@ -96,9 +92,7 @@ pub fn settle(w: &mut [u32], p: u32)
     requires { Settles w.old p }
     ensures { Settled w.old w.new p }
 {
-    let mut n = active(w, p);
-    while 0 < n {
-        n -= 1;
+    for n in (0..active(w, p)).rev() {
         revalue(w, outward(w, p, n));
     }
 }

@@ -7,7 +7,7 @@ pub mod evaluation;
 pub mod kinds;
 pub mod tags;
 
-// What two terms are: of each a tag (tags.rt) and a word.
+// What two terms are: of each a tag and a word, as tags.rt has them and says why.
 #[derive(Clone, Copy)]
 pub struct Sides {
     pub ltag: u32,
@@ -16,7 +16,7 @@ pub struct Sides {
     pub right: u32,
 }
 
-// The results that are not used yet: the last one's tag and word, and where in the words the others end.
+// The results that are not used yet: the last one's tag and word (tags.rt), and where in the words the others end.
 #[derive(Clone, Copy)]
 pub(crate) struct Stack {
     pub tag: u32,

@@ -130,9 +130,6 @@ module _ {w : Words} {p n q : ℕ} (g : Passing w p n q) (some : q ≡ 0 → ⊥
 
 -- ---- the one at a number
 
-pub outward-start : (w : Words) (p : ℕ) → Reached w p 0 p
-outward-start w p D E h e l = e
-
 module _ (w : Words) (p : ℕ) {n q j : ℕ} (g : Reached w p n q) (less : n < j) where
   pub outward-asks : Outward w p j → Active w q
   outward-asks a =
@@ -141,9 +138,6 @@ module _ (w : Words) (p : ℕ) {n q j : ℕ} (g : Reached w p n q) (less : n < j
       let E = s.environment in
       out-active s.declared w E n q m.environment (omega (arith, a.within))
       (g s.declared E m.environment m.pointer (omega (arith, a.within))) m.size
-
-  pub outward-few : Outward w p j → n < max_procs
-  outward-few a = omega (arith, a.within, calls-few a.settles)
 
   pub outward-next : {r : ℕ} → r ≡ around_at w q → Reached w p (n + 1) r
   outward-next {r} is D E h e l = rw add-one (is ∙ out-next D w E n q h (omega arith) (g D E h e (omega arith)))

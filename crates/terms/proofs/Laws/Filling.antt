@@ -1,5 +1,5 @@
 -- The arguments of a call go into their slots one after the other: what each slot says, and the set of those that are no values. Assumes nothing.
-use Prim.Native.Nat.{ℕ, zero, suc, ◌+◌, ◌^◌, ◌<◌, ◌≤◌}
+use Prim.Native.Nat.{ℕ, zero, suc, ◌+◌, ◌<◌, ◌≤◌}
 use native.Mathlib.Omega.{arith}
 use native.Mathlib.Numerals.{add-one}
 use borrow.Author.Count.{below_more}
@@ -9,7 +9,6 @@ use mathlib.Core.Bool.{Bool, true, false, not}
 use mathlib.Core.List.{List, [], ◌∷◌}
 use mathlib.Core.Logic.{◌⊎◌, inl, inr}
 use lib.ListN.{length, get_or, drop}
-use lib.Bits.{bit_or}
 use Rattle.specification.specs.Lines.{Declared}
 use Rattle.specification.specs.Ast.{Term, parameter}
 use Rattle.specification.specs.Fill.{fill_term}
@@ -35,10 +34,6 @@ use Rattle.terms.proofs.Laws.Arguments.{Next, next_of, arguments-end, argument-o
 use Rattle.terms.proofs.Laws.Outer.{SameFrom, memory-outer, fresh-outer}
 
 -- ---- the set
-
-pub noted-with : (set n : ℕ) {r : ℕ} {b : Bool} → b ≡ false → r ≡ bit_or set (2 ^ n) → r ≡ noted set n b
-noted-with set n {b = true} e q = contradiction cc
-noted-with set n {b = false} e q = q
 
 module _ (set n : ℕ) where
   noted_other : (b : Bool) (m : ℕ) → (m ≡ n → ⊥) → in_set (noted set n b) m ≡ in_set set m

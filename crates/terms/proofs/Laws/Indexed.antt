@@ -20,7 +20,7 @@ use Rattle.terms.specs.declared.Stack.{Stack}
 use Rattle.terms.specs.Environment.{Environment, terms_of, number_of}
 use Rattle.terms.specs.Results.{tag_of, word_of, stack_of, value_tag}
 use Rattle.terms.specs.Parts.{Elements, Element}
-use Rattle.terms.specs.Arguments.{Bound, Written, ResultOf, Stands, Gives, Argues, Indexes}
+use Rattle.terms.specs.Arguments.{Bound, Written, ResultOf, Stands, Gives, Indexes}
 use Rattle.terms.proofs.Laws.Here.{term-ends}
 use Rattle.terms.proofs.Laws.Stack.{tag_is, value-is}
 use Rattle.terms.proofs.Laws.Elements.{elements}
@@ -98,9 +98,6 @@ module _ {w : Words} {from to p : ℕ} (short : to ≡ from + 2) {x : Side} (v :
 
   index-ends : from + 1 < max_tokens
   index-ends = let ends = term-ends w (from + 1) element-of.index element-of.stands.term in omega (arith, ends.after, ends.inside)
-
-pub argues-second : {w : Words} {slot from to p : ℕ} → Argues w slot from to p → to ≡ from + 2 → (from + 1 < max_tokens) × (path_at ≤ length w)
-argues-second a short = (index-ends short a.gives, a.gives.stands.memory.size)
 
 -- the index's value
 value-tag : {n : ℕ} (y : Side) → Written true n y → (value_tag ≡ tag_of y) × (n ≡ word_of y)

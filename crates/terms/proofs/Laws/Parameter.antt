@@ -1,19 +1,19 @@
 -- What the frame of a procedure says of a parameter, from what the code tested. Assumes nothing.
 use Prim.Native.Nat.{ℕ, ◌+◌, ◌-◌, ◌<◌}
 use native.Mathlib.Omega.{arith}
-use mathlib.Core.Path.{◌≡◌, sym, ◌∙◌, ap, ap₂, subst}
-use lib.ListN.{length, get_or}
+use mathlib.Core.Path.{◌≡◌, sym, ◌∙◌, ap, subst}
+use lib.ListN.{get_or}
 use Rattle.specification.specs.Place.{Place, cell, local}
 use Rattle.specification.specs.Value.{side}
-use Rattle.tables.specs.Layout.{path_at, open_slot}
+use Rattle.tables.specs.Layout.{path_at}
 use Rattle.tables.specs.Frames.{argument_slot}
 use Rattle.sheet.specs.Tables.{Words}
-use Rattle.sheet.specs.Held.{SlotAt, slot_of}
+use Rattle.sheet.specs.Held.{slot_of}
 use Rattle.terms.specs.declared.Stack.{Stack}
 use Rattle.terms.specs.Environment.{Known}
-use Rattle.terms.specs.Results.{value_tag, stack_of, Looked}
+use Rattle.terms.specs.Results.{value_tag, stack_of}
 use Rattle.terms.specs.Parts.{Parameter, ParameterIs, ParameterRead, Saved}
-use Rattle.terms.proofs.Laws.Low.{slot_held, holds-low}
+use Rattle.terms.proofs.Laws.Low.{holds-low}
 use Rattle.terms.proofs.Laws.Off.{off-low, parameter-kept}
 
 slot-inside : (p : Place) → Known p → slot_of p + 1 < path_at
@@ -39,19 +39,6 @@ module _ (w : Words) (p n at : ℕ) {k x : ℕ} (slot : k ≡ argument_slot (p -
         let is : x ≡ slot_of q.place = word-is ∙ q.word in
         subst (λ (k : ℕ). k + 1 < path_at) (sym is) (slot-inside q.place q.known)
 
-    pub result-place : {r : Stack} → ¬ (x ≡ 0) → Looked w x at r → ParameterIs w p n at r
-    result-place some looked D α t holds g =
-        let q = g.place flag-none (λ z. some (word-is ∙ z)) in
-        let is : x ≡ slot_of q.place = word-is ∙ q.word in
-        let held = subst (λ (k : ℕ). SlotAt w k (α q.place)) (sym is) (slot_held holds q.place q.known) in
-        looked q.place (α q.place) (sym is) held ∙ ap (stack_of at) (sym (q.looks α))
-
-    pub result-open : (tag value : ℕ) → x ≡ 0 → tag ≡ get_or w (open_slot (p - 1) n) 0 → value ≡ get_or w (open_slot (p - 1) n + 1) 0 →
-        ParameterIs w p n at (record { at = at; tag = tag; value = value })
-    result-open tag value zero t v D α term holds g =
-        let entry = g.opened flag-none (sym word-is ∙ zero) in
-        ap₂ (λ (t v : ℕ). record { at = at; tag = t; value = v }) (t ∙ entry.0) (v ∙ entry.1)
-
   pub result_value : ¬ (get_or w k 0 ≡ 0) → ParameterIs w p n at (record { at = at; tag = value_tag; value = x })
   unfolding side
   result_value some D α term holds g =
@@ -59,19 +46,7 @@ module _ (w : Words) (p n at : ℕ) {k x : ℕ} (slot : k ≡ argument_slot (p -
       let q = g.value set in
       rw q.term (ap (λ (v : ℕ). record { at = at; tag = value_tag; value = v }) (word-is ∙ q.word))
 
--- ---- after a store on the stack
-
-pub parameter-after : {w w' : Words} {p n at : ℕ} {s : Stack} → Saved w w' s at → length w' ≡ length w → Parameter w p n → Parameter w' p n
-parameter-after {w} {w'} saved z a =
-    record {
-      declared = a.declared;
-      valuation = a.valuation;
-      term = a.term;
-      there = parameter-kept w w' saved.kept a.there;
-      size = rw z a.size;
-    }
-
--- one more result
+-- one more result, after a store on the stack
 pub parameter-made : {w w' : Words} {p n at : ℕ} {s r : Stack} → Saved w w' s at → ParameterIs w' p n at r →
     ParameterRead w w' p n s r
 parameter-made {w} {w'} saved is =

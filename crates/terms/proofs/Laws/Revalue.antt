@@ -3,82 +3,35 @@ use Prim.Native.Nat.{ℕ, suc, ◌+◌, ◌-◌, ◌/◌, ◌<◌, ◌≤◌}
 use native.Mathlib.Omega.{arith}
 use native.Mathlib.Numerals.{add-one}
 use borrow.Author.Count.{below_more}
-use borrow.Author.Tests.{eq-eqb, ne_eqb}
-use mathlib.Core.Path.{◌≡◌, refl, sym, ◌∙◌, ap, subst}
-use mathlib.Core.Bool.{true, false}
+use borrow.Author.Tests.{eq-eqb}
+use mathlib.Core.Path.{◌≡◌, refl, sym, ◌∙◌, ap}
+use mathlib.Core.Bool.{true}
 use mathlib.Core.List.{[], ◌∷◌}
 use mathlib.Core.Logic.{◌⊎◌, inl, inr}
-use lib.ListN.{length, get_or, set, drop, length-set}
-use lib.Seq.{get_or-set_same, get_or-set_other}
-use lib.Dec.{eqb}
+use lib.ListN.{length, get_or, drop}
 use Rattle.specification.specs.Lines.{Declared}
 use Rattle.specification.specs.Ast.{Term, parameter}
 use Rattle.specification.specs.Fill.{fill_term}
 use Rattle.specification.specs.Value.{Valuation, side}
-use Rattle.specification.proofs.Laws.Contradiction.{contradiction}
 use Rattle.tables.specs.Layout.{Words, token_words, dues_at, opens_at, path_at, open_slot, plan_at, max_procs, max_parameters, max_tokens}
 use Rattle.tables.specs.Frames.{frames_at, argument_slot, call_at}
 use Rattle.sheet.specs.Held.{end_at, ArgumentsAt}
-use Rattle.terms.specs.declared.Stack.{Stack}
 use Rattle.terms.specs.Environment.{Level, Environment, terms_of, pointer_of, Memory}
 use Rattle.terms.specs.Results.{Upto, EntryAt, Kept}
-use Rattle.terms.specs.Machine.{items, Stacked, Program, Passed}
-use Rattle.terms.specs.Calls.{Fresh, Active, number_at, around_at, is_open, Revalues, Revalued, RevaluesOne, RevaluedOne}
-use Rattle.terms.proofs.Laws.Stack.{tag_is, value-is}
+use Rattle.terms.specs.Machine.{items, Program}
+use Rattle.terms.specs.Calls.{Fresh, number_at, around_at, is_open, Revalues, Revalued, RevaluesOne, RevaluedOne}
 use Rattle.terms.proofs.Laws.Low.{tokens-low}
 use Rattle.terms.proofs.Laws.Here.{term-here, end-here}
 use Rattle.terms.proofs.Laws.Environment.{memory_kept, memory-around, fresh-same}
 use Rattle.terms.proofs.Laws.Environment as environment
 use Rattle.terms.proofs.Laws.Program.{one, run-one}
 use Rattle.terms.proofs.Laws.Arguments.{Next, next_of, arguments-end, argument-ok, argument-low}
-use Rattle.terms.proofs.Laws.Chain.{number_is, around-is, active-of}
+use Rattle.terms.proofs.Laws.Chain.{number_is, around-is}
 
 -- ---- whether a parameter is open
 
--- its slot as the code reads it
-module _ (w : Words) (k n : ℕ) {slot x : ℕ} (at : slot ≡ argument_slot k n) (flag : x ≡ get_or w slot 0) where
-  pub flag-closed : (x ≡ 0 → ⊥) → false ≡ is_open w k n
-  flag-closed some =
-      let is : get_or w (argument_slot k n) 0 ≡ x = sym (flag ∙ ap (λ (i : ℕ). get_or w i 0) at) in
-      rw (ne_eqb (get_or w (argument_slot k n) 0) 0 (λ z. some (sym is ∙ z))) refl
-
-  pub flag-open : {y : ℕ} → x ≡ 0 → y ≡ get_or w (slot + 1) 0 → eqb y 0 ≡ is_open w k n
-  flag-open {y} none word =
-      let is : get_or w (argument_slot k n) 0 ≡ 0 = sym (flag ∙ ap (λ (i : ℕ). get_or w i 0) at) ∙ none in
-      rw (eq-eqb (get_or w (argument_slot k n) 0) 0 is) (ap (λ (y : ℕ). eqb y 0) (word ∙ ap (λ (i : ℕ). get_or w (i + 1) 0) at))
-
 both-open : (w : Words) (k n : ℕ) → get_or w (argument_slot k n) 0 ≡ 0 → get_or w (argument_slot k n + 1) 0 ≡ 0 → is_open w k n ≡ true
 both-open w k n o z = rw (eq-eqb (get_or w (argument_slot k n) 0) 0 o, eq-eqb (get_or w (argument_slot k n + 1) 0) 0 z) refl
-
--- ---- one parameter
-
-pub one-closed : (w : Words) (from to p k n : ℕ) → is_open w k n ≡ false → RevaluedOne w w from to p k n
-one-closed w from to p k n e = record { entry = λ o. contradiction cc; kept = λ j a b. refl; size = refl }
-
-pub one-open : {w w₁ w' : Words} {from to p : ℕ} {r : Stack} (k n : ℕ) → RevaluesOne w from to p k n → Passed w w₁ from to p r →
-    w' ≡ set (set w₁ (open_slot k n) r.tag) (open_slot k n + 1) r.value → path_at ≤ length w → RevaluedOne w w' from to p k n
-one-open {w} {w₁} {w'} {r = r} k n a passed stored size =
-    let at = open_slot k n in
-    let inside : at + 1 < length w₁ = omega (arith, a.procedure, a.number, passed.size) in
-    let first = set w₁ at r.tag in
-    record {
-      entry = λ o D α ts xs x g one.
-          let held = (subst (Stacked w₁ r) one (passed.results D α ts xs g)).0 in (
-            rw stored (get_or-set_other first (at + 1) at r.value 0 (λ y. omega arith) ∙ get_or-set_same w₁ at r.tag 0 (omega arith)) ∙ tag_is held,
-            rw stored (get_or-set_same first (at + 1) r.value 0 (rw length-set inside)) ∙ value-is held,
-          );
-      kept = λ j o c. rw stored (stored-off j c) ∙ passed.kept j o;
-      size = rw (stored, length-set, length-set) passed.size;
-    }
-  where
-    stored-off : (j : ℕ) → (j < open_slot k n) ⊎ (open_slot k n + 1 < j) →
-        get_or (set (set w₁ (open_slot k n) r.tag) (open_slot k n + 1) r.value) j 0 ≡ get_or w₁ j 0
-    stored-off j (inl l) =
-        get_or-set_other (set w₁ (open_slot k n) r.tag) (open_slot k n + 1) j r.value 0 (λ y. omega arith)
-        ∙ get_or-set_other w₁ (open_slot k n) j r.tag 0 (λ y. omega arith)
-    stored-off j (inr l) =
-        get_or-set_other (set w₁ (open_slot k n) r.tag) (open_slot k n + 1) j r.value 0 (λ y. omega arith)
-        ∙ get_or-set_other w₁ (open_slot k n) j r.tag 0 (λ y. omega arith)
 
 -- ---- each in turn
 
@@ -244,11 +197,6 @@ pub record CallRead (w : Words) (p number to env : ℕ) : Type 0 where
   pub end : to ≡ end_at w (number_at w p)
   pub around : env ≡ around_at w p
 
-pub revalues-active : {w : Words} {p : ℕ} → Revalues w p → Active w p
-revalues-active {w} {p} a =
-    let m = a.memory in
-    active-of a.declared w a.level a.environment p m.environment m.pointer m.size
-
 -- x is the word of the call in the frame
 pub call-read : {w : Words} {p x env to : ℕ} → Revalues w p → x ≡ call_at w (p - 1) → env ≡ plan_at w (x / token_words + 1) →
     to ≡ end_at w (x / token_words + 1) → CallRead w p (x / token_words + 1) to env
@@ -259,9 +207,6 @@ call-read {w} a call around end =
       end = end ∙ ap (λ (x : ℕ). end_at w (x / token_words + 1)) call;
       around = around ∙ ap (λ (x : ℕ). plan_at w (x / token_words + 1)) call;
     }
-
-pub read-start : {w : Words} {p number to env : ℕ} → CallRead w p number to env → Round w w p (number + 1) 0
-read-start {w} {p} {number} c = rw (add-one number, c.token) (round-start w p)
 
 module _ {w₀ w : Words} {p number to env i n : ℕ} (c : CallRead w₀ p number to env) (round : Round w₀ w p i n) where
   pub read-end : to ≤ i → Revalued w₀ w p

@@ -1,7 +1,7 @@
 -- The open parameters of all active calls, settled from the outermost call inwards. Assumes nothing.
 use Prim.Native.Nat.{ℕ, suc, ◌-◌, ◌<◌, ◌≤◌}
 use native.Mathlib.Omega.{arith}
-use mathlib.Core.Path.{◌≡◌, refl, ◌∙◌, subst}
+use mathlib.Core.Path.{◌≡◌, ◌∙◌, subst}
 use mathlib.Core.List.{◌∷◌}
 use lib.ListN.{length, drop}
 use Rattle.specification.specs.Lines.{Declared}
@@ -9,9 +9,9 @@ use Rattle.specification.specs.Value.{Valuation}
 use Rattle.tables.specs.Layout.{Words}
 use Rattle.terms.specs.Environment.{Environment, pointer_of, Memory}
 use Rattle.terms.specs.Results.{Kept}
-use Rattle.terms.specs.Calls.{Fresh, Settles, Settled, Counted, Outward, Reached, Revalues, Revalued}
+use Rattle.terms.specs.Calls.{Fresh, Settles, Settled, Outward, Reached, Revalues, Revalued}
 use Rattle.terms.proofs.Laws.Environment.{memory_kept}
-use Rattle.terms.proofs.Laws.Chain.{env-drop, none_left, level_at, split}
+use Rattle.terms.proofs.Laws.Chain.{env-drop, level_at, split}
 
 -- the open parameters of the call after the first n have their results
 pub record Settling (w₀ w : Words) (p n : ℕ) : Type 0 where
@@ -19,15 +19,6 @@ pub record Settling (w₀ w : Words) (p n : ℕ) : Type 0 where
   pub fresh : (D : Declared) (α : Valuation) (E : Environment) → Memory w₀ p D α E → Fresh w D α (drop n E)
   pub kept : Kept w₀ w
   pub size : length w ≡ length w₀
-
-pub settling-start : {w : Words} {p n : ℕ} → Counted w p n → Settling w w p n
-settling-start {w} {p} {n} c =
-    record {
-      few = λ D α E m. omega (arith, c D E m.environment m.pointer);
-      fresh = λ D α E m. rw (none_left E n (omega (arith, c D E m.environment m.pointer))) tt;
-      kept = λ j o. refl;
-      size = refl;
-    }
 
 pub settling-end : {w₀ w : Words} {p n : ℕ} → Settling w₀ w p n → n ≤ 0 → Settled w₀ w p
 settling-end {w₀} {w} {p} {n} s l =

@@ -15,7 +15,7 @@ use Rattle.specification.specs.Fill.{fill_term}
 use Rattle.specification.specs.Place.{Place, cell, local}
 use Rattle.specification.specs.Value.{Slot, empty, full, Valuation, Side, val, bare, err, look, side}
 use Rattle.specification.specs.WellFormed.{OkTerm}
-use Rattle.tables.specs.Layout.{path_at, dues_at, results_at, slot_words, plan_at, max_tokens, max_procs}
+use Rattle.tables.specs.Layout.{path_at, dues_at, results_at, slot_words, plan_at, max_procs}
 use Rattle.tables.specs.Locals.{in_set}
 use Rattle.tables.specs.Frames.{frames_at, argument_slot, tags_at}
 use Rattle.sheet.specs.Tables.{Words}
@@ -282,12 +282,6 @@ module _ {w : Words} {from to p : ℕ} where
         items = items v.term [];
         program = program v.stands;
       }
-
-  pub argues-inside : {slot : ℕ} → Argues w slot from to p → (from < max_tokens) × (path_at ≤ length w)
-  argues-inside a =
-      let v = a.gives in
-      let ends = term-ends w from v.term v.stands.term in
-      (omega (arith, ends.after, ends.inside), v.stands.memory.size)
 
   module _ {w₁ : Words} {s : Stack} (passed : Passed w w₁ from to p s) where
     held : (x : Side) → Gives w from to p x → s ≡ stack_of results_at x

@@ -5,21 +5,8 @@ use Rattle.terms.proofs.Laws.Filling.{filling-start, filling-few, filling-token,
 use Rattle.terms.proofs.Laws.Filling.{arrives-inside}
 use Rattle.terms.proofs.arguments.arguments.Goals as goal
 
-pub overflow_add-number : goal.overflow_add-number
-overflow_add-number c = omega (arith, arrives-inside c.requires)
-
-pub end-to-requires : goal.end-to-requires
-end-to-requires c = omega (arith, arrives-inside c.requires)
-
-pub overflow_add-i : goal.overflow_add-i
-overflow_add-i c = omega (arith, arrives-inside c.requires)
-
 pub loop-i-init : goal.loop-i-init
 loop-i-init c = rw (add-one, add-one) (filling-start _ _ _ _ _ (rw add-one at c.end-to.ensures))
-
-pub end-e-requires : goal.end-e-requires
-end-e-requires c =
-    omega (arith, (filling-token c.loop-i.invariant c.loop-i-test.true c.requires).0, c.loop-i.invariant.size, arrives-inside c.requires)
 
 pub argument-requires : goal.argument-requires
 argument-requires c =
@@ -32,10 +19,6 @@ argue-is-requires c =
 pub note-set-requires : goal.note-set-requires
 note-set-requires c =
     filling-few c.loop-i.invariant c.loop-i-test.true c.requires
-
-pub overflow_add-n : goal.overflow_add-n
-overflow_add-n c =
-    omega (arith, filling-few c.loop-i.invariant c.loop-i-test.true c.requires)
 
 pub loop-i-smaller : goal.loop-i-smaller
 loop-i-smaller c =

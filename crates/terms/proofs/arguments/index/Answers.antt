@@ -13,9 +13,6 @@ overflow_add-s c = omega (arith, index-inside c.requires)
 pub word-requires-2 : goal.word-requires-2
 word-requires-2 c = omega (arith, index-inside c.requires)
 
-pub operand-requires : goal.operand-requires
-operand-requires c = omega (arith, index-inside c.requires)
-
 pub element-e-requires : goal.element-e-requires
 element-e-requires c = index-elements c.requires c.operand.ensures
 

@@ -1,10 +1,7 @@
 -- `calls::active` meets its contract. The invariant: n calls are passed. The measure: how many more there can be. Assumes nothing.
 use native.Mathlib.Omega.{arith}
-use Rattle.terms.proofs.Laws.Chain.{passing-start, passing-asks, passing-few, passing-next, passing-end}
+use Rattle.terms.proofs.Laws.Chain.{passing-asks, passing-few, passing-next, passing-end}
 use Rattle.terms.proofs.calls.active.Goals as goal
-
-pub loop-q-init : goal.loop-q-init
-loop-q-init c = passing-start _ _
 
 pub around-q-requires : goal.around-q-requires
 around-q-requires c = passing-asks c.loop-q.invariant c.loop-q-test.true c.requires

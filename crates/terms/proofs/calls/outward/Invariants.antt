@@ -1,10 +1,6 @@
--- `calls::outward` meets its contract. The invariant: q points to what is i calls further out. The measure: the calls left. Assumes nothing.
-use Prim.Native.Nat.{◌-◌, ◌≤◌}
+-- `calls::outward` meets its contract. The invariant: q points to what is as many calls further out as were passed. Assumes nothing.
 use Rattle.terms.specs.Calls.{Reached}
 use Rattle.terms.proofs.calls.outward.Given as goal
 
-abbrev pub invariant-loop-i : goal.invariant-loop-i
-invariant-loop-i l = Reached l.w l.p l.i l.q × (l.i ≤ l.j)
-
-abbrev pub decreases-loop-i : goal.decreases-loop-i
-decreases-loop-i l = l.j - l.i
+abbrev pub invariant-loop : goal.invariant-loop
+invariant-loop l = Reached l.w l.p l.counter l.q

@@ -1,9 +1,6 @@
--- `calls::settle` meets its contract. The invariant: the calls after the first n are settled. The measure: n. Assumes nothing.
-use Rattle.terms.proofs.Laws.Settle.{settling-start, settle-outward, settle-asks, settle-next, settling-end}
+-- `calls::settle` meets its contract. Assumes nothing.
+use Rattle.terms.proofs.Laws.Settle.{settle-outward, settle-asks, settle-next, settling-end}
 use Rattle.terms.proofs.calls.settle.Goals as goal
-
-pub loop-n-init : goal.loop-n-init
-loop-n-init c = settling-start c.active-n.ensures
 
 pub outward-requires : goal.outward-requires
 outward-requires c =

@@ -1,13 +1,11 @@
 -- `evaluation::found` meets its contract. Assumes nothing.
-use Rattle.terms.proofs.Laws.Results.{packs-value, packs-fault}
+use mathlib.Core.Path.{◌∙◌, ap}
+use Prim.Native.Nat.{ℕ}
+use Rattle.terms.specs.Results.{error_of}
+use Rattle.terms.proofs.Laws.Results.{packs-fault}
 use Rattle.terms.proofs.evaluation.found.Goals as goal
 
-pub returns-in-Value : goal.returns-in-Value
-returns-in-Value c =
+pub returns-in-Err : goal.returns-in-Err
+returns-in-Err c =
     let a = c.args in
-    packs-value a.c a.at _ c.in-Value.is
-
-pub returns-in-Fault : goal.returns-in-Fault
-returns-in-Fault c =
-    let a = c.args in
-    packs-fault a.c a.at _ c.error.ensures c.in-Fault.is
+    packs-fault a.computed a.at _ (c.error.ensures ∙ ap (λ (κ : ℕ). error_of κ a.at) c.into.ensures) c.in-Err.is

@@ -1,11 +1,7 @@
 -- `evaluation::parameter` meets its contract: the store before the read leaves the frames and the words of open parameters as they were.
 -- Assumes nothing.
-use Rattle.terms.proofs.Laws.Parameter.{parameter-after, parameter-made}
+use Rattle.terms.proofs.Laws.Parameter.{parameter-made}
 use Rattle.terms.proofs.evaluation.parameter.Goals as goal
-
-pub result-requires : goal.result-requires
-result-requires c =
-    parameter-after c.kept-at.ensures c.kept-at.auto.w c.requires.0
 
 pub returns : goal.returns
 returns c =

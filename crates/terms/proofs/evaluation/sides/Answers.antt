@@ -1,10 +1,6 @@
 -- `evaluation::sides` meets its contract. Assumes nothing.
-use Rattle.terms.proofs.Laws.Program.{asked-settles, asked-passes, passed-both}
+use Rattle.terms.proofs.Laws.Program.{asked-passes, passed-both}
 use Rattle.terms.proofs.evaluation.sides.Goals as goal
-
-pub settle-requires : goal.settle-requires
-settle-requires c =
-    asked-settles c.requires
 
 pub pass-s-requires : goal.pass-s-requires
 pass-s-requires c =
