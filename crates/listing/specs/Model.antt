@@ -9,7 +9,10 @@ use Rattle.values.specs.Word.{signed}
 use Rattle.tables.specs.Layout.{Words, dues_at, flag_at, value_at, first_at, max_cells, max_arrays}
 use Rattle.listing.specs.declared.Head.{Head}
 use Rattle.listing.specs.declared.Head.TheVariants.{Answer, Error}
-use Rattle.listing.specs.Put.{Put}
+use Rattle.listing.specs.declared.cells.Name.{Name}
+use Rattle.listing.specs.declared.cells.Name.TheVariants.{Scalar, Element}
+use Rattle.listing.specs.declared.writer.Writer.{Writer}
+use Rattle.listing.specs.Put.{Writes}
 
 -- ---- the words
 
@@ -34,6 +37,11 @@ pub record Laid (w : Words) (arrays : ℕ) : Type 0 where
 unfoldable pub each_line : (ℕ → List Line) → ℕ → ℕ → List Line
 each_line f i zero = []
 each_line f i (suc n) = f i ++ each_line f (suc i) n
+
+-- a name in the specification's words
+abbrev pub name_of : Name → CellName
+name_of (Scalar n) = scalar n
+name_of (Element a e) = element a e
 
 -- the line of cell c under its name, if it has a value
 unfoldable pub line_at : Words → CellName → ℕ → List Line
@@ -60,9 +68,9 @@ abbrev pub head_text : Head → Bytes
 head_text h = lines_text (head_lines (head_of h))
 
 -- the head's lines at the start of the memory: at most three keys and three numbers of ten digits
-pub record Headed (o o' : Bytes) (h : Head) (r : ℕ) : Type 0 where
-  pub text : Put o o' 0 (head_text h) r
-  pub short : r ≤ 47
+pub record Headed (before after : Writer) (h : Head) : Type 0 where
+  pub text : Writes before after (head_text h)
+  pub short : after.at ≤ 47
 
 -- head, scalars, arrays
 abbrev pub model_text : Words → ℕ → ℕ → Head → Bytes

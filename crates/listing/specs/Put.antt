@@ -5,6 +5,7 @@ use Rattle.std.proofs.lemmas.List.Edits.{sets}
 use Rattle.specification.specs.Bytes.{Bytes, bytes}
 use Rattle.specification.specs.Number.{printℤ}
 use Rattle.values.specs.Word.{signed}
+use Rattle.listing.specs.declared.writer.Writer.{Writer}
 
 -- the place after them is a number of the machine
 abbrev pub Room : ℕ → Bytes → Type 0
@@ -14,6 +15,11 @@ Room at t = at + length t < 18446744073709551616
 pub record Put (o o' : Bytes) (at : ℕ) (t : Bytes) (after : ℕ) : Type 0 where
   pub bytes : o' ≡ sets o at t
   pub end : after ≡ at + length t
+
+-- what a writer puts, from where it stands on, into the memory that it was lent
+pub record Writes (before after : Writer) (t : Bytes) : Type 0 where
+  pub memory : after.memory.ghost_name ≡ before.memory.ghost_name
+  pub put : Put before.memory.now after.memory.now before.at t after.at
 
 -- what stands after a cell's name
 abbrev pub end_text : ℕ → Bytes

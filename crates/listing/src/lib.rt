@@ -9,7 +9,9 @@ ghost use Rattle.listing.specs.Model.{Laid, Headed, model_text};
 ghost use Rattle.listing.specs.Block.{Ready, Listed};
 
 mod cells;
-pub mod put;
+mod writer;
+
+pub use writer::Writer;
 
 // What a block begins with: its number; of an error the kind and the token too.
 #[derive(Clone, Copy)]
@@ -18,31 +20,27 @@ pub enum Head {
     Error { number: u32, kind: u32, token: u32 },
 }
 
-// The bytes of a block that was written, or that it did not fit.
-#[derive(Clone, Copy)]
-pub enum Written {
-    Full,
-    Bytes(usize),
-}
+// ---- the head
 
-// ---- the head, from the start of the memory
-
-fn answer(out: &mut [u8], number: u32) -> usize
-    ensures { Headed out.old out.new (Head.Answer number) result }
+fn answer(out: &mut Writer, number: u32)
+    requires { out.old.at ≡ 0 }
+    ensures { Headed out.old out.new (Head.Answer number) }
 {
-    put::field(out, 0, b"answer=", number as u64)
+    out.field(b"answer=", number as u64);
 }
 
-fn error(out: &mut [u8], number: u32, kind: u32, token: u32) -> usize
-    ensures { Headed out.old out.new (Head.Error number kind token) result }
+fn error(out: &mut Writer, number: u32, kind: u32, token: u32)
+    requires { out.old.at ≡ 0 }
+    ensures { Headed out.old out.new (Head.Error number kind token) }
 {
-    let p = put::field(out, 0, b"error=", number as u64);
-    let q = put::field(out, p, b"kind=", kind as u64);
-    put::field(out, q, b"at=", token as u64)
+    out.field(b"error=", number as u64);
+    out.field(b"kind=", kind as u64);
+    out.field(b"at=", token as u64);
 }
 
-fn top(out: &mut [u8], head: Head) -> usize
-    ensures { Headed out.old out.new head result }
+fn top(out: &mut Writer, head: Head)
+    requires { out.old.at ≡ 0 }
+    ensures { Headed out.old out.new head }
 {
     match head {
         Head::Answer { number } => answer(out, number),
@@ -57,13 +55,15 @@ fn top(out: &mut [u8], head: Head) -> usize
 // ---- the block
 
 // All of it from the start of the memory, or as much as there is room for. Gives its length.
-fn block(out: &mut [u8], w: &[u32], scalars: u32, arrays: u32, head: Head) -> usize
+fn block(memory: &mut [u8], w: &[u32], scalars: u32, arrays: u32, head: Head) -> usize
     requires { (Laid w.now arrays) × (scalars ≤ max_cells) }
-    ensures { Put out.old out.new 0 (model_text w.now scalars arrays head) result }
+    ensures { Put memory.old memory.new 0 (model_text w.now scalars arrays head) result }
 {
-    let p = top(out, head);
-    let q = cells::scalars(out, p, w, scalars);
-    cells::arrays(out, q, w, arrays)
+    let mut out = Writer::new(memory);
+    top(&mut out, head);
+    cells::scalars(&mut out, w, scalars);
+    cells::arrays(&mut out, w, arrays);
+    out.at
 }
 
 // Its length, by writing it into no memory.
@@ -75,15 +75,15 @@ fn size(w: &[u32], scalars: u32, arrays: u32, head: Head) -> usize
     block(&mut none, w, scalars, arrays, head)
 }
 
-// The block of the cells' values, at the start of the rest of the output. One that does not fit leaves no byte.
-pub fn write(rest: &mut [u8], w: &[u32], scalars: u32, arrays: u32, head: Head) -> Written
+// The block of the cells' values, at the start of the rest of the output. Gives the bytes it takes; one that does not fit leaves no byte.
+pub fn write(rest: &mut [u8], w: &[u32], scalars: u32, arrays: u32, head: Head) -> Option<usize>
     requires { Ready w.now scalars arrays }
     ensures { Listed w.now scalars arrays head rest.old rest.new result }
 {
     let n = size(w, scalars, arrays, head);
     if rest.len() < n {
-        return Written::Full;
+        return None;
     }
     block(rest, w, scalars, arrays, head);
-    Written::Bytes(n)
+    Some(n)
 }

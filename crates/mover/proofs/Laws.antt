@@ -7,6 +7,7 @@ pub mod Lines
 pub mod Ranges
 pub mod Chunks
 pub mod Words
+pub mod Due
 pub mod Texts
 pub mod MovedLines
 pub mod MovedRanges

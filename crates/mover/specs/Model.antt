@@ -2,8 +2,10 @@
 -- anew by the table of tokens. That this is the move of the sheet which these bytes are the text of is in proofs/Laws. Assumes nothing.
 use Rattle.std.specs.Prelude.{ℕ, zero, suc, ◌+◌, Bool, true, false, ◌&&◌, ◌||◌, List, [], ◌∷◌, ◌++◌, length, take, drop, eqb, ltb}
 use Rattle.std.proofs.Math.Option.{Option, none, some as just}
-use Rattle.specification.specs.Bytes.{Bytes, bytes, pick, between, letter, is_in, in_number, begins}
+use Rattle.specification.specs.Bytes.{Bytes, bytes, pick, between, begins}
 use Rattle.specification.specs.Moves.{Result, fitted, unless}
+-- letters, digits and minus signs; an equals sign, a colon, a space and a line feed are marks
+unfoldable pub use Rattle.text.specs.Class.{in_word}
 use Rattle.tables.specs.Layout.{Words, max_tokens, code_at, operand_at, end_at}
 use Rattle.tables.specs.Codes.{some_code, all_code, quo_code, rem_code, constant_code}
 
@@ -51,10 +53,6 @@ narrow_place p (suc n) bs =
     pick (begins t bs) later (just p)
 
 -- ---- chunks of lines: the letters of a word or key, and the mark after them, none at the end
-
--- letters, digits and minus signs; an equals sign, a colon, a space and a line feed are marks
-unfoldable pub in_word : ℕ → Bool
-in_word b = is_in letter b || in_number b
 
 pub record Chunk : Type 0 where
   pub letters : Bytes

@@ -1,20 +1,17 @@
 -- The places that the mover's functions answer, the text of each way, and what a move leaves. Assumes nothing.
-use Rattle.std.specs.Prelude.{ℕ, ◌≤◌, ◌≡◌, [], length, ltb}
+use Rattle.std.specs.Prelude.{ℕ, ◌≤◌, ◌≡◌, [], length, ltb, Option as Answer, Some, None}
 use Rattle.std.proofs.Math.Option.{Option, none, some as just}
 use Rattle.specification.specs.Bytes.{Bytes, bytes, pick}
-use Rattle.specification.specs.declared.Move.{Move}
-use Rattle.specification.specs.Moves.{Result, longest_sheet, outcome, output_after}
+use Rattle.specification.specs.Moves.{Result, longest_sheet, Move, outcome, output_after}
 use Rattle.tables.specs.Layout.{Words, path_at}
-use Rattle.mover.specs.declared.Place.{Place}
-use Rattle.mover.specs.declared.Place.TheVariants.{Nowhere, At}
 use Rattle.mover.specs.declared.Way.{Way}
 use Rattle.mover.specs.declared.Way.TheVariants.{Up, Tidy, Down}
 use Rattle.mover.specs.Model.{lines_length, head_lines, up_text, tidy_text, down_text, up_result, tidy_result, down_result}
 
 -- a place that is answered
-abbrev pub placed : Place → Option ℕ
-placed Nowhere = none
-placed (At p) = just p
+abbrev pub placed : Answer ℕ → Option ℕ
+placed None = none
+placed (Some p) = just p
 
 -- bytes that are dropped with the token i where it is below `until`
 abbrev pub kept : ℕ → ℕ → Bytes → Bytes

@@ -1,76 +1,59 @@
 // The line of full ranges: the line written, and the first range that is not full.
 ghost use Rattle.std.specs.Prelude.{◌≡◌, ◌++◌, drop};
-ghost use Rattle.specification.specs.Bytes.{begins};
-ghost use Rattle.listing.specs.Put.{Room, Put};
+ghost use Rattle.listing.specs.Put.{Room, Writes};
 ghost use Rattle.mover.specs.Model.{full_range, mark_after, full_ranges, full_line, narrow_place};
 ghost use Rattle.mover.specs.Steps.{placed};
 
-use crate::Place;
-use listing::put;
+use listing::Writer;
 
 // The bytes of a full range with the mark after it, and of the line's key.
 const RANGE: usize = 23;
 
 pub(crate) const KEY: usize = 7;
 
-// A full range that some more come after.
-fn full_range(out: &mut [u8], at: usize, after: u32) -> usize
-    requires { Room at (full_range ++ mark_after after) }
-    ensures { Put out.old out.new at (full_range ++ mark_after after) result }
+// A full range that so many come after, with its mark.
+fn full(after: u32) -> &'static [u8]
+    ensures { result.now ≡ full_range ++ mark_after after }
 {
     if after == 0 {
-        return put::text(out, at, b"-2147483648:2147483647\n");
+        b"-2147483648:2147483647\n"
+    } else {
+        b"-2147483648:2147483647,"
     }
-    put::text(out, at, b"-2147483648:2147483647,")
 }
 
-fn full_ranges(out: &mut [u8], at: usize, n: u32) -> usize
-    requires { Room at (full_ranges n) }
-    ensures { Put out.old out.new at (full_ranges n) result }
+fn full_ranges(out: &mut Writer, n: u32)
+    requires { Room out.old.at (full_ranges n) }
+    ensures { Writes out.old out.new (full_ranges n) }
 {
-    let mut p = at;
-    let mut left = n;
-    while 0 < left {
-        left -= 1;
-        p = full_range(out, p, left);
+    for after in (0..n).rev() {
+        out.text(full(after));
     }
-    p
 }
 
 // The line of n full ranges.
-pub(crate) fn full_line(out: &mut [u8], at: usize, n: u32) -> usize
-    requires { Room at (full_line n) }
-    ensures { Put out.old out.new at (full_line n) result }
+pub(crate) fn full_line(out: &mut Writer, n: u32)
+    requires { Room out.old.at (full_line n) }
+    ensures { Writes out.old out.new (full_line n) }
 {
+    out.text(b"ranges=");
     if n == 0 {
-        return put::text(out, at, b"ranges=\n");
+        out.text(b"\n");
+        return;
     }
-    let p = put::text(out, at, b"ranges=");
-    full_ranges(out, p, n)
-}
-
-// Whether a full range that some more come after stands at a place.
-fn full_at(s: &[u8], at: usize, after: u32) -> bool
-    ensures { result ≡ begins (full_range ++ mark_after after) (drop at s.now) }
-{
-    if after == 0 {
-        return text::begins(s, at, b"-2147483648:2147483647\n");
-    }
-    text::begins(s, at, b"-2147483648:2147483647,")
+    full_ranges(out, n);
 }
 
 // The place of the first of n ranges that is not full, where the first begins at a place.
-pub(crate) fn narrow(s: &[u8], at: usize, n: u32) -> Place
+pub(crate) fn narrow(s: &[u8], at: usize, n: u32) -> Option<usize>
     ensures { placed result ≡ narrow_place at n (drop at s.now) }
 {
     let mut p = at;
-    let mut left = n;
-    while 0 < left {
-        left -= 1;
-        if !full_at(s, p, left) {
-            return Place::At(p);
+    for after in (0..n).rev() {
+        if !text::begins(s, p, full(after)) {
+            return Some(p);
         }
         p += RANGE;
     }
-    Place::Nowhere
+    None
 }

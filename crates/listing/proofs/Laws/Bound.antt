@@ -16,7 +16,8 @@ use Rattle.specification.proofs.Laws.Blocks.{lines_text-++}
 use Rattle.values.specs.Word.{signed}
 use Rattle.tables.specs.Layout.{Words, cell_slot, flag_at, value_at, first_at, max_cells, max_arrays}
 use Rattle.listing.specs.declared.Head.TheVariants.{Answer, Error}
-use Rattle.listing.specs.Put.{Room, Put}
+use Rattle.listing.specs.declared.writer.Writer.{Writer}
+use Rattle.listing.specs.Put.{Room, Writes}
 use Rattle.listing.specs.Model.{Laid, each_line, line_at, scalar_line, element_line, array_lines, head_text, Headed}
 use Rattle.listing.proofs.Laws.Digits.{length-within, value-bound}
 use Rattle.listing.proofs.Laws.Pieces.{answer-pieces, error-pieces}
@@ -46,36 +47,33 @@ field_bound key k n h =
     omega (arith, length-append key (printℕ n ++ bytes "\n"), length-append (printℕ n) (bytes "\n"), length-within k n h)
 
 module _ (n : ℕ) (h : n < 4294967296) where
-  answer-bound : length (head_text (Answer n)) ≤ 47
+  pub answer-bound : length (head_text (Answer n)) ≤ 47
   answer-bound = omega (arith, ap length (answer-pieces n), field_bound (bytes "answer=") 9 n (omega arith))
 
-  pub answer-room : Room 0 (head_text (Answer n))
-  answer-room = omega (arith, answer-bound)
-
-  pub answer-headed : {o o' : Bytes} {r : ℕ} → Put o o' 0 (head_text (Answer n)) r → Headed o o' (Answer n) r
-  answer-headed p = record { text = p; short = omega (arith, p.end, answer-bound) }
+  pub answer-headed : {u v : Writer} → u.at ≡ 0 → Writes u v (head_text (Answer n)) → Headed u v (Answer n)
+  answer-headed s p = record { text = p; short = omega (arith, p.put.end, answer-bound) }
 
   module _ (kind token : ℕ) (k : kind < 4294967296) (t : token < 4294967296) where
-    error-bound : length (head_text (Error n kind token)) ≤ 47
-    error-bound =
-        let f = field_text (bytes "error=") n in
-        let g = field_text (bytes "kind=") kind in
-        let e = field_text (bytes "at=") token in
+    -- the three lines together
+    pub error-fields :
+        length (field_text (bytes "error=") n) + length (field_text (bytes "kind=") kind) + length (field_text (bytes "at=") token) ≤ 47
+    error-fields =
         omega (
           arith,
-          ap length (error-pieces n kind token),
-          length-append f (g ++ e),
-          length-append g e,
           field_bound (bytes "error=") 9 n (omega arith),
           field_bound (bytes "kind=") 9 kind (omega arith),
           field_bound (bytes "at=") 9 token (omega arith),
         )
 
-    pub error-room : Room 0 (head_text (Error n kind token))
-    error-room = omega (arith, error-bound)
+    error-bound : length (head_text (Error n kind token)) ≤ 47
+    error-bound =
+        let f = field_text (bytes "error=") n in
+        let g = field_text (bytes "kind=") kind in
+        let e = field_text (bytes "at=") token in
+        omega (arith, ap length (error-pieces n kind token), length-append f (g ++ e), length-append g e, error-fields)
 
-    pub error-headed : {o o' : Bytes} {r : ℕ} → Put o o' 0 (head_text (Error n kind token)) r → Headed o o' (Error n kind token) r
-    error-headed p = record { text = p; short = omega (arith, p.end, error-bound) }
+    pub error-headed : {u v : Writer} → u.at ≡ 0 → Writes u v (head_text (Error n kind token)) → Headed u v (Error n kind token)
+    error-headed s p = record { text = p; short = omega (arith, p.put.end, error-bound) }
 
 -- ---- the cells
 

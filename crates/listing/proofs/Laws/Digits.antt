@@ -3,9 +3,9 @@
 use Prim.Native.Nat.{ℕ, zero, suc, ◌+◌, ◌-◌, ◌/◌, ◌%◌, ◌^◌, ◌≤◌, ◌<◌}
 use native.Mathlib.Omega.{arith}
 use native.Mathlib.Nat.{pow-suc}
-use mathlib.Core.Path.{◌≡◌, refl, ◌∙◌, ap}
+use mathlib.Core.Path.{◌≡◌, refl, sym, ◌∙◌, ap}
 use mathlib.Core.Bool.{Bool, true, false}
-use mathlib.Core.List.{List, [], ◌∷◌, ◌++◌}
+use mathlib.Core.List.{[], ◌∷◌, ◌++◌}
 use lib.ListN.{length, set, length-append}
 use lib.Seq.{sets}
 use lib.Dec.{ltb}
@@ -15,8 +15,7 @@ use Rattle.specification.specs.Number.{digits, printℕ, printℤ}
 use Rattle.specification.proofs.Laws.Canonical.{print-one, print-more}
 use Rattle.values.specs.Word.{signed}
 use Rattle.values.proofs.Laws.Word.{by_sign}
-use Rattle.listing.specs.Put.{Put}
-use Rattle.listing.proofs.Laws.Put.{sets-before, joined}
+use Rattle.listing.proofs.Laws.Put.{sets-before}
 
 -- ---- how many
 
@@ -46,35 +45,60 @@ pub length_some : (n : ℕ) → 0 < length (printℕ n)
 unfolding printℕ
 length_some n = length-some-digits n n
 
--- ---- digits put from the last to the first: p is the place of the last
+-- ---- digits put from the last to the first
 
-module _ (at n : ℕ) {o o' : Bytes} {p q : ℕ} (place : p + 1 ≡ at + length (printℕ n)) where
-  pub put-digit : 10 ≤ n → Put o o' p ((48 + n % 10) ∷ []) q → sets o' at (printℕ (n / 10)) ≡ sets o at (printℕ n)
-  put-digit h b =
-      rw (b.bytes, print-more n h) (sets-before o at (printℕ (n / 10)) (48 + n % 10) p (omega (arith, length_more n h)))
+-- the last k digits
+unfoldable pub last_digits : ℕ → ℕ → Bytes
+last_digits zero n = []
+last_digits (suc k) n = last_digits k (n / 10) ++ (48 + n % 10) ∷ []
 
-  pub put_first : n < 10 → Put o o' p ((48 + n) ∷ []) q → o' ≡ sets o at (printℕ n)
-  put_first h b =
-      let e : p ≡ at = omega (arith, ap length (print-one n h)) in
-      rw (print-one n h) (b.bytes ∙ ap (λ k. set o k (48 + n)) e)
+pub last-length : (k n : ℕ) → length (last_digits k n) ≡ k
+unfolding last_digits
+last-length zero n = refl
+last-length (suc k) n = omega (arith, length-append (last_digits k (n / 10)) ((48 + n % 10) ∷ []), last-length k (n / 10))
+
+-- are all of them, where there are k
+pub last-all : (k n : ℕ) → length (printℕ n) ≡ k → last_digits k n ≡ printℕ n
+unfolding last_digits
+last-all zero n e = absurd (omega (arith, length_some n))
+last-all (suc k) n e = go (last-all k (n / 10)) (ltb n 10) refl
+  where
+    go : (length (printℕ (n / 10)) ≡ k → last_digits k (n / 10) ≡ printℕ (n / 10)) → (b : Bool) → ltb n 10 ≡ b →
+        last_digits k (n / 10) ++ (48 + n % 10) ∷ [] ≡ printℕ n
+    go f true h =
+        let l = ltb-true n 10 h in
+        let z : k ≡ 0 = omega (arith, ap length (print-one n l)) in
+        let m : n % 10 ≡ n = omega arith in
+        rw (z, m, print-one n l) (unfold last_digits in refl)
+    go f false h =
+        let m : 10 ≤ n = ltb-false n 10 h in
+        rw (f (omega (arith, length_more n m))) (sym (print-more n m))
+
+-- the last of them is put before the place j, and the others are left
+pub put-digit : (at j n : ℕ) (o : Bytes) {o' : Bytes} → at < j → o' ≡ set o (j - 1) (48 + n % 10) →
+    sets o' at (last_digits (j - 1 - at) (n / 10)) ≡ sets o at (last_digits (j - at) n)
+unfolding last_digits
+put-digit at j n o h e =
+    let k = j - 1 - at in
+    let s : j - at ≡ suc k = omega arith in
+    rw (e, s) (sets-before o at (last_digits k (n / 10)) (48 + n % 10) (j - 1) (omega (arith, last-length k (n / 10))))
+
+-- none are left
+pub put_none : (at j n : ℕ) (o : Bytes) → j ≤ at → sets o at (last_digits (j - at) n) ≡ o
+unfolding last_digits
+put_none at j n o h = let z : j - at ≡ 0 = omega arith in rw z refl
 
 -- ---- the value of a word, with its sign
 
-abbrev pub low_pieces : ℕ → List Bytes
-low_pieces w = (45 ∷ []) ∷ printℕ (2147483648 - w) ∷ []
-
-pub value_low : (w : ℕ) → w < 2147483648 → printℤ (signed w) ≡ joined (low_pieces w)
+pub value_low : (w : ℕ) → w < 2147483648 → printℤ (signed w) ≡ 45 ∷ printℕ (2147483648 - w)
 unfolding printℤ
 value_low w l =
-    by_sign (λ z. printℤ z ≡ joined (low_pieces w)) w
+    by_sign (λ z. printℤ z ≡ 45 ∷ printℕ (2147483648 - w)) w
     (λ h. ap (λ n. 45 ∷ printℕ n) {x = suc (2147483648 - suc w)} {y = 2147483648 - w} (omega arith)) (λ h. absurd (omega arith))
 
-abbrev pub high_pieces : ℕ → List Bytes
-high_pieces w = printℕ (w - 2147483648) ∷ []
-
-pub value-high : (w : ℕ) → 2147483648 ≤ w → printℤ (signed w) ≡ joined (high_pieces w)
+pub value-high : (w : ℕ) → 2147483648 ≤ w → printℤ (signed w) ≡ printℕ (w - 2147483648)
 unfolding printℤ
-value-high w l = by_sign (λ z. printℤ z ≡ joined (high_pieces w)) w (λ h. absurd (omega arith)) (λ h. refl)
+value-high w l = by_sign (λ z. printℤ z ≡ printℕ (w - 2147483648)) w (λ h. absurd (omega arith)) (λ h. refl)
 
 -- a sign and ten digits
 pub value-bound : (w : ℕ) → w < 4294967296 → length (printℤ (signed w)) ≤ 11

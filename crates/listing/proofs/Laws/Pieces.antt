@@ -1,7 +1,9 @@
 -- A block's lines in the pieces that are put one after the other. Assumes nothing.
-use Prim.Native.Nat.{ℕ, ◌+◌, ◌-◌}
+use Prim.Native.Nat.{ℕ, ◌+◌}
 use mathlib.Core.Path.{◌≡◌, refl, sym, ◌∙◌, ap}
 use mathlib.Core.List.{[], ◌∷◌, ◌++◌, append_assoc}
+use native.Mathlib.Omega.{arith}
+use lib.ListN.{length, length-append}
 use borrow.Author.Tests.{eq-eqb, ne_eqb}
 use Rattle.specification.specs.Bytes.{Bytes, bytes}
 use Rattle.specification.specs.Number.{printℕ, printℤ}
@@ -10,9 +12,8 @@ use Rattle.specification.specs.Listing.{cell_label, head_lines, label_text, line
 use Rattle.specification.specs.Printed.{field_text}
 use Rattle.listing.specs.declared.Head.TheVariants.{Answer, Error}
 use Rattle.listing.specs.Put.{end_text}
-use Rattle.listing.specs.Model.{each_line, line_at, element_line, array_lines, head_text}
-use Rattle.tables.specs.Layout.{Words, flag_at, value_at, first_at}
-use Rattle.listing.proofs.Laws.Put.{joined}
+use Rattle.listing.specs.Model.{line_at, head_text}
+use Rattle.tables.specs.Layout.{Words, flag_at, value_at}
 
 -- ---- a cell's line
 
@@ -23,27 +24,24 @@ module _ (w : Words) (c f : ℕ) (flag : f ≡ flag_at w c) where
 
   module _ (some : f ≡ 0 → ⊥) (v : ℕ) (value : v ≡ value_at w c) where
     -- its name, and what stands after it
-    pub line-pieces : (n : CellName) → lines_text (line_at w n c) ≡ joined (label_text (cell_label n) ∷ end_text v ∷ [])
+    pub line-pieces : (n : CellName) → lines_text (line_at w n c) ≡ label_text (cell_label n) ++ end_text v
     unfolding line_at lines_text
     line-pieces n = rw (ne_eqb (flag_at w c) 0 (λ k. some (flag ∙ k)), value)
 
-pub scalar-pieces : (n : ℕ) → label_text (cell_label (scalar n)) ≡ joined ((118 ∷ []) ∷ printℕ n ∷ [])
+pub scalar-pieces : (n : ℕ) → label_text (cell_label (scalar n)) ≡ 118 ∷ printℕ n
 unfolding label_text
 scalar-pieces n = refl
 
-pub element-pieces : (a e : ℕ) → label_text (cell_label (element a e)) ≡ joined ((97 ∷ []) ∷ printℕ a ∷ (46 ∷ []) ∷ printℕ e ∷ [])
+pub element-pieces : (a e : ℕ) → label_text (cell_label (element a e)) ≡ 97 ∷ (printℕ a ++ 46 ∷ printℕ e)
 unfolding label_text
 element-pieces a e = refl
 
--- ---- an array's lines
-
-pub array-pieces : (w : Words) (a from to : ℕ) → from ≡ first_at w a → to ≡ first_at w (a + 1) →
-    lines_text (array_lines w a) ≡ joined (lines_text (each_line (element_line w a from) 0 (to - from)) ∷ [])
-array-pieces w a from to e f = rw (← e, ← f)
+pub element-length : (a e : ℕ) → length (label_text (cell_label (element a e))) ≡ 2 + length (printℕ a) + length (printℕ e)
+element-length a e = omega (arith, ap length (element-pieces a e), length-append (printℕ a) (46 ∷ printℕ e))
 
 -- ---- the head
 
-pub answer-pieces : (n : ℕ) → head_text (Answer n) ≡ joined (field_text (bytes "answer=") n ∷ [])
+pub answer-pieces : (n : ℕ) → head_text (Answer n) ≡ field_text (bytes "answer=") n
 unfolding head_lines lines_text label_text printℤ
 answer-pieces n = refl
 
@@ -53,7 +51,7 @@ field-then key n r = simp append_assoc
 
 pub error-pieces : (n kind token : ℕ) →
     head_text (Error n kind token)
-    ≡ joined (field_text (bytes "error=") n ∷ field_text (bytes "kind=") kind ∷ field_text (bytes "at=") token ∷ [])
+    ≡ field_text (bytes "error=") n ++ (field_text (bytes "kind=") kind ++ field_text (bytes "at=") token)
 unfolding head_lines lines_text label_text printℤ
 error-pieces n kind token =
     field-then (bytes "error=") n (bytes "kind=" ++ (printℕ kind ++ (bytes "\n" ++ field_text (bytes "at=") token))) ∙

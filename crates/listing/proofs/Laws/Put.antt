@@ -1,14 +1,15 @@
--- Bytes put one after the other: what is left of them at each place, from all of them to none. Assumes nothing.
+-- Stores in a row, and bytes that a writer puts one after the other. Assumes nothing.
 use Prim.Native.Nat.{ℕ, suc, ◌+◌, ◌≤◌, ◌<◌}
 use native.Mathlib.Omega.{arith}
 use native.Mathlib.Nat.{add-zero}
-use native.Mathlib.Numerals.{add-one}
 use mathlib.Core.Path.{◌≡◌, refl, sym, ◌∙◌, ap}
-use mathlib.Core.List.{List, [], ◌∷◌, ◌++◌}
-use lib.ListN.{length, set, get_or, drop, length-append}
-use lib.Seq.{sets, set_out, set_comm, drop-cons}
+use mathlib.Core.List.{[], ◌∷◌, ◌++◌}
+use lib.ListN.{length, set, get_or, take, length-append, length-take}
+use lib.Seq.{sets, set_out, set_comm}
+use Rattle.std.proofs.lemmas.List.{take_more}
 use Rattle.specification.specs.Bytes.{Bytes}
-use Rattle.listing.specs.Put.{Room, Put}
+use Rattle.listing.specs.declared.writer.Writer.{Writer}
+use Rattle.listing.specs.Put.{Room, Put, Writes}
 
 -- ---- stores in a row
 
@@ -29,49 +30,29 @@ pub sets-out : (o : Bytes) (at : ℕ) (xs : Bytes) → length o ≤ at → sets 
 sets-out o at [] h = refl
 sets-out o at (x ∷ xs) h = rw (set_out o at x h) (sets-out o (suc at) xs (omega arith))
 
--- ---- what is left
+-- ---- bytes one after the other
 
--- pieces, one after the other
-abbrev pub joined : List Bytes → Bytes
-joined [] = []
-joined (x ∷ []) = x
-joined (x ∷ y ∷ ys) = x ++ joined (y ∷ ys)
+pub writes-++ : {u v w : Writer} {xs ys : Bytes} → Writes u v xs → Writes v w ys → Writes u w (xs ++ ys)
+writes-++ {u} {v} {w} {xs} {ys} p q =
+    record {
+      memory = q.memory ∙ p.memory;
+      put = record {
+        bytes = q.put.bytes ∙ rw (p.put.bytes, p.put.end) (sym (sets-++ u.memory.now u.at xs ys));
+        end = omega (arith, p.put.end, q.put.end, length-append xs ys);
+      };
+    }
 
--- of t, due at `at` in o, these pieces are left at p in o'
-pub record Left (o : Bytes) (at : ℕ) (t : Bytes) (o' : Bytes) (p : ℕ) (rest : List Bytes) : Type 0 where
-  pub bytes : sets o' p (joined rest) ≡ sets o at t
-  pub end : p + length (joined rest) ≡ at + length t
+pub writes-[] : (w : Writer) → Writes w w []
+writes-[] w = record { memory = refl; put = record { bytes = refl; end = omega arith } }
 
-pub all_left : (o : Bytes) (at : ℕ) (t : Bytes) → Left o at t o at (t ∷ [])
-all_left o at t = record { bytes = refl; end = refl }
+-- the i-th byte after those before it
+pub writes-next : {u v w : Writer} (t : Bytes) (i : ℕ) → i < length t →
+    Writes u v (take i t) → Writes v w (get_or t i 0 ∷ []) → Writes u w (take (i + 1) t)
+writes-next t i h p q = rw (take_more t i 0 h) (writes-++ p q)
 
--- cut into pieces
-pub pieces-left : (o : Bytes) (at : ℕ) {t : Bytes} (ps : List Bytes) → t ≡ joined ps → Left o at t o at ps
-pieces-left o at ps e = record { bytes = rw (sym e); end = rw (sym e) }
+pub room-next : {u v : Writer} (t : Bytes) (i : ℕ) → i < length t → Room u.at t → Writes u v (take i t) → Room v.at (get_or t i 0 ∷ [])
+room-next t i h r p = omega (arith, p.put.end, length-take i t)
 
-module _ {o : Bytes} {at : ℕ} {t : Bytes} {o' : Bytes} {p : ℕ} where
-  pub split-left : {rest : Bytes} (ps : List Bytes) → rest ≡ joined ps → Left o at t o' p (rest ∷ []) → Left o at t o' p ps
-  split-left ps e l = record { bytes = rw (sym e) l.bytes; end = rw (sym e) l.end }
-
-  pub less-left : {o'' : Bytes} {q : ℕ} {xs ys : Bytes} {zs : List Bytes} →
-      Left o at t o' p (xs ∷ ys ∷ zs) → Put o' o'' p xs q → Left o at t o'' q (ys ∷ zs)
-  less-left {xs = xs} {ys = ys} {zs = zs} l h =
-      let r = joined (ys ∷ zs) in
-      record {
-        bytes = rw (h.bytes, h.end) (sym (sets-++ o' p xs r) ∙ l.bytes);
-        end = omega (arith, h.end, length-append xs r, l.end);
-      }
-
-  pub last-left : {o'' : Bytes} {q : ℕ} {xs : Bytes} → Left o at t o' p (xs ∷ []) → Put o' o'' p xs q → Put o o'' at t q
-  last-left l h = record { bytes = h.bytes ∙ l.bytes; end = h.end ∙ l.end }
-
-  pub none_left : {rest : Bytes} → rest ≡ [] → Left o at t o' p (rest ∷ []) → Put o o' at t p
-  none_left e l = let k = split-left [] e l in record { bytes = k.bytes; end = omega (arith, k.end) }
-
-  pub room-left : {xs : Bytes} {ys : List Bytes} → Left o at t o' p (xs ∷ ys) → Room at t → Room p xs
-  room-left {ys = []} l h = omega (arith, l.end)
-  room-left {xs = xs} {ys = y ∷ ys} l h = omega (arith, l.end, length-append xs (joined (y ∷ ys)))
-
--- the i-th byte, and those after it
-pub one_more : (t : Bytes) (i : ℕ) → i < length t → drop i t ≡ joined ((get_or t i 0 ∷ []) ∷ drop (i + 1) t ∷ [])
-one_more t i h = rw (add-one, ← drop-cons t i 0 h)
+-- by a writer at the start of a memory
+pub writes-new : {u v : Writer} {o t : Bytes} → u.memory.now ≡ o → u.at ≡ 0 → Writes u v t → Put o v.memory.now 0 t v.at
+writes-new e s p = rw (← e, ← s) p.put

@@ -22,7 +22,7 @@ use Rattle.values.proofs.Laws.Word.{signed-biased}
 use Rattle.tables.specs.Layout.{Words, cell_slot, flag_at, first_at, max_cells, max_arrays}
 use Rattle.sheet.specs.Held.{SlotAt}
 use Rattle.listing.specs.declared.Head.{Head}
-use Rattle.listing.specs.declared.Written.TheVariants.{Full, Bytes as Count}
+use Rattle.std.specs.Prelude.{Some, None}
 use Rattle.listing.specs.Put.{Put}
 use Rattle.listing.specs.Model.{Laid, each_line, line_at, scalar_line, element_line, array_lines, head_of, model_text}
 use Rattle.listing.specs.Block.{Shows, Wrote}
@@ -134,11 +134,11 @@ module _ {w : Words} {scalars arrays : ℕ} {D : Declared} {β : Valuation} (s :
   -- ---- what is written
 
   module _ (h : Head) {o : Bytes} {n : ℕ} (e : n ≡ length (model_text w scalars arrays h)) where
-    pub wrote_none : length o < n → Wrote (block_text (block_of D (head_of h) β)) o o Full
+    pub wrote_none : length o < n → Wrote (block_text (block_of D (head_of h) β)) o o None
     wrote_none l = (omega (arith, e, ap length (shown h)), refl)
 
     pub wrote-all : {o' : Bytes} {r : ℕ} → n ≤ length o → Put o o' 0 (model_text w scalars arrays h) r →
-        Wrote (block_text (block_of D (head_of h) β)) o o' (Count n)
+        Wrote (block_text (block_of D (head_of h) β)) o o' (Some n)
     wrote-all l p =
         let t = model_text w scalars arrays h in
         rw (← shown h) (e, l, p.bytes ∙ sets-eq t o 0 (omega (arith, e)) ∙ ap (λ k. t ++ drop k o) {x = 0 + length t} {y = n} (omega (arith, e)))

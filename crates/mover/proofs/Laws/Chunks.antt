@@ -12,7 +12,6 @@ use borrow.Author.Tests.{ltb-true, ltb-false}
 use Rattle.specification.specs.Bytes.{Bytes, bytes, pick, run, begins}
 use Rattle.tables.specs.Layout.{Words}
 use Rattle.tables.specs.Codes.{some_code, quo_code, rem_code}
-use Rattle.listing.proofs.Laws.Put.{joined}
 use Rattle.text.proofs.Laws.Run.{run-le, end-part}
 use Rattle.mover.specs.Model.{Chunk, chunk, extended, in_word, chunks, is_key}
 use Rattle.mover.specs.Model.{token_code, empty_at, stand_in, spelling, until_after, word_piece, mark_piece, rewritten}
@@ -147,7 +146,7 @@ module _ {s : Bytes} {i e next : ℕ} (c : ChunkAt s i e next) where
 
   module _ (w : Words) (newer : Bool) (j until : ℕ) where
     pub key_more : is_key (chunk (part i e s) (part e next s)) ≡ true →
-        rewritten w newer j until (chunks (drop i s)) ≡ joined (part i next s ∷ rewritten w newer j until (chunks (drop next s)) ∷ [])
+        rewritten w newer j until (chunks (drop i s)) ≡ part i next s ++ rewritten w newer j until (chunks (drop next s))
     unfolding rewritten
     key_more k =
         let later = rewritten w newer j until (chunks (drop next s)) in
@@ -156,7 +155,7 @@ module _ {s : Bytes} {i e next : ℕ} (c : ChunkAt s i e next) where
 
     pub word_more : is_key (chunk (part i e s) (part e next s)) ≡ false → (j' until' : ℕ) → j' ≡ j + 1 → until' ≡ until_after w j until →
         rewritten w newer j until (chunks (drop i s))
-        ≡ joined (word_piece w newer j until (part i e s) ∷ kept j' until' (part e next s) ∷ rewritten w newer j' until' (chunks (drop next s)) ∷ [])
+        ≡ word_piece w newer j until (part i e s) ++ (kept j' until' (part e next s) ++ rewritten w newer j' until' (chunks (drop next s)))
     unfolding rewritten mark_piece
     word_more k j' until' q u = rw (chunks-at, k, q, u, add-one)
 

@@ -2,13 +2,17 @@
 use Prim.Native.Nat.{ℕ, zero, suc, ◌+◌, ◌≤◌, ◌<◌}
 use native.Mathlib.Omega.{arith}
 use native.Mathlib.Numerals.{add-one}
-use mathlib.Core.Path.{◌≡◌}
+use mathlib.Core.Path.{◌≡◌, refl, sym}
 use mathlib.Core.Bool.{Bool, true, false}
 use mathlib.Core.List.{[], ◌∷◌}
-use lib.Dec.{eqb}
-use lib.ListN.{length, get_or, drop, drop_of_length-le, length-drop}
-use lib.Seq.{drop-cons, drop-drop}
-use borrow.Author.Tests.{eq-eqb, ne_eqb}
+use lib.Dec.{eqb, ltb}
+use lib.ListN.{length, get_or, drop, length-drop}
+use lib.Seq.{drop-drop}
+use borrow.Author.Tests.{ltb-false}
+use Rattle.std.specs.Prelude.{cond, position, Some, None}
+use Rattle.std.specs.List.{position_or_len}
+use Rattle.std.proofs.lemmas.List.Quantifiers.{position-Some}
+use Rattle.std.proofs.lemmas.List.Sums.{fails_before_first}
 use Rattle.specification.specs.Bytes.{Bytes, pick}
 use Rattle.mover.specs.Model.{line_length, lines_length}
 
@@ -23,18 +27,34 @@ line_length-≤ (b ∷ bs) = go (eqb b 10) (line_length-≤ bs)
     go true h = omega arith
     go false h = omega arith
 
-module _ (s : Bytes) (i : ℕ) where
-  pub line-feed : i < length s → get_or s i 0 ≡ 10 → line_length (drop i s) ≡ 1
-  unfolding line_length
-  line-feed h e = rw (drop-cons s i 0 h, eq-eqb (get_or s i 0) 10 e)
+-- up to its first line feed
+line-at : (bs : Bytes) (n : ℕ) → n < length bs → eqb (get_or bs n 0) 10 ≡ true → ((k : ℕ) → k < n → eqb (get_or bs k 0) 10 ≡ false) →
+    line_length bs ≡ n + 1
+unfolding line_length
+line-at [] n h e f = absurd (omega arith)
+line-at (b ∷ bs) zero h e f = rw e refl
+line-at (b ∷ bs) (suc n) h e f = rw (f 0 (omega arith)) (omega (arith, line-at bs n (omega arith) e (λ k l. f (suc k) (omega arith))))
 
-  pub line-more : i < length s → (get_or s i 0 ≡ 10 → ⊥) → line_length (drop i s) ≡ suc (line_length (drop (i + 1) s))
-  unfolding line_length
-  line-more h e = rw (drop-cons s i 0 h, ne_eqb (get_or s i 0) 10 e, add-one)
+-- all, where there is none
+line-all : (bs : Bytes) → ((k : ℕ) → k < length bs → eqb (get_or bs k 0) 10 ≡ false) → line_length bs ≡ length bs
+unfolding line_length
+line-all [] f = refl
+line-all (b ∷ bs) f = rw (f 0 (omega arith)) (omega (arith, line-all bs (λ k l. f (suc k) (omega arith))))
 
-  pub line-none : length s ≤ i → line_length (drop i s) ≡ 0
-  unfolding line_length
-  line-none h = rw (drop_of_length-le s h)
+-- by the search for it
+module _ (bs : Bytes) where
+  pub line-found : (n : ℕ) → Some n ≡ position (λ b. eqb b 10) bs → line_length bs ≡ n + 1
+  line-found n e = let q = position-Some (λ b. eqb b 10) bs n 0 (sym e) in line-at bs n q.0 q.1 q.2
+
+  pub line-unfound : None ≡ position (λ b. eqb b 10) bs → line_length bs ≡ length bs
+  line-unfound e = go (ltb (position_or_len (λ b. eqb b 10) bs) (length bs)) refl e
+    where
+      go : (t : Bool) → ltb (position_or_len (λ b. eqb b 10) bs) (length bs) ≡ t →
+          None ≡ cond t (Some (position_or_len (λ b. eqb b 10) bs)) None → line_length bs ≡ length bs
+      go true l h = cc
+      go false l h =
+          let k = ltb-false (position_or_len (λ b. eqb b 10) bs) (length bs) l in
+          line-all bs (λ j m. fails_before_first (λ b. eqb b 10) bs j 0 (omega arith))
 
 -- ---- lines
 

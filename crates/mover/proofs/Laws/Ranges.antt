@@ -3,12 +3,11 @@ use Prim.Native.Nat.{ℕ, zero, suc, ◌+◌, ◌*◌, ◌≤◌}
 use native.Mathlib.Omega.{arith}
 use mathlib.Core.Path.{◌≡◌, refl, sym, ap}
 use mathlib.Core.Bool.{true, false}
-use mathlib.Core.List.{[], ◌∷◌, ◌++◌, append_assoc}
+use mathlib.Core.List.{[], ◌++◌, append_assoc}
 use mathlib.Core.Option.{none, some as just}
 use lib.ListN.{length, drop, length-append, length-drop}
 use lib.Seq.{drop-drop}
 use Rattle.specification.specs.Bytes.{Bytes, bytes, begins}
-use Rattle.listing.proofs.Laws.Put.{joined}
 use Rattle.text.proofs.Laws.Keys.{begins-long}
 use Rattle.mover.specs.Model.{full_range, mark_after, full_ranges, full_line, narrow_place}
 
@@ -38,7 +37,7 @@ full-none zero e = refl
 full-none (suc n) e = absurd (omega arith)
 
 -- the first, and the m after it
-pub full-more : (n m : ℕ) → n ≡ suc m → full_ranges n ≡ joined (marked m ∷ full_ranges m ∷ [])
+pub full-more : (n m : ℕ) → n ≡ suc m → full_ranges n ≡ marked m ++ full_ranges m
 unfolding full_ranges
 full-more n m e = rw e (sym (append_assoc full_range (mark_after m) (full_ranges m)))
 
@@ -49,15 +48,19 @@ length-full (suc n) =
     let h = ap length (full-more (suc n) n refl) in
     omega (arith, h, length-append (marked n) (full_ranges n), length_marked n, length-full n)
 
-pub line-none : (n : ℕ) → n ≡ 0 → full_line n ≡ bytes "ranges=\n"
+pub line-none : (n : ℕ) → n ≡ 0 → full_line n ≡ bytes "ranges=" ++ bytes "\n"
 unfolding full_line
 line-none zero e = refl
 line-none (suc n) e = absurd (omega arith)
 
-pub line-some : (n : ℕ) → (n ≡ 0 → ⊥) → full_line n ≡ joined (bytes "ranges=" ∷ full_ranges n ∷ [])
+pub line-some : (n : ℕ) → (n ≡ 0 → ⊥) → full_line n ≡ bytes "ranges=" ++ full_ranges n
 unfolding full_line
 line-some zero h = absurd (h refl)
 line-some (suc n) h = refl
+
+pub line-key : (n : ℕ) → length (bytes "ranges=") ≤ length (full_line n)
+line-key zero = omega (arith, ap length (line-none 0 refl))
+line-key (suc n) = omega (arith, ap length (line-some (suc n) (λ (e : suc n ≡ 0). omega arith)))
 
 pub length-line-≤ : (n : ℕ) → length (full_line n) ≤ 8 + 23 * n
 length-line-≤ zero = omega (arith, ap length (line-none 0 refl))

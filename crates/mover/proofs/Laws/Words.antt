@@ -2,7 +2,7 @@
 use Prim.Native.Nat.{ℕ, ◌+◌, ◌≤◌, ◌<◌}
 use native.Mathlib.Omega.{arith}
 use native.Mathlib.Numerals.{add-one}
-use mathlib.Core.Path.{◌≡◌, refl, ap}
+use mathlib.Core.Path.{◌≡◌, refl}
 use mathlib.Core.Bool.{Bool, true, false}
 use mathlib.Core.List.{[]}
 use mathlib.Core.Option.{none, some as just}
@@ -14,21 +14,8 @@ use Rattle.specification.specs.Bytes.{Bytes, bytes, pick, between}
 use Rattle.specification.proofs.Laws.Parser.{and-true}
 use Rattle.tables.specs.Layout.{Words, max_tokens, code_at, operand_at, end_at}
 use Rattle.tables.specs.Codes.{some_code, all_code, quo_code, rem_code, constant_code}
-use Rattle.listing.specs.Put.{Room, Put}
-use Rattle.listing.proofs.Laws.Put.{all_left, none_left}
 use Rattle.mover.specs.Model.{token_code, empty_at, stand_in, spelling, until_after, word_piece, rounds, rounding_place}
 use Rattle.mover.specs.Steps.{kept}
-
--- ---- bytes under another name, and none
-
-pub room_as : (at : ℕ) {t x : Bytes} → t ≡ x → Room at t → Room at x
-room_as at e h = omega (arith, ap length e, h)
-
-pub put_as : {o o' : Bytes} {at r : ℕ} {t x : Bytes} → t ≡ x → Put o o' at x r → Put o o' at t r
-put_as e h = rw e h
-
-pub put-none : (o : Bytes) (at : ℕ) {t : Bytes} → t ≡ [] → Put o o at t at
-put-none o at e = none_left e (all_left o at _)
 
 -- ---- tokens
 

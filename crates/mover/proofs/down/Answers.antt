@@ -12,19 +12,20 @@ pub overflow_add-lines_end : goal.overflow_add-lines_end
 overflow_add-lines_end c =
     omega (arith, c.lines_end.ensures, lines_length-≤ head_lines c.args.s.now, c.requires.0.short)
 
-pub returns-in-At : goal.returns-in-At
+pub returns-in-Some : goal.returns-in-Some
 unfolding down_result
-returns-in-At c =
+returns-in-Some c =
     let a = c.args in
     let s = a.s.now in
-    done-some a.out.now 15 _ (narrow_of a.ranges s) (unless 16 (rounding_of s) (fitted (down_text a.w.now s)))
-    (narrow-of s a.ranges _ _ c.lines_end.ensures (ap placed (sym c.in-At.is) ∙ c.narrow.ensures))
+    rw c.new.ensures
+    (done-some a.out.now 15 _ (narrow_of a.ranges s) (unless 16 (rounding_of s) (fitted (down_text a.w.now s)))
+    (narrow-of s a.ranges _ _ c.lines_end.ensures (ap placed (sym c.in-Some.is) ∙ c.narrow.ensures)))
 
-pub returns-in-Nowhere : goal.returns-in-Nowhere
+pub returns-in-None : goal.returns-in-None
 unfolding down_result
-returns-in-Nowhere c =
+returns-in-None c =
     let a = c.args in
     let s = a.s.now in
     done_none a.out.now _ 15 (narrow_of a.ranges s) (unless 16 (rounding_of s) (fitted (down_text a.w.now s))) _
-    (narrow-of s a.ranges _ _ c.lines_end.ensures (ap placed (sym c.in-Nowhere.is) ∙ c.narrow.ensures))
+    (narrow-of s a.ranges _ _ c.lines_end.ensures (ap placed (sym c.in-None.is) ∙ c.narrow.ensures))
     c.down_full.ensures

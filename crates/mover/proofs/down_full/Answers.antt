@@ -6,17 +6,18 @@ use Rattle.mover.specs.Steps.{placed}
 use Rattle.mover.proofs.Laws.Texts.{rounding-of, done-some, done_none}
 use Rattle.mover.proofs.down_full.Goals as goal
 
-pub returns-in-At : goal.returns-in-At
-returns-in-At c =
+pub returns-in-Some : goal.returns-in-Some
+returns-in-Some c =
     let a = c.args in
     let s = a.s.now in
-    done-some a.out.now 16 _ (rounding_of s) (fitted (down_text a.w.now s))
-    (rounding-of s _ _ c.lines_end.ensures (ap placed (sym c.in-At.is) ∙ c.rounding.ensures))
+    rw c.new.ensures
+    (done-some a.out.now 16 _ (rounding_of s) (fitted (down_text a.w.now s))
+    (rounding-of s _ _ c.lines_end.ensures (ap placed (sym c.in-Some.is) ∙ c.rounding.ensures)))
 
-pub returns-in-Nowhere : goal.returns-in-Nowhere
-returns-in-Nowhere c =
+pub returns-in-None : goal.returns-in-None
+returns-in-None c =
     let a = c.args in
     let s = a.s.now in
     done_none a.out.now _ 16 (rounding_of s) (fitted (down_text a.w.now s)) _
-    (rounding-of s _ _ c.lines_end.ensures (ap placed (sym c.in-Nowhere.is) ∙ c.rounding.ensures))
+    (rounding-of s _ _ c.lines_end.ensures (ap placed (sym c.in-None.is) ∙ c.rounding.ensures))
     c.fit.ensures

@@ -6,7 +6,7 @@ use Rattle.mover.proofs.fit.Goals as goal
 pub returns-then-n-gt-LONGEST : goal.returns-then-n-gt-LONGEST
 returns-then-n-gt-LONGEST c =
     let a = c.args in
-    done-long a.out.now (moved_text a.way a.ranges a.w.now a.s.now) _ c.size-n.ensures c.if-n-gt-LONGEST.true
+    rw c.new.ensures (done-long a.out.now (moved_text a.way a.ranges a.w.now a.s.now) _ c.size-n.ensures c.if-n-gt-LONGEST.true)
 
 pub returns : goal.returns
 returns c =

@@ -1,11 +1,22 @@
 -- By the way. Assumes nothing.
+use native.Mathlib.Omega.{arith}
+use Rattle.mover.proofs.Laws.Texts.{up-short, tidy-short, down-short}
 use Rattle.mover.proofs.moved_text.Goals as goal
 
-pub returns-in-Up : goal.returns-in-Up
-returns-in-Up c = rw c.in-Up.is c.up_text.ensures
+pub up_text-requires : goal.up_text-requires
+up_text-requires c =
+    let a = c.args in
+    let m = c.requires.0 in
+    (m, omega (arith, up-short a.s.now a.ranges a.w.now, m.short, c.requires.1, c.new-out.ensures.start))
 
-pub returns-in-Tidy : goal.returns-in-Tidy
-returns-in-Tidy c = rw c.in-Tidy.is c.tidy_text.ensures
+pub tidy_text-requires : goal.tidy_text-requires
+tidy_text-requires c =
+    let a = c.args in
+    let m = c.requires.0 in
+    (m, omega (arith, tidy-short a.s.now a.w.now, m.short, c.new-out.ensures.start))
 
-pub returns-in-Down : goal.returns-in-Down
-returns-in-Down c = rw c.in-Down.is c.down_text.ensures
+pub down_text-requires : goal.down_text-requires
+down_text-requires c =
+    let a = c.args in
+    let m = c.requires.0 in
+    (m, omega (arith, down-short a.s.now a.w.now, m.short, c.new-out.ensures.start))

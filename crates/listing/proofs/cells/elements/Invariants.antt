@@ -1,11 +1,8 @@
--- `listing::cells::elements` meets its contract. Assumes nothing.
-use Prim.Native.Nat.{◌-◌}
-use Rattle.listing.specs.Model.{element_line}
-use Rattle.listing.proofs.Laws.Loop.{Turn}
+-- `cells::elements` meets its contract: the lines before the next are put. Assumes nothing.
+use Rattle.specification.specs.Listing.{lines_text}
+use Rattle.listing.specs.Put.{Writes}
+use Rattle.listing.specs.Model.{each_line, element_line}
 use Rattle.listing.proofs.cells.elements.Given as goal
 
 abbrev pub invariant-loop-i : goal.invariant-loop-i
-invariant-loop-i l = Turn (element_line l.w l.a l.c) l.n l.initial.out l.at l.out l.p l.i
-
-abbrev pub decreases-loop-i : goal.decreases-loop-i
-decreases-loop-i l = l.n - l.i
+invariant-loop-i l = Writes l.initial.out l.out (lines_text (each_line (element_line l.w l.a l.c) 0 l.i))

@@ -1,34 +1,28 @@
--- The line that begins at `from` ends where the line that begins at each place within it does. Assumes nothing.
+-- By whether a line feed comes. Assumes nothing.
+use Prim.Native.Nat.{◌-◌}
 use native.Mathlib.Omega.{arith}
-use mathlib.Core.Path.{refl}
-use Rattle.mover.proofs.Laws.Lines.{line-feed, line-more, line-none}
+use mathlib.Core.Path.{◌≡◌}
+use lib.ListN.{length, take, drop, length-drop}
+use lib.Seq.{take_all}
+use Rattle.mover.proofs.Laws.Lines.{line-found, line-unfound}
 use Rattle.mover.proofs.lines.line_end.Goals as goal
+use Rattle.mover.proofs.lines.line_end.Goals.{Start}
 
-pub loop-i-init : goal.loop-i-init
-loop-i-init c = (omega arith, refl)
+-- the bytes that are looked at
+tail : (c : Start) →
+    let a = c.args in
+    let t = drop a.from a.s.now in
+    take (length a.s.now - a.from) t ≡ t
+tail c =
+    let a = c.args in
+    take_all (length a.s.now - a.from) (drop a.from a.s.now) (omega (arith, length-drop a.from a.s.now))
 
-pub bounds-s-i : goal.bounds-s-i
-bounds-s-i c = omega arith
+pub returns-in-Some : goal.returns-in-Some
+returns-in-Some c =
+    let a = c.args in
+    omega (arith, line-found (drop a.from a.s.now) c.in-Some.n (rw (tail (goal.at.returns-in-Some c).Start) at c.in-Some.ensures))
 
-pub overflow_add-result : goal.overflow_add-result
-overflow_add-result c = omega arith
-
-pub returns-then-s-i-eq10 : goal.returns-then-s-i-eq10
-returns-then-s-i-eq10 c =
-    omega (arith, c.loop-i.invariant.1, line-feed c.args.s.now c.loop-i.i c.loop-i-test.true c.if-s-i-eq10.true)
-
-pub overflow_add-i : goal.overflow_add-i
-overflow_add-i c = omega arith
-
-pub loop-i-smaller : goal.loop-i-smaller
-loop-i-smaller c = omega arith
-
-pub loop-i-preserved : goal.loop-i-preserved
-loop-i-preserved c = (
-  omega arith,
-  omega (arith, c.loop-i.invariant.1, line-more c.args.s.now c.loop-i.i c.loop-i-test.true c.if-s-i-eq10.false),
-)
-
-pub returns : goal.returns
-returns c =
-    omega (arith, c.loop-i.invariant.1, line-none c.args.s.now c.loop-i.i c.loop-i-test.false)
+pub returns-in-None : goal.returns-in-None
+returns-in-None c =
+    let a = c.args in
+    omega (arith, line-unfound (drop a.from a.s.now) (rw (tail (goal.at.returns-in-None c).Start) at c.in-None.ensures), length-drop a.from a.s.now)

@@ -1,38 +1,33 @@
--- The ranges that are left get fewer by one. Assumes nothing.
+-- The ranges from the place that is reached on are due. Assumes nothing.
 use Prim.Native.Nat.{◌-◌}
+use mathlib.Core.List.{◌++◌}
+use mathlib.Core.Path.{◌≡◌}
 use native.Mathlib.Omega.{arith}
-use mathlib.Core.Path.{refl}
-use mathlib.Core.List.{[], ◌∷◌}
-use Rattle.listing.proofs.Laws.Put.{Left, all_left, split-left, less-left, none_left, room-left}
 use Rattle.mover.specs.Model.{full_ranges}
 use Rattle.mover.proofs.Laws.Ranges.{marked, full-none, full-more}
+use Rattle.mover.proofs.Laws.Due.{due-all, due-next, due-room, due_none}
 use Rattle.mover.proofs.ranges.full_ranges.Goals as goal
-use Rattle.mover.proofs.ranges.full_ranges.Goals.{In-loop-left}
+use Rattle.mover.proofs.ranges.full_ranges.Goals.{In-loop-after}
 
 -- the range that is put, and those after it
-parted : (c : In-loop-left) →
-    let a = c.args in
-    let l = c.loop-left in
-    Left a.out.now a.at (full_ranges a.n) l.out l.p (marked (l.left - 1) ∷ full_ranges (l.left - 1) ∷ [])
-parted c = split-left _ (full-more c.loop-left.left (c.loop-left.left - 1) (omega (arith, c.loop-left-test.true))) c.loop-left.invariant.0
+parted : (c : In-loop-after) →
+    let n = c.loop-after.after in
+    full_ranges n ≡ marked (n - 1) ++ full_ranges (n - 1)
+parted c = let n = c.loop-after.after in full-more n (n - 1) (omega (arith, c.loop-after-test.true))
 
-pub loop-left-init : goal.loop-left-init
-loop-left-init c = (all_left c.args.out.now c.args.at (full_ranges c.args.n), refl)
+pub loop-after-init : goal.loop-after-init
+loop-after-init c = due-all c.args.out.now (full_ranges c.args.n)
 
-pub overflow_sub-left : goal.overflow_sub-left
-overflow_sub-left c = omega arith
+pub text-requires : goal.text-requires
+text-requires c =
+    let n = c.loop-after.after in
+    rw c.full.ensures (due-room c.loop-after.invariant (marked (n - 1)) (full_ranges (n - 1)) (parted (goal.at.text-requires c).In-loop-after) c.requires)
 
-pub full_range-p-requires : goal.full_range-p-requires
-full_range-p-requires c = room-left (parted (goal.at.full_range-p-requires c).In-loop-left) c.requires
-
-pub loop-left-smaller : goal.loop-left-smaller
-loop-left-smaller c = omega arith
-
-pub loop-left-preserved : goal.loop-left-preserved
-loop-left-preserved c = (less-left (parted (goal.at.loop-left-preserved c).In-loop-left) c.full_range-p.ensures, omega arith)
-
-pub shape_of-out : goal.shape_of-out
-shape_of-out c = omega arith
+pub loop-after-preserved : goal.loop-after-preserved
+loop-after-preserved c =
+    let n = c.loop-after.after in
+    due-next c.loop-after.invariant (marked (n - 1)) (full_ranges (n - 1)) (parted (goal.at.loop-after-preserved c).In-loop-after)
+    (rw c.full.ensures at c.text.ensures)
 
 pub returns : goal.returns
-returns c = none_left (full-none c.loop-left.left (omega arith)) c.loop-left.invariant.0
+returns c = due_none c.loop-after.invariant (full-none c.loop-after.after (omega arith))

@@ -1,13 +1,7 @@
--- The ranges that are left get fewer by one. Assumes nothing.
-use mathlib.Core.Path.{◌≡◌}
-use mathlib.Core.List.{[], ◌∷◌}
-use lib.ListN.{length}
-use Rattle.listing.proofs.Laws.Put.{Left}
+-- The ranges from the place that is reached on are due. Assumes nothing.
 use Rattle.mover.specs.Model.{full_ranges}
+use Rattle.mover.proofs.Laws.Due.{Due}
 use Rattle.mover.proofs.ranges.full_ranges.Given as goal
 
-abbrev pub invariant-loop-left : goal.invariant-loop-left
-invariant-loop-left l = Left l.initial.out l.at (full_ranges l.n) l.out l.p (full_ranges l.left ∷ []) × (length l.out ≡ length l.initial.out)
-
-abbrev pub decreases-loop-left : goal.decreases-loop-left
-decreases-loop-left l = l.left
+abbrev pub invariant-loop-after : goal.invariant-loop-after
+invariant-loop-after l = Due l.initial.out l.out (full_ranges l.n) (full_ranges l.after)

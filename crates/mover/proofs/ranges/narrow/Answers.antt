@@ -1,36 +1,46 @@
 -- Up to the place that is reached every range is full. Assumes nothing.
 use Prim.Native.Nat.{◌-◌}
 use native.Mathlib.Omega.{arith}
-use mathlib.Core.Path.{refl, sym, ◌∙◌}
-use Rattle.mover.proofs.Laws.Ranges.{narrow-none, narrow-here, narrow-later, narrow-fits}
+use mathlib.Core.Path.{◌≡◌, refl, sym, ◌∙◌, ap}
+use mathlib.Core.Bool.{false, true}
+use lib.ListN.{drop}
+use Rattle.specification.specs.Bytes.{begins}
+use Rattle.mover.proofs.Laws.Ranges.{marked, narrow-none, narrow-here, narrow-later, narrow-fits}
 use Rattle.mover.proofs.ranges.narrow.Goals as goal
+use Rattle.mover.proofs.ranges.narrow.Goals.{Then-not-begins, Else-not-begins}
 
-pub loop-left-init : goal.loop-left-init
-loop-left-init c = refl
+-- whether the range at the place that is reached is full
+other : (c : Then-not-begins) → let l = c.loop-after in begins (marked (l.after - 1)) (drop l.p c.args.s.now) ≡ false
+other c =
+    let l = c.loop-after in
+    ap (λ t. begins t (drop l.p c.args.s.now)) (sym c.full.ensures) ∙ sym c.begins.ensures ∙ c.if-not-begins.true
 
-pub overflow_sub-left : goal.overflow_sub-left
-overflow_sub-left c = omega arith
+whole : (c : Else-not-begins) → let l = c.loop-after in begins (marked (l.after - 1)) (drop l.p c.args.s.now) ≡ true
+whole c =
+    let l = c.loop-after in
+    ap (λ t. begins t (drop l.p c.args.s.now)) (sym c.full.ensures) ∙ sym c.begins.ensures ∙ c.if-not-begins.false
 
-pub returns-then-not-full_at : goal.returns-then-not-full_at
-returns-then-not-full_at c =
-    let l = c.loop-left in
-    sym (l.invariant ∙ narrow-here c.args.s.now l.p l.left (l.left - 1) (omega arith)
-    (sym c.full_at.ensures ∙ c.if-not-full_at.true))
+pub loop-after-init : goal.loop-after-init
+loop-after-init c = refl
+
+pub returns-then-not-begins : goal.returns-then-not-begins
+returns-then-not-begins c =
+    let l = c.loop-after in
+    sym (l.invariant ∙ narrow-here c.args.s.now l.p l.after (l.after - 1) (omega (arith, c.loop-after-test.true))
+    (other (goal.at.returns-then-not-begins c).Then-not-begins))
 
 pub overflow_add-p : goal.overflow_add-p
 overflow_add-p c =
-    let l = c.loop-left in
-    omega (arith, narrow-fits c.args.s.now l.p (l.left - 1) (sym c.full_at.ensures ∙ c.if-not-full_at.false))
+    let l = c.loop-after in
+    omega (arith, narrow-fits c.args.s.now l.p (l.after - 1) (whole (goal.at.overflow_add-p c).Else-not-begins))
 
-pub loop-left-smaller : goal.loop-left-smaller
-loop-left-smaller c = omega arith
-
-pub loop-left-preserved : goal.loop-left-preserved
-loop-left-preserved c =
-    let l = c.loop-left in
-    l.invariant ∙ narrow-later c.args.s.now l.p l.left (l.left - 1) (omega arith)
-    (sym c.full_at.ensures ∙ c.if-not-full_at.false)
+pub loop-after-preserved : goal.loop-after-preserved
+loop-after-preserved c =
+    let l = c.loop-after in
+    l.invariant ∙ narrow-later c.args.s.now l.p l.after (l.after - 1) (omega (arith, c.loop-after-test.true))
+    (whole (goal.at.loop-after-preserved c).Else-not-begins)
 
 pub returns : goal.returns
 returns c =
-    sym (c.loop-left.invariant ∙ narrow-none c.args.s.now c.loop-left.p c.loop-left.left (omega arith))
+    let l = c.loop-after in
+    sym (l.invariant ∙ narrow-none c.args.s.now l.p l.after (omega arith))

@@ -4,8 +4,5 @@ use lib.ListN.{drop}
 use Rattle.mover.specs.Model.{narrow_place}
 use Rattle.mover.proofs.ranges.narrow.Given as goal
 
-abbrev pub invariant-loop-left : goal.invariant-loop-left
-invariant-loop-left l = narrow_place l.at l.n (drop l.at l.s) ≡ narrow_place l.p l.left (drop l.p l.s)
-
-abbrev pub decreases-loop-left : goal.decreases-loop-left
-decreases-loop-left l = l.left
+abbrev pub invariant-loop-after : goal.invariant-loop-after
+invariant-loop-after l = narrow_place l.at l.n (drop l.at l.s) ≡ narrow_place l.p l.after (drop l.p l.s)
