@@ -21,17 +21,19 @@ use Rattle.sheet.specs.Tables.{Words}
 use Rattle.sheet.specs.Held.{slot_of}
 use Rattle.terms.specs.Environment.{Environment}
 use Rattle.search.specs.Marks.{InTable, marks_in, Marks}
+use Rattle.search.specs.declared.Errors.{Errors}
+use Rattle.search.specs.declared.Errors.TheVariants.{Unseen}
 use Rattle.search.specs.declared.Go.{Go}
 use Rattle.search.specs.Kept.{Kept, SameStore}
 use Rattle.search.specs.Walk.{sons_from, within, walk}
 use Rattle.search.specs.Frame.{Item, form, What, the, tree_items, tree_what, Question, son_of, Frame, pass, other, bound, began, given, range, asks, called, here, below, len, size_of, inner_in, site_in, store_in}
 use Rattle.search.specs.Site.{son_site, bound_mark, bound_site, inner_site, given_site}
-use Rattle.search.specs.Records.{bit, RecordAt}
+use Rattle.search.specs.Records.{RecordAt}
 use Rattle.search.specs.Store.{Call}
 use Rattle.search.specs.Path.{World, conditions_of, Job, Stored, Path}
 use Rattle.search.specs.Sim.{tree, son, yes, no, Down, In}
 use Rattle.search.specs.Registers.{tallied, down_go}
-use Rattle.search.specs.States.{inner_root}
+use Rattle.search.specs.States.{inner_root, errors_of}
 use Rattle.search.proofs.Walk.{within-ask}
 use Rattle.search.proofs.Sites.{site-depth, bound-other}
 use Rattle.search.proofs.Slots.{holds-keep, holds-put, marks-keep, marks-off, altered-marks, Altered}
@@ -47,8 +49,8 @@ module _ {c : World} {b : Bytes} {w : Words} {g : Go} (i : In c b w g) where
       walk (conditions_of c) (inner_in (f ∷ i.fr)) (suc (suc g.depth)) T (yes c (f ∷ i.fr)) (no c (f ∷ i.fr)) e (add_node (tallied g)) b
       ≡ c.result
 
-  onto : {w' : Words} (f : Frame) (x : What) (e : Bool) {t top inner bad : ℕ} → Path c w' top (below f) (f ∷ i.fr) →
-      inner ≡ (site_in (f ∷ i.fr)).inner → bad ≡ bit e → Job c w' (store_in (f ∷ i.fr)) (below f) t x → Gives f e (tree c (f ∷ i.fr) x (below f)) →
+  onto : {w' : Words} (f : Frame) (x : What) (e : Bool) {t top inner : ℕ} {bad : Errors} → Path c w' top (below f) (f ∷ i.fr) →
+      inner ≡ (site_in (f ∷ i.fr)).inner → bad ≡ errors_of e → Job c w' (store_in (f ∷ i.fr)) (below f) t x → Gives f e (tree c (f ∷ i.fr) x (below f)) →
       Down c b w' (down_go g t top inner bad)
   onto f x e {t} {top} {inner} {bad} P n m j q = record {
     x = x;
@@ -184,7 +186,7 @@ module _ {c : World} {b : Bytes} {w : Words} {g : Go} (i : In c b w g) where
       (let I = tree_items c.declared (form E F ∷ []) (inner_site (site_in i.fr)) i.α in
       tree c i.fr i.x i.α ≡ ask I (son_of c.declared tok q is (verdict I) (son_site (site_in i.fr)) i.α)) →
       RecordAt c.declared c.tables w' g.top (site_in i.fr) (store_in i.fr) (asks tok q is i.α i.e) → {t : ℕ} →
-      Job c w' (store_in i.fr) i.α t (the (form E F ∷ [])) → Down c b w' (down_go g t (g.top + 4) (g.depth + inner_root) 0)
+      Job c w' (store_in i.fr) i.α t (the (form E F ∷ [])) → Down c b w' (down_go g t (g.top + 4) (g.depth + inner_root) Unseen)
   down-asks k u s tok E F q is e r j =
       let m = inner_in i.fr in
       let after : Verdict → Tree = λ v. son_of c.declared tok q is v (son_site (site_in i.fr)) i.α in

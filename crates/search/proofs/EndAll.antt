@@ -8,6 +8,7 @@ use lib.ListN.{get_or, set}
 use lib.Dec.{eqb}
 use lib.IntN.{ℤ}
 use borrow.Author.Tests.{eqb-true, eqb-false}
+use Rattle.specification.specs.declared.Setting.{Setting}
 use Rattle.specification.specs.Bytes.{Bytes}
 use Rattle.specification.specs.Place.{local}
 use Rattle.specification.specs.Value.{full, Valuation}
@@ -101,7 +102,7 @@ module _ {w mid w' : Words} {g : Go} (some : ¬ (g.top ≡ path_at)) (low : at w
       top-all (λ fr. yes c fr g.tallies b ≡ c.result → Yes c b w' (drop_go g (g.top - 4) g.inner)) some low code
       (λ l v h β fr P r. yes-again u {β = β} {fr = fr} (all-ended P ek es ls words) r) s.fr s.bare s.path s.said
 
-  pub rose-ended : {path budget : ℕ} {q : Go} → Rises w g path budget → q ≡ drop_go g (g.top - 4) g.inner → Rose w w' g q path budget
+  pub rose-ended : {setting : Setting} {q : Go} → Rises w g setting → q ≡ drop_go g (g.top - 4) g.inner → Rose w w' g q setting
   rose-ended r e = rose r e (let z = r.up.path.ends in omega (arith, top-low r.up.fr)) end-up
 
   pub fell-ended : {q : Go} → Wins w g → q ≡ drop_go g (g.top - 4) g.inner → Fell w w' g q

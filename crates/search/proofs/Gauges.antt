@@ -3,12 +3,13 @@ use Prim.Native.Nat.{ℕ, ◌<◌}
 use native.Mathlib.Omega.{arith}
 use mathlib.Core.Path.{◌≡◌, ap}
 use Rattle.specification.specs.Run.{tallies, add_node}
+use Rattle.search.specs.declared.Errors.{Errors}
 use Rattle.search.specs.declared.Go.{Go}
 use Rattle.search.specs.Path.{World}
 use Rattle.search.specs.Registers.{tallied, Gauge, down_go}
 
 module _ {c : World} {g : Go} (q : Gauge c g) (room : g.depth < g.stop) where
-  pub down-gauge : (t top inner bad : ℕ) → Gauge c (down_go g t top inner bad)
+  pub down-gauge : (t top inner : ℕ) (bad : Errors) → Gauge c (down_go g t top inner bad)
   down-gauge t top inner bad = record {
     tallies = record { fits = q.tallies.fits; budget = q.tallies.budget; leaves = q.tallies.leaves };
     begun = omega (arith, q.begun);
@@ -16,7 +17,7 @@ module _ {c : World} {g : Go} (q : Gauge c g) (room : g.depth < g.stop) where
     stop = q.stop;
   }
 
-  pub down-tallied : (t top inner bad : ℕ) → tallied (down_go g t top inner bad) ≡ add_node (tallied g)
+  pub down-tallied : (t top inner : ℕ) (bad : Errors) → tallied (down_go g t top inner bad) ≡ add_node (tallied g)
   down-tallied t top inner bad =
       let h = q.begun in
       ap (λ n. tallies n g.tallies.answers g.tallies.errors g.tallies.fails) (omega arith)

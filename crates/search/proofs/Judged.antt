@@ -5,7 +5,10 @@ use mathlib.Core.Path.{◌≡◌, refl, sym, ◌∙◌, ap, subst}
 use mathlib.Core.Bool.{Bool, true, false}
 use mathlib.Core.List.{List, ◌∷◌}
 use mathlib.Core.Logic.{◌⊎◌, inl, inr}
+use lib.Dec.{eqb}
 use lib.ListN.{set}
+use Rattle.specification.specs.declared.Setting.{Setting}
+use Rattle.specification.proofs.Laws.Contradiction.{contradiction}
 use Rattle.specification.specs.Bytes.{Bytes}
 use Rattle.specification.specs.Lines.{Declared}
 use Rattle.specification.specs.Arithmetic.{undecided_inside}
@@ -19,7 +22,9 @@ use Rattle.sheet.specs.Held.{code_at, end_at, Holds}
 use Rattle.terms.specs.Environment.{number_of}
 use Rattle.terms.proofs.Laws.Here.{code_here, operand-here}
 use Rattle.search.specs.Marks.{marks_in, Marks}
+use Rattle.search.specs.declared.Errors.TheVariants.{Unseen, Seen}
 use Rattle.search.specs.declared.Go.{Go}
+use Rattle.search.specs.States.{errors_of}
 use Rattle.tables.specs.Leaves.{failure_place, error_place}
 use Rattle.plan.specs.Next.{token}
 use Rattle.search.specs.Kept.{Kept, SameStore}
@@ -48,14 +53,19 @@ son-undecided : (D : Declared) (tok : ℕ) (q : Question) (is : List Item) (s : 
 son-undecided D tok denying is s α = refl
 son-undecided D tok (implying E G) is s α = refl
 
--- whether an error leaf was seen, by the register
-seen : (e : Bool) (bad : ℕ) → bad ≡ bit e → bad ≡ 1 → e ≡ true
-seen true bad h n = refl
-seen false bad h n = absurd (omega arith)
+-- whether an error leaf was seen, by the word of a record
+read_bit : (e : Bool) (x : ℕ) → x ≡ bit e → errors_of (eqb x 1) ≡ errors_of e
+read_bit true x h = rw h refl
+read_bit false x h = rw h refl
 
-unseen : (e : Bool) (bad : ℕ) → bad ≡ bit e → ¬ (bad ≡ 1) → e ≡ false
-unseen true bad h n = absurd (n h)
-unseen false bad h n = refl
+-- and by the register
+seen : (e : Bool) → errors_of e ≡ Seen → e ≡ true
+seen true h = refl
+seen false h = contradiction cc
+
+unseen : (e : Bool) → errors_of e ≡ Unseen → e ≡ false
+unseen true h = contradiction cc
+unseen false h = refl
 
 -- ---- what is read of the record
 
@@ -67,8 +77,8 @@ module _ {c : World} {w : Words} {top : ℕ} {α : Valuation} {tok : ℕ} {q : Q
   ask-depth : at w (top - 2) ≡ suc (len fr)
   ask-depth = let z : top - 2 ≡ top_of fr + 2 = omega (arith, P.ends) in ap (at w) z ∙ P.stack.0.depth ∙ ap suc (site-depth fr)
 
-  ask-bad : at w (top - 3) ≡ bit e
-  ask-bad = let z : top - 3 ≡ top_of fr + 1 = omega (arith, P.ends) in ap (at w) z ∙ P.stack.0.bad
+  ask-bad : errors_of (eqb (at w (top - 3)) 1) ≡ errors_of e
+  ask-bad = let z : top - 3 ≡ top_of fr + 1 = omega (arith, P.ends) in read_bit e (at w (top - 3)) (ap (at w) z ∙ P.stack.0.bad)
 
   ask-inner : at w (top - 4) ≡ (site_in fr).inner
   ask-inner = let z : top - 4 ≡ top_of fr = omega (arith, P.ends) in ap (at w) z ∙ P.stack.0.inner
@@ -100,23 +110,23 @@ same_store w = record { same = λ j k m. refl }
 
 module _ {w : Words} {g : Go} (some : ¬ (g.top ≡ path_at)) (low : at w (g.top - 1) < cells_at)
     (code : (at w (at w (g.top - 1)) ≡ not_code) ⊎ (at w (at w (g.top - 1)) ≡ imp_code)) where
-  fails-down : {path budget : ℕ} → ¬ (g.bad ≡ 1) → (c : World) (b : Bytes) → Set c path budget → Up c b w g → Down c b w (around_go w g (at w (at w (g.top - 1) + 3)) path budget)
-  fails-down {path} {budget} none c b st u =
+  fails-down : {setting : Setting} → g.bad ≡ Unseen → (c : World) (b : Bytes) → Set c setting → Up c b w g → Down c b w (around_go w g (at w (at w (g.top - 1) + 3)) setting)
+  fails-down {setting} none c b st u =
       let s = up-strip c u in
-      top-asks (λ fr. Left c b g u.e fr → Down c b w (around_go w g (at w (at w (g.top - 1) + 3)) path budget)) some low code
+      top-asks (λ fr. Left c b g u.e fr → Down c b w (around_go w g (at w (at w (g.top - 1) + 3)) setting)) some low code
       (λ tok q is β e fr P left.
       resumed st u.tallies (pass β) fr (ask-path P (kept_refl (top_of fr) w) (same-slots w) (same_store w)) (ask-depth P) (the is) e (ask-inner P) (ask-bad P) (ask-rest P)
-      (rw (unseen u.e g.bad u.bad none, son-fails) at left.1))
+      (rw (unseen u.e (sym u.bad ∙ none), son-fails) at left.1))
       s.fr s.bare s.path s.said
 
-  pub rose-failed : {path budget : ℕ} {q : Go} → ¬ (g.bad ≡ 1) → q ≡ around_go w g (at w (at w (g.top - 1) + 3)) path budget → Rose w w g q path budget
+  pub rose-failed : {setting : Setting} {q : Go} → g.bad ≡ Unseen → q ≡ around_go w g (at w (at w (g.top - 1) + 3)) setting → Rose w w g q setting
   rose-failed none e = rose-down e (fails-down none)
 
   module _ {w' : Words} (words : w' ≡ set (set w (error_place + 1) undecided_inside) (error_place + 2) (at w (g.top - 1) / 4)) where
-    undecided-down : {path budget : ℕ} → g.bad ≡ 1 → (c : World) (b : Bytes) → Set c path budget → Up c b w g → Down c b w' (around_go w g error_place path budget)
-    undecided-down {path} {budget} one c b st u =
+    undecided-down : {setting : Setting} → g.bad ≡ Seen → (c : World) (b : Bytes) → Set c setting → Up c b w g → Down c b w' (around_go w g error_place setting)
+    undecided-down {setting} one c b st u =
         let s = up-strip c u in
-        top-asks (λ fr. Left c b g u.e fr → Down c b w' (around_go w g error_place path budget)) some low code
+        top-asks (λ fr. Left c b g u.e fr → Down c b w' (around_go w g error_place setting)) some low code
         (λ tok q is β e fr P left.
         let four : at w (g.top - 1) / 4 ≡ tok = omega (arith, ask-token P) in
         let ws = words ∙ ap (set (set w (error_place + 1) undecided_inside) (error_place + 2)) four in
@@ -124,10 +134,10 @@ module _ {w : Words} {g : Go} (some : ¬ (g.top ≡ path_at)) (low : at w (g.top
         resumed st u.tallies (pass β) fr
         (ask-path P (error-kept w undecided_inside tok ws (top_of fr)) (error-slots w undecided_inside tok ws) (error-store w undecided_inside tok ws)) (ask-depth P)
         (error undecided_inside tok) e (ask-inner P) (ask-bad P) (refl, told.0, told.1)
-        (rw (seen u.e g.bad u.bad one, son-undecided) at left.1))
+        (rw (seen u.e (sym u.bad ∙ one), son-undecided) at left.1))
         s.fr s.bare s.path s.said
 
-    pub rose-undecided : {path budget : ℕ} {q : Go} → g.bad ≡ 1 → q ≡ around_go w g error_place path budget → Rose w w' g q path budget
+    pub rose-undecided : {setting : Setting} {q : Go} → g.bad ≡ Seen → q ≡ around_go w g error_place setting → Rose w w' g q setting
     rose-undecided one e = rose-down e (undecided-down one)
 
 -- ---- an inner tree has succeeded
@@ -174,34 +184,34 @@ module _ {c : World} {w : Words} {top : ℕ} {α : Valuation} {tok : ℕ} {is : 
   denial (implying E G) P h = absurd (omega (arith, asked-code (implying E G) not_code P h, P.stack.0.question.0))
 
 module _ {w : Words} {g : Go} (some : ¬ (g.top ≡ path_at)) (low : at w (g.top - 1) < cells_at) where
-  second-down : {path budget : ℕ} → at w (at w (g.top - 1)) ≡ imp_code → (c : World) (b : Bytes) → Set c path budget → Yes c b w g →
-      Down c b w (around_go w g (at w (at w (g.top - 1) + 1)) path budget)
-  second-down {path} {budget} h c b st u =
+  second-down : {setting : Setting} → at w (at w (g.top - 1)) ≡ imp_code → (c : World) (b : Bytes) → Set c setting → Yes c b w g →
+      Down c b w (around_go w g (at w (at w (g.top - 1) + 1)) setting)
+  second-down {setting} h c b st u =
       let s = yes-strip c u in
-      top-asks (λ fr. yes c fr g.tallies b ≡ c.result → Down c b w (around_go w g (at w (at w (g.top - 1) + 1)) path budget)) some low (inr h)
+      top-asks (λ fr. yes c fr g.tallies b ≡ c.result → Down c b w (around_go w g (at w (at w (g.top - 1) + 1)) setting)) some low (inr h)
       (λ tok q is β e fr P r.
       let p = second-part q P h in
       resumed st u.tallies (pass β) fr (ask-path P (kept_refl (top_of fr) w) (same-slots w) (same_store w)) (ask-depth P) (the p.0) e (ask-inner P) (ask-bad P) p.2
       (rw p.1 at r))
       s.fr s.bare s.path s.said
 
-  denied-down : {path budget : ℕ} → at w (at w (g.top - 1)) ≡ not_code → (c : World) (b : Bytes) → Set c path budget → Yes c b w g →
-      Down c b w (around_go w g failure_place path budget)
-  denied-down {path} {budget} h c b st u =
+  denied-down : {setting : Setting} → at w (at w (g.top - 1)) ≡ not_code → (c : World) (b : Bytes) → Set c setting → Yes c b w g →
+      Down c b w (around_go w g failure_place setting)
+  denied-down {setting} h c b st u =
       let s = yes-strip c u in
-      top-asks (λ fr. yes c fr g.tallies b ≡ c.result → Down c b w (around_go w g failure_place path budget)) some low (inl h)
+      top-asks (λ fr. yes c fr g.tallies b ≡ c.result → Down c b w (around_go w g failure_place setting)) some low (inl h)
       (λ tok q is β e fr P r.
       resumed st u.tallies (pass β) fr (ask-path P (kept_refl (top_of fr) w) (same-slots w) (same_store w)) (ask-depth P) failure e (ask-inner P) (ask-bad P) refl
       (rw (denial q P h) at r))
       s.fr s.bare s.path s.said
 
-  granted : {q : Go} {due path budget : ℕ} → q ≡ around_go w g due path budget →
-      ((c : World) (b : Bytes) → Set c path budget → Yes c b w g → Down c b w (around_go w g due path budget)) → Granted w g q path budget
+  granted : {q : Go} {due : ℕ} {setting : Setting} → q ≡ around_go w g due setting →
+      ((c : World) (b : Bytes) → Set c setting → Yes c b w g → Down c b w (around_go w g due setting)) → Granted w g q setting
   granted e f = rw e (record { down = f; mode = refl; nodes = refl; counted = refl })
 
-  pub granted-second : {q : Go} {path budget : ℕ} → at w (at w (g.top - 1)) ≡ imp_code → q ≡ around_go w g (at w (at w (g.top - 1) + 1)) path budget →
-      Granted w g q path budget
+  pub granted-second : {q : Go} {setting : Setting} → at w (at w (g.top - 1)) ≡ imp_code → q ≡ around_go w g (at w (at w (g.top - 1) + 1)) setting →
+      Granted w g q setting
   granted-second h e = granted e (second-down h)
 
-  pub granted-failure : {q : Go} {path budget : ℕ} → at w (at w (g.top - 1)) ≡ not_code → q ≡ around_go w g failure_place path budget → Granted w g q path budget
+  pub granted-failure : {q : Go} {setting : Setting} → at w (at w (g.top - 1)) ≡ not_code → q ≡ around_go w g failure_place setting → Granted w g q setting
   granted-failure h e = granted e (denied-down h)

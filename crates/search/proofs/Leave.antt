@@ -9,6 +9,7 @@ use mathlib.Core.Option.{some as just}
 use lib.ListN.{length}
 use lib.Dec.{eqb, leb}
 use borrow.Author.Tests.{eqb-true, eqb-false, leb-true, leb-false}
+use Rattle.specification.specs.declared.Setting.{Setting}
 use Rattle.specification.specs.Bytes.{Bytes}
 use Rattle.specification.specs.Value.{Valuation}
 use Rattle.tables.specs.Layout.{cells_at, token_slot, path_at, max_procs}
@@ -157,7 +158,7 @@ module _ {w w' : Words} {g : Go} (some : ¬ (g.top ≡ path_at)) (low : at w (g.
       top-call (λ fr. yes c fr g.tallies b ≡ c.result → Yes c b w' (drop_go g from g.inner)) some low code
       (λ C β fr P r. yes-again u {β = β} {fr = fr} (left_at P ek em ef f) r) s.fr s.bare s.path s.said
 
-  pub rose-left : {path budget : ℕ} {q : Go} → Rises w g path budget → q ≡ drop_go g from g.inner → Rose w w' g q path budget
+  pub rose-left : {setting : Setting} {q : Go} → Rises w g setting → q ≡ drop_go g from g.inner → Rose w w' g q setting
   rose-left r e = rose r e (let z = r.up.path.ends in omega (arith, top-low r.up.fr)) leave-up
 
   pub fell-left : {q : Go} → Wins w g → q ≡ drop_go g from g.inner → Fell w w' g q

@@ -15,7 +15,6 @@ pub mod Slots
 pub mod Pending
 pub mod RecordsKept
 pub mod Changes
-pub mod Pushed
 pub mod Paths
 -- what is due, by the code of its token
 pub mod Subformulas

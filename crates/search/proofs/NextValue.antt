@@ -8,6 +8,7 @@ use lib.ListN.{length, get_or, set, length-set}
 use lib.Dec.{T}
 use lib.Seq.{get_or-set_same, get_or-set_other}
 use lib.IntN.{ℤ, pos, ◌+ℤ◌, +ℤ_assoc}
+use Rattle.specification.specs.declared.Setting.{Setting}
 use Rattle.specification.specs.Bytes.{Bytes}
 use Rattle.specification.specs.Ast.{Formula}
 use Rattle.specification.specs.Number.{in32}
@@ -134,13 +135,13 @@ module _ {c : World} {w : Words} {top : ℕ} {α : Valuation} {l : ℕ} {x : ℤ
 
 module _ {w : Words} {g : Go} (some : ¬ (g.top ≡ path_at)) (low : at w (g.top - 1) < cells_at) (code : at w (at w (g.top - 1)) ≡ some_code) {slot : ℕ}
     (es : slot ≡ local_slot (at w (at w (g.top - 1) + 5))) where
-  next_down : {w' : Words} {path budget : ℕ} → at w (slot + 1) < at w (g.top - 3) → w' ≡ set w (slot + 1) (at w (slot + 1) + 1) →
-      (c : World) (b : Bytes) → Set c path budget → Up c b w g →
-      Down c b w' (resume_go g (at w (at w (g.top - 1) + 7)) (at w (g.top - 2)) g.top g.inner g.bad path budget)
+  next_down : {w' : Words} {setting : Setting} → at w (slot + 1) < at w (g.top - 3) → w' ≡ set w (slot + 1) (at w (slot + 1) + 1) →
+      (c : World) (b : Bytes) → Set c setting → Up c b w g →
+      Down c b w' (resume_go g (at w (at w (g.top - 1) + 7)) (at w (g.top - 2)) g.top g.inner g.bad setting)
   unfolding sons_from
-  next_down {w'} {path} {budget} more words c b st u =
+  next_down {w'} {setting} more words c b st u =
       let s = up-strip c u in
-      top-some (λ fr. Left c b g u.e fr → Down c b w' (resume_go g (at w (at w (g.top - 1) + 7)) (at w (g.top - 2)) g.top g.inner g.bad path budget)) some low code
+      top-some (λ fr. Left c b g u.e fr → Down c b w' (resume_go g (at w (at w (g.top - 1) + 7)) (at w (g.top - 2)) g.top g.inner g.bad setting)) some low code
       (λ l x i n E F is β fr P left.
       let q = P.stack.0 in
       let p = local l in
@@ -199,8 +200,8 @@ module _ {w : Words} {g : Go} (some : ¬ (g.top ≡ path_at)) (low : at w (g.top
       (subst (λ k. no c (range l x i k E F is β ∷ fr) u.e g.tallies b ≡ c.result) en left.1))
       s.fr s.bare s.path s.said
 
-  pub rose-next : {w' : Words} {path budget : ℕ} {q : Go} → at w (slot + 1) < at w (g.top - 3) → w' ≡ set w (slot + 1) (at w (slot + 1) + 1) →
-      q ≡ resume_go g (at w (at w (g.top - 1) + 7)) (at w (g.top - 2)) g.top g.inner g.bad path budget → Rose w w' g q path budget
+  pub rose-next : {w' : Words} {setting : Setting} {q : Go} → at w (slot + 1) < at w (g.top - 3) → w' ≡ set w (slot + 1) (at w (slot + 1) + 1) →
+      q ≡ resume_go g (at w (at w (g.top - 1) + 7)) (at w (g.top - 2)) g.top g.inner g.bad setting → Rose w w' g q setting
   rose-next more words e = rose-down e (next_down more words)
 
   -- the slot is as it was
@@ -224,7 +225,7 @@ module _ {w : Words} {g : Go} (some : ¬ (g.top ≡ path_at)) (low : at w (g.top
         top-some (λ fr. yes c fr g.tallies b ≡ c.result → Yes c b w' (drop_go g (g.top - 5) g.inner)) some low code
         (λ l x i n E F is β fr P r. yes-again u {β = β} {fr = fr} (some-closed P es words) r) s.fr s.bare s.path s.said
 
-    pub rose-closed : {path budget : ℕ} {q : Go} → ¬ (at w (slot + 1) < at w (g.top - 3)) → Rises w g path budget → q ≡ drop_go g (g.top - 5) g.inner → Rose w w' g q path budget
+    pub rose-closed : {setting : Setting} {q : Go} → ¬ (at w (slot + 1) < at w (g.top - 3)) → Rises w g setting → q ≡ drop_go g (g.top - 5) g.inner → Rose w w' g q setting
     rose-closed over r e = rose r e (let z = r.up.path.ends in omega (arith, top-low r.up.fr)) (close_up over)
 
     pub fell-closed : {q : Go} → Wins w g → q ≡ drop_go g (g.top - 5) g.inner → Fell w w' g q

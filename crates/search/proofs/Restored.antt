@@ -4,6 +4,7 @@ use native.Mathlib.Omega.{arith}
 use mathlib.Core.Path.{◌≡◌, refl, sym, ◌∙◌, ap, subst}
 use mathlib.Core.List.{List, ◌∷◌}
 use lib.ListN.{length, get_or, set}
+use Rattle.specification.specs.declared.Setting.{Setting}
 use Rattle.specification.specs.Bytes.{Bytes}
 use Rattle.specification.specs.Place.{Place, local, put}
 use Rattle.specification.specs.Value.{Slot, full, Valuation}
@@ -121,8 +122,8 @@ top-three : {c : World} {w : Words} {top : ℕ} {α : Valuation} {f : Frame} {fr
 top-three P e = omega (arith, P.ends)
 
 -- from the invariant of a path that has a record
-pub rose : {w w' : Words} {g q : Go} {path budget top inner : ℕ} → Rises w g path budget → q ≡ drop_go g top inner → top < g.top →
-    ((c : World) (b : Bytes) → Up c b w g → Up c b w' (drop_go g top inner)) → Rose w w' g q path budget
+pub rose : {w w' : Words} {g q : Go} {top inner : ℕ} {setting : Setting} → Rises w g setting → q ≡ drop_go g top inner → top < g.top →
+    ((c : World) (b : Bytes) → Up c b w g → Up c b w' (drop_go g top inner)) → Rose w w' g q setting
 rose r e h f = rw e (record {
   sim = λ c b s u. up r.mode (f c b u);
   nodes = refl;
@@ -156,7 +157,7 @@ module _ {w w' : Words} {g : Go} (some : ¬ (g.top ≡ path_at)) (slot : cells_a
       (λ p v β fr P q. yes-again u {β = β} {fr = fr} (rw (top-three P refl) (undone-path P p (full v) refl refl P.stack.0 (λ r n. refl) refl words)) q)
       s.fr s.bare s.path s.said
 
-  pub rose-undone : {path budget : ℕ} {q : Go} → Rises w g path budget → q ≡ drop_go g (g.top - 3) (at w (g.top - 2)) → Rose w w' g q path budget
+  pub rose-undone : {setting : Setting} {q : Go} → Rises w g setting → q ≡ drop_go g (g.top - 3) (at w (g.top - 2)) → Rose w w' g q setting
   rose-undone r e = rose r e (let z = r.up.path.ends in omega (arith, top-low r.up.fr)) undo-up
 
   pub fell-undone : {q : Go} (u : Wins w g) → q ≡ drop_go g (g.top - 3) (at w (g.top - 2)) → Fell w w' g q

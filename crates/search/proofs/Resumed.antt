@@ -4,8 +4,10 @@ use native.Mathlib.Omega.{arith}
 use mathlib.Core.Path.{◌≡◌, refl, ◌∙◌, ap, subst}
 use mathlib.Core.Bool.{Bool}
 use mathlib.Core.List.{List, [], ◌∷◌}
+use Rattle.specification.specs.declared.Setting.{Setting}
 use Rattle.specification.specs.Bytes.{Bytes}
 use Rattle.specification.specs.Run.{tallies}
+use Rattle.specification.proofs.Laws.Contradiction.{contradiction}
 use Rattle.tables.specs.Layout.{cells_at, token_slot, path_at}
 use Rattle.tables.specs.Codes.{or_code}
 use Rattle.sheet.specs.Tables.{Words}
@@ -13,16 +15,18 @@ use Rattle.sheet.specs.Held.{Holds, end_at}
 use Rattle.terms.specs.Environment.{number_of}
 use Rattle.terms.proofs.Laws.Here.{operand-here}
 use Rattle.search.specs.Marks.{marks_in, Marks}
+use Rattle.search.specs.declared.Errors.{Errors}
 use Rattle.search.specs.declared.Go.{Go}
+use Rattle.search.specs.States.{errors_of}
+use Rattle.search.specs.declared.Mode.TheVariants as modes
 use Rattle.plan.specs.Next.{token}
 use Rattle.search.specs.Walk.{walk}
 use Rattle.search.specs.Frame.{form, What, the, Frame, pass, other, bound, began, given, range, asks, called, below, len, top_of, inner_in, site_in, store_in}
-use Rattle.search.specs.Records.{at, bit}
+use Rattle.search.specs.Records.{at}
 use Rattle.search.specs.Path.{World, conditions_of, Job, Path}
 use Rattle.search.specs.Sim.{yes, no, tree, Down, Up, Yes, Over, down, done}
 use Rattle.search.specs.Registers.{tallied, Tallied, Gauge, out_go, drop_go, resume_go}
 use Rattle.search.specs.Climb.{strip, Set, Rises, Rose, Wins, Fell}
-use Rattle.search.specs.States.{done_mode}
 use Rattle.search.proofs.RecordsKept.{top-low}
 use Rattle.search.proofs.Restored.{yes-again, fell}
 use Rattle.search.proofs.Sites.{site-depth}
@@ -33,8 +37,8 @@ use Rattle.search.proofs.Tops.{not-stripped, top-other}
 
 -- ---- a son is due, all visits counted
 
-module _ (g : Go) (due depth top inner bad path budget : ℕ) where
-  resume-gauge : {c : World} → Set c path budget → Tallied c g → depth ≤ path → Gauge c (resume_go g due depth top inner bad path budget)
+module _ (g : Go) (due depth top inner : ℕ) (bad : Errors) (setting : Setting) where
+  resume-gauge : {c : World} → Set c setting → Tallied c g → depth ≤ setting.path → Gauge c (resume_go g due depth top inner bad setting)
   resume-gauge st q h = record {
     tallies = record { fits = q.fits; budget = q.budget; leaves = q.leaves };
     begun = omega arith;
@@ -42,18 +46,18 @@ module _ (g : Go) (due depth top inner bad path budget : ℕ) where
     stop = rw (st.path_is, st.budget_is) refl;
   }
 
-  resume-tallied : tallied (resume_go g due depth top inner bad path budget) ≡ g.tallies
+  resume-tallied : tallied (resume_go g due depth top inner bad setting) ≡ g.tallies
   resume-tallied =
       let same : g.tallies.nodes + (depth - depth) ≡ g.tallies.nodes = omega arith in
       ap (λ n. tallies n g.tallies.answers g.tallies.errors g.tallies.fails) same
 
 -- the frame f on top
-pub resumed : {c : World} {b : Bytes} {w : Words} {g : Go} {path budget : ℕ} → Set c path budget → Tallied c g → (f : Frame) (fr : List Frame)
-    {due depth top inner bad : ℕ} → Path c w top (below f) (f ∷ fr) → depth ≡ suc (len fr) → (x : What) (e : Bool) → inner ≡ (site_in (f ∷ fr)).inner → bad ≡ bit e →
+pub resumed : {c : World} {b : Bytes} {w : Words} {g : Go} {setting : Setting} → Set c setting → Tallied c g → (f : Frame) (fr : List Frame)
+    {due depth top inner : ℕ} {bad : Errors} → Path c w top (below f) (f ∷ fr) → depth ≡ suc (len fr) → (x : What) (e : Bool) → inner ≡ (site_in (f ∷ fr)).inner → bad ≡ errors_of e →
     Job c w (store_in (f ∷ fr)) (below f) due x →
     walk (conditions_of c) (inner_in (f ∷ fr)) (suc (suc (len fr))) (tree c (f ∷ fr) x (below f)) (yes c (f ∷ fr)) (no c (f ∷ fr)) e g.tallies b ≡ c.result →
-    Down c b w (resume_go g due depth top inner bad path budget)
-resumed {g = g} {path = path} {budget = budget} st q f fr {due} {depth} {top} {inner} {bad} P deep x e n m j r = record {
+    Down c b w (resume_go g due depth top inner bad setting)
+resumed {g = g} {setting = setting} st q f fr {due} {depth} {top} {inner} {bad} P deep x e n m j r = record {
   x = x;
   fr = f ∷ fr;
   α = below f;
@@ -63,28 +67,28 @@ resumed {g = g} {path = path} {budget = budget} st q f fr {due} {depth} {top} {i
   inner = n;
   bad = m;
   job = j;
-  gauge = resume-gauge g due depth top inner bad path budget st q (omega (arith, P.inside, st.path_is));
-  result = rw (resume-tallied g due depth top inner bad path budget, deep) r;
+  gauge = resume-gauge g due depth top inner bad setting st q (omega (arith, P.inside, st.path_is));
+  result = rw (resume-tallied g due depth top inner bad setting, deep) r;
 }
 
 -- a step up to a visit
-pub rose-down : {w w' : Words} {g q : Go} {due depth top inner bad path budget : ℕ} → q ≡ resume_go g due depth top inner bad path budget →
-    ((c : World) (b : Bytes) → Set c path budget → Up c b w g → Down c b w' (resume_go g due depth top inner bad path budget)) → Rose w w' g q path budget
+pub rose-down : {w w' : Words} {g q : Go} {due depth top inner : ℕ} {bad : Errors} {setting : Setting} → q ≡ resume_go g due depth top inner bad setting →
+    ((c : World) (b : Bytes) → Set c setting → Up c b w g → Down c b w' (resume_go g due depth top inner bad setting)) → Rose w w' g q setting
 rose-down e f = rw e (record {
   sim = λ c b s u. down refl (f c b s u);
   nodes = refl;
   counted = refl;
-  falls = λ m. absurd (omega arith);
+  falls = λ m. contradiction cc;
 })
 
 -- ---- the second son of an `or`
 
 module _ {w : Words} {g : Go} (some : ¬ (g.top ≡ path_at)) (low : at w (g.top - 1) < cells_at) (code : at w (at w (g.top - 1)) ≡ or_code) where
-  pub rose-other : {path budget : ℕ} {q : Go} → q ≡ resume_go g (at w (at w (g.top - 1) + 1)) (at w (g.top - 2)) (g.top - 2) g.inner g.bad path budget →
-      Rose w w g q path budget
-  rose-other {path} {budget} e = rose-down e (λ c b st u.
+  pub rose-other : {setting : Setting} {q : Go} → q ≡ resume_go g (at w (at w (g.top - 1) + 1)) (at w (g.top - 2)) (g.top - 2) g.inner g.bad setting →
+      Rose w w g q setting
+  rose-other {setting} e = rose-down e (λ c b st u.
       let s = up-strip c u in
-      top-other (λ fr. Left c b g u.e fr → Down c b w (resume_go g (at w (at w (g.top - 1) + 1)) (at w (g.top - 2)) (g.top - 2) g.inner g.bad path budget))
+      top-other (λ fr. Left c b g u.e fr → Down c b w (resume_go g (at w (at w (g.top - 1) + 1)) (at w (g.top - 2)) (g.top - 2) g.inner g.bad setting))
       some low code
       (λ E G is β fr P left.
       let r = P.stack.0 in
@@ -137,10 +141,10 @@ module _ {w : Words} {g : Go} (some : ¬ (g.top ≡ path_at)) (low : at w (g.top
 -- ---- no record is left
 
 module _ {w : Words} {g : Go} (none : g.top ≡ path_at) where
-  all-over : (c : World) (b : Bytes) → Up c b w g → Over c b (out_go g done_mode)
+  all-over : (c : World) (b : Bytes) → Up c b w g → Over c b (out_go g modes.Done)
   all-over c b u = let s = up-strip c u in go s.fr s.bare s.path.ends s.said
     where
-      go : (fr : List Frame) → strip fr ≡ fr → g.top ≡ top_of fr → Left c b g u.e fr → Over c b (out_go g done_mode)
+      go : (fr : List Frame) → strip fr ≡ fr → g.top ≡ top_of fr → Left c b g u.e fr → Over c b (out_go g modes.Done)
       go [] h z q = record {
         counted = u.counted;
         tallies = record { fits = u.tallies.fits; budget = u.tallies.budget; leaves = u.tallies.leaves };
@@ -155,10 +159,10 @@ module _ {w : Words} {g : Go} (none : g.top ≡ path_at) where
       go (asks tok x is β e ∷ fr) h z q = absurd (omega (arith, top-low fr))
       go (called C β ∷ fr) h z q = absurd (omega (arith, top-low fr))
 
-  pub rose-over : {path budget : ℕ} {q : Go} → Rises w g path budget → q ≡ out_go g done_mode → Rose w w g q path budget
+  pub rose-over : {setting : Setting} {q : Go} → Rises w g setting → q ≡ out_go g modes.Done → Rose w w g q setting
   rose-over r e = rw e (record {
     sim = λ c b s u. done refl (all-over c b u);
     nodes = refl;
     counted = r.up.counted;
-    falls = λ m. absurd (omega arith);
+    falls = λ m. contradiction cc;
   })

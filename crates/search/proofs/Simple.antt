@@ -16,6 +16,7 @@ use Rattle.tables.specs.Codes.{true_code, and_code, or_code}
 use Rattle.tables.specs.Layout.{token_slot, path_at}
 use Rattle.sheet.specs.Tables.{Words}
 use Rattle.terms.specs.Environment.{number_of}
+use Rattle.search.specs.declared.Errors.{Errors}
 use Rattle.search.specs.declared.Go.{Go}
 use Rattle.tables.specs.Layout.{plan_at}
 use Rattle.tables.specs.Leaves.{success_place, error_place, empty_code}
@@ -38,7 +39,7 @@ use Rattle.search.proofs.Heads.{Head, here, AtForm, at-form, form-tree, at-empty
 
 -- ---- a step down
 
-pub stepped : {w w' : Words} {g q : Go} {t top inner bad : ℕ} → Visited w g → q ≡ down_go g t top inner bad →
+pub stepped : {w w' : Words} {g q : Go} {t top inner : ℕ} {bad : Errors} → Visited w g → q ≡ down_go g t top inner bad →
     ((c : World) (b : Bytes) → In c b w g → Down c b w' (down_go g t top inner bad)) → Stepped w w' g q
 stepped {t = t} {top = top} {inner = inner} {bad = bad} v e f =
     let visit = ap (λ z. z.nodes) (down-tallied v.ins.gauge v.ins.room t top inner bad) in

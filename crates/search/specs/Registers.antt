@@ -1,13 +1,19 @@
--- The registers, and the values that the functions of src/registers.rt make. Assumes nothing.
-use Rattle.std.specs.Prelude.{ℕ, ◌+◌, ◌-◌, ◌≤◌, ◌<◌, min, ◌≡◌, eqb}
+-- The registers, and the values that the functions of src/registers.rt of the crate walker make. Assumes nothing.
+use Rattle.std.specs.Prelude.{ℕ, ◌+◌, ◌-◌, ◌≤◌, ◌<◌, min, ◌≡◌}
 use Rattle.specification.specs.declared.Tallies.{Tallies}
-use Rattle.specification.specs.Bytes.{pick}
-use Rattle.specification.specs.Run.{tallies, add_node, add_answer, add_error, add_fail}
+use Rattle.specification.specs.declared.Setting.{Setting}
+use Rattle.specification.specs.Run.{tallies, add_answer, add_error, add_fail}
 use Rattle.tables.specs.Layout.{path_at}
 use Rattle.tables.specs.Leaves.{rise_place}
+use Rattle.search.specs.declared.Errors.{Errors}
+use Rattle.search.specs.declared.Errors.TheVariants.{Unseen}
 use Rattle.search.specs.declared.Go.{Go}
+use Rattle.search.specs.declared.Mode.{Mode}
+use Rattle.search.specs.declared.Tally.{Tally}
+use Rattle.search.specs.declared.Tally.TheVariants.{Answer, Error, Failure}
+use Rattle.search.specs.declared.Mode.TheVariants as modes
 use Rattle.search.specs.Path.{World}
-use Rattle.search.specs.States.{down_mode, main_tree}
+use Rattle.search.specs.States.{main_tree}
 
 -- the tallies with the visits since the last leaf
 abbrev pub tallied : Go → Tallies
@@ -28,9 +34,9 @@ pub record Gauge (c : World) (g : Go) : Type 0 where
 
 -- ---- registers
 
-abbrev pub down_go : Go → ℕ → ℕ → ℕ → ℕ → Go
+abbrev pub down_go : Go → ℕ → ℕ → ℕ → Errors → Go
 down_go g t top inner bad = record {
-  mode = down_mode;
+  mode = modes.Down;
   due = t;
   depth = g.depth + 1;
   stop = g.stop;
@@ -55,7 +61,7 @@ to_go g t = record {
 }
 
 -- another mode
-abbrev pub out_go : Go → ℕ → Go
+abbrev pub out_go : Go → Mode → Go
 out_go g mode = record {
   mode = mode;
   due = g.due;
@@ -83,12 +89,12 @@ drop_go g top inner = record {
 }
 
 -- a visit is due, all visits counted
-abbrev pub resume_go : Go → ℕ → ℕ → ℕ → ℕ → ℕ → ℕ → ℕ → Go
-resume_go g t depth top inner bad path budget = record {
-  mode = down_mode;
+abbrev pub resume_go : Go → ℕ → ℕ → ℕ → ℕ → Errors → Setting → Go
+resume_go g t depth top inner bad setting = record {
+  mode = modes.Down;
   due = t;
   depth = depth;
-  stop = min path (depth + (budget - g.tallies.nodes));
+  stop = min setting.path (depth + (setting.budget - g.tallies.nodes));
   top = top;
   from = depth;
   inner = inner;
@@ -97,7 +103,7 @@ resume_go g t depth top inner bad path budget = record {
 }
 
 -- a leaf was visited
-abbrev pub leaf_go : Go → ℕ → ℕ → Tallies → Go
+abbrev pub leaf_go : Go → Mode → Errors → Tallies → Go
 leaf_go g mode bad t = record {
   mode = mode;
   due = g.due;
@@ -113,7 +119,7 @@ leaf_go g mode bad t = record {
 -- going up is due, no limit is near
 abbrev pub rise_go : Go → Go
 rise_go g = record {
-  mode = down_mode;
+  mode = modes.Down;
   due = rise_place;
   depth = g.depth;
   stop = 4294967295;
@@ -124,40 +130,29 @@ rise_go g = record {
   tallies = g.tallies;
 }
 
-abbrev pub start_go : ℕ → ℕ → ℕ → Go
-start_go t path budget = record {
-  mode = down_mode;
+abbrev pub start_go : ℕ → Setting → Go
+start_go t setting = record {
+  mode = modes.Down;
   due = t;
   depth = 0;
-  stop = min path budget;
+  stop = min setting.path setting.budget;
   top = path_at;
   from = 0;
   inner = main_tree;
-  bad = 0;
+  bad = Unseen;
   tallies = tallies 0 0 0 0;
 }
 
 -- ---- tallies
 
--- which tally grows; src/tallies.rt has the same numbers
-abbrev pub node_tally : ℕ
-node_tally = 0
-
-abbrev pub answer_tally : ℕ
-answer_tally = 1
-
-abbrev pub error_tally : ℕ
-error_tally = 2
-
-abbrev pub fail_tally : ℕ
-fail_tally = 3
-
 abbrev pub max_word : ℕ
 max_word = 4294967295
 
--- one more of a kind
-unfoldable pub counted : Tallies → ℕ → Tallies
-counted t leaf = pick (eqb leaf node_tally) (add_node t) (pick (eqb leaf answer_tally) (add_answer t) (pick (eqb leaf error_tally) (add_error t) (add_fail t)))
+-- one leaf more of a kind
+abbrev pub counted : Tallies → Tally → Tallies
+counted t Answer = add_answer t
+counted t Error = add_error t
+counted t Failure = add_fail t
 
 -- so many visits more
 abbrev pub visited_tallies : Tallies → ℕ → Tallies

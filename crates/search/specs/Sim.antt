@@ -6,13 +6,13 @@ use Rattle.specification.specs.Tree.{Tree}
 use Rattle.specification.specs.Run.{add_node, going}
 use Rattle.sheet.specs.Tables.{Words}
 use Rattle.search.specs.declared.Go.{Go}
+use Rattle.search.specs.declared.Mode.TheVariants as modes
 use Rattle.search.specs.Walk as walks
 use Rattle.search.specs.Frame.{What, the, success, failure, error, tree_what, Frame, len, inner_in, site_in, store_in, resume_yes, resume}
 use Rattle.search.specs.Site.{son_site}
 use Rattle.search.specs.Path.{World, conditions_of, Job, Path}
-use Rattle.search.specs.Records.{bit}
 use Rattle.search.specs.Registers.{tallied, Tallied, Gauge}
-use Rattle.search.specs.States.{down_mode, up_mode, block_mode, done_mode, stopped_mode}
+use Rattle.search.specs.States.{errors_of}
 
 module _ (c : World) where
   abbrev pub yes : List Frame → walks.Next
@@ -37,7 +37,7 @@ pub record Down (c : World) (b : Bytes) (w : Words) (g : Go) : Type 0 where
   pub path : Path c w g.top α fr
   pub deep : g.depth ≡ len fr
   pub inner : g.inner ≡ (site_in fr).inner
-  pub bad : g.bad ≡ bit e
+  pub bad : g.bad ≡ errors_of e
   pub job : Job c w (store_in fr) α g.due x
   pub gauge : Gauge c g
   pub result :
@@ -53,7 +53,7 @@ pub record In (c : World) (b : Bytes) (w : Words) (g : Go) : Type 0 where
   pub path : Path c w g.top α fr
   pub deep : g.depth ≡ len fr
   pub inner : g.inner ≡ (site_in fr).inner
-  pub bad : g.bad ≡ bit e
+  pub bad : g.bad ≡ errors_of e
   pub job : Job c w (store_in fr) α g.due x
   pub gauge : Gauge c g
   pub room : g.depth < g.stop
@@ -68,7 +68,7 @@ pub record Up (c : World) (b : Bytes) (w : Words) (g : Go) : Type 0 where
   pub e : Bool
   pub path : Path c w g.top α fr
   pub inner : g.inner ≡ (site_in fr).inner
-  pub bad : g.bad ≡ bit e
+  pub bad : g.bad ≡ errors_of e
   pub counted : g.from ≡ g.depth
   pub tallies : Tallied c g
   pub result : no c fr e g.tallies b ≡ c.result
@@ -107,8 +107,8 @@ pub record Stopped (c : World) (b : Bytes) (w : Words) (g : Go) : Type 0 where
   pub limit : g.depth ≡ g.stop
 
 pub data Sim (c : World) (b : Bytes) (w : Words) (g : Go) : Type 0 where
-  down : g.mode ≡ down_mode → Down c b w g → Sim c b w g
-  up : g.mode ≡ up_mode → Up c b w g → Sim c b w g
-  block : g.mode ≡ block_mode → Leaf c b w g → Sim c b w g
-  done : g.mode ≡ done_mode → Over c b g → Sim c b w g
-  stopped : g.mode ≡ stopped_mode → Stopped c b w g → Sim c b w g
+  down : g.mode ≡ modes.Down → Down c b w g → Sim c b w g
+  up : g.mode ≡ modes.Up → Up c b w g → Sim c b w g
+  block : g.mode ≡ modes.Block → Leaf c b w g → Sim c b w g
+  done : g.mode ≡ modes.Done → Over c b g → Sim c b w g
+  stopped : g.mode ≡ modes.Stopped → Stopped c b w g → Sim c b w g

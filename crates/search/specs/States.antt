@@ -1,30 +1,25 @@
--- Names for the numbers that the registers hold. src has the same numbers for the code. Assumes nothing.
-use Rattle.std.specs.Prelude.{ℕ, ◌+◌}
+-- What the registers say: whether two modes are the same, whether an error leaf was seen, and the numbers of the register `inner`. Assumes nothing.
+use Rattle.std.specs.Prelude.{ℕ, ◌+◌, Bool, true, false}
+use denote.Enum.Bare.{sameb}
 use Rattle.tables.specs.Ranges.{local_mark}
+use Rattle.search.specs.declared.Errors.{Errors}
+use Rattle.search.specs.declared.Errors.TheVariants.{Unseen, Seen}
+use Rattle.search.specs.declared.Mode.{Mode}
+use Rattle.search.specs.contracts.Mode.{the_type}
 
--- ---- modes: a visit is due, a son is finished, an inner tree has succeeded; the loop is left where a limit is reached, where a leaf of the main
--- tree that has a block is visited, and where all is visited; the walk is over where there is no room for a block
+-- what `==` says of two modes
+abbrev pub same : Mode → Mode → Bool
+same a b = sameb the_type a b
 
-abbrev pub down_mode : ℕ
-down_mode = 1
+-- ---- the register `bad`, by whether an error leaf was seen, and the word that a record has of it
 
-abbrev pub up_mode : ℕ
-up_mode = 2
+abbrev pub errors_of : Bool → Errors
+errors_of true = Seen
+errors_of false = Unseen
 
-abbrev pub won_mode : ℕ
-won_mode = 3
-
-abbrev pub stopped_mode : ℕ
-stopped_mode = 0
-
-abbrev pub block_mode : ℕ
-block_mode = 4
-
-abbrev pub done_mode : ℕ
-done_mode = 5
-
-abbrev pub full_mode : ℕ
-full_mode = 6
+abbrev pub errors_word : Errors → ℕ
+errors_word Seen = 1
+errors_word Unseen = 0
 
 -- ---- the register `inner`
 

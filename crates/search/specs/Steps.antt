@@ -11,12 +11,12 @@ use Rattle.tables.specs.Codes.{eq_code, ge_code, some_code, all_code}
 use Rattle.sheet.specs.Tables.{Words}
 use Rattle.terms.specs.Environment.{Environment, terms_of}
 use Rattle.search.specs.declared.Go.{Go}
+use Rattle.search.specs.declared.Mode.TheVariants as modes
 use Rattle.tables.specs.Leaves.{return_code}
 use Rattle.search.specs.Frame.{Item, form, What, the, error, store_in}
 use Rattle.search.specs.Path.{World, Job}
 use Rattle.search.specs.Sim.{tree, son, In, Sim}
 use Rattle.search.specs.Registers.{tallied}
-use Rattle.search.specs.States.{down_mode, up_mode}
 
 -- in some world a node or leaf that no limit stops
 pub record Visited (w : Words) (g : Go) : Type 0 where
@@ -32,7 +32,7 @@ pub record Entered (w : Words) (g : Go) (n : ℕ) : Type 0 where
 -- what a function makes of it: where the search goes on, the visit is counted
 pub record Stepped (w w' : Words) (g q : Go) : Type 0 where
   pub sim : (c : World) (b : Bytes) → In c b w g → Sim c b w' q
-  pub counts : (q.mode ≡ down_mode) ⊎ (q.mode ≡ up_mode) → (tallied q).nodes ≡ suc (tallied g).nodes
+  pub counts : (q.mode ≡ modes.Down) ⊎ (q.mode ≡ modes.Up) → (tallied q).nodes ≡ suc (tallied g).nodes
   pub least : (tallied g).nodes ≤ (tallied q).nodes
 
 -- the node's one son is the rest of its list, which comes next

@@ -6,18 +6,54 @@
 
 use specification::Tallies;
 
-// `mode`: what is to be done next (specs/States.antt); `due`: what is visited next; `depth`: how many nodes the path has; `stop`: the depth at
-// which a limit is reached; `top`: where the records end; `from`: the depth since which the tallies lack the visits; `inner`: the present tree
-// and what it has given to places outside; `bad`: whether it has had an error leaf; the tallies as of the last leaf.
+// What is to be done next. The loop is left where no visit is due and no son is finished.
+#[derive(Clone, Copy, Debug, PartialEq, Eq)]
+pub enum Mode {
+    // A limit is reached.
+    Stopped,
+    // A visit is due.
+    Down,
+    // A son is finished.
+    Up,
+    // An inner tree has succeeded.
+    Won,
+    // A leaf of the main tree is visited that has a block.
+    Block,
+    // All is visited.
+    Done,
+    // There is no room for a block: the walk is over.
+    Full,
+}
+
+// Whether the present tree has had an error leaf. (No bool: to carry one takes four instructions more a node.)
+#[derive(Clone, Copy, Debug, PartialEq, Eq)]
+pub enum Errors {
+    Unseen,
+    Seen,
+}
+
+// Which tally a leaf of the main tree adds to.
+#[derive(Clone, Copy, Debug, PartialEq, Eq)]
+pub enum Tally {
+    Answer,
+    Error,
+    Failure,
+}
+
+// `due`: what is visited next; `depth`: how many nodes the path has; `stop`: the depth at which a limit is reached; `from`: the depth since which
+// the tallies lack the visits; `top`: where the records end; `inner`: the present tree and what it has given to places outside (specs/States.antt;
+// a number, since a place's mark is compared with it); the tallies as of the last leaf; `mode`: what is to be done next; `bad`: whether the present
+// tree has had an error leaf. (The fields of one byte stand last: with gaps between the fields the compiler moves the gaps too, and a node takes
+// twice the instructions.)
 #[derive(Clone, Copy)]
 pub struct Go {
-    pub mode: u32,
     pub due: u32,
     pub depth: u32,
     pub stop: u32,
-    pub top: usize,
     pub from: u32,
+    pub top: usize,
     pub inner: u32,
-    pub bad: u32,
     pub tallies: Tallies,
+    pub mode: Mode,
+    pub bad: Errors,
 }

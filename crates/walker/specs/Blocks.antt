@@ -8,10 +8,10 @@ use Rattle.sheet.specs.Tables.{Words}
 use Rattle.listing.specs.declared.Head.{Head}
 use Rattle.listing.specs.declared.Head.TheVariants.{Answer, Error}
 use Rattle.search.specs.declared.Go.{Go}
+use Rattle.search.specs.declared.Mode.TheVariants as modes
 use Rattle.search.specs.Path.{World}
 use Rattle.search.specs.Sim.{Leaf}
 use Rattle.search.specs.Registers.{tallied, leaf_go, rise_go, max_word}
-use Rattle.search.specs.States.{down_mode, full_mode}
 use Rattle.walker.specs.declared.State.{State}
 use Rattle.walker.specs.declared.Task.{Task}
 use Rattle.walker.specs.Steps.{Visits}
@@ -41,11 +41,11 @@ passed_tallies g = pick (eqb g.due success_place) (add_answer (visited_leaf g)) 
 
 -- and so is the leaf; going up is due
 abbrev pub passed_go : Go → Go
-passed_go g = rise_go (leaf_go g down_mode g.bad (passed_tallies g))
+passed_go g = rise_go (leaf_go g modes.Down g.bad (passed_tallies g))
 
 -- there is no room for its block
 abbrev pub full_go : Go → Go
-full_go g = leaf_go g full_mode g.bad (visited_leaf g)
+full_go g = leaf_go g modes.Full g.bad (visited_leaf g)
 
 -- ---- the output
 

@@ -1,5 +1,6 @@
 -- The contracts of the functions that go up, beside those of search/specs/Climb. Assumes nothing.
 use Rattle.std.specs.Prelude.{ℕ, ◌+◌, ◌-◌, ◌/◌, ◌%◌, ◌≤◌, ◌<◌, ◌≡◌, Bool, true, false, ◌⊎◌, List, set, leb, eqb}
+use Rattle.specification.specs.declared.Setting.{Setting}
 use Rattle.specification.specs.Bytes.{Bytes, pick}
 use Rattle.specification.specs.Value.{Valuation}
 use Rattle.specification.specs.Run.{going}
@@ -7,13 +8,13 @@ use Rattle.tables.specs.Layout.{cells_at, local_slot, last_slot, path_at}
 use Rattle.tables.specs.Codes.{imp_code, not_code}
 use Rattle.sheet.specs.Tables.{Words}
 use Rattle.search.specs.declared.Go.{Go}
+use Rattle.search.specs.declared.Mode.TheVariants as modes
 use Rattle.search.specs.Frame.{Frame}
 use Rattle.search.specs.Records.{at, had_unit}
 use Rattle.search.specs.Path.{World, Path}
 use Rattle.search.specs.Sim.{Up, Yes, Sim}
 use Rattle.search.specs.Registers.{drop_go}
 use Rattle.search.specs.Climb.{Set, Rises}
-use Rattle.search.specs.States.{up_mode}
 
 -- ---- the topmost record
 
@@ -59,15 +60,15 @@ pub record Ended (w w' : Words) (g q : Go) : Type 0 where
 -- ---- one record, after a son is finished
 
 -- that of the token t
-pub record RisesFrom (w : Words) (g : Go) (t path budget : ℕ) : Type 0 where
-  pub rises : Rises w g path budget
+pub record RisesFrom (w : Words) (g : Go) (t : ℕ) (setting : Setting) : Type 0 where
+  pub rises : Rises w g setting
   pub some : ¬ (g.top ≡ path_at)
   pub low : at w (g.top - 1) < cells_at
   pub token : t ≡ at w (g.top - 1)
 
 -- which has the code n
-pub record RisesTo (w : Words) (g : Go) (n t path budget : ℕ) : Type 0 where
-  pub from : RisesFrom w g t path budget
+pub record RisesTo (w : Words) (g : Go) (n t : ℕ) (setting : Setting) : Type 0 where
+  pub from : RisesFrom w g t setting
   pub code : at w (at w (g.top - 1)) ≡ n
 
 -- ---- one record, after an inner tree has succeeded
@@ -101,23 +102,23 @@ abbrev pub OfAsking : Words → Go → Type 0
 OfAsking w g = OfCode w g not_code ⊎ OfCode w g imp_code
 
 -- the registers of the tree around it are in that record
-pub record Arounds (w : Words) (g : Go) (path budget : ℕ) : Type 0 where
+pub record Arounds (w : Words) (g : Go) (setting : Setting) : Type 0 where
   pub asks : OfAsking w g
   pub high : path_at + 4 ≤ g.top
-  pub depth : at w (g.top - 2) ≤ path
-  pub visits : g.tallies.nodes ≤ budget
+  pub depth : at w (g.top - 2) ≤ setting.path
+  pub visits : g.tallies.nodes ≤ setting.budget
 
 -- its inner tree is finished without success
-pub record Judges (w : Words) (g : Go) (t path budget : ℕ) : Type 0 where
-  pub rises : Rises w g path budget
+pub record Judges (w : Words) (g : Go) (t : ℕ) (setting : Setting) : Type 0 where
+  pub rises : Rises w g setting
   pub asks : OfAsking w g
   pub token : t ≡ at w (g.top - 1)
 
 -- or with success
-pub record Grants (w : Words) (g : Go) (path budget : ℕ) : Type 0 where
+pub record Grants (w : Words) (g : Go) (setting : Setting) : Type 0 where
   pub c : World
   pub b : Bytes
-  pub set : Set c path budget
+  pub set : Set c setting
   pub yes : Yes c b w g
   pub asks : OfAsking w g
 
@@ -129,8 +130,8 @@ pub record Unwound (w w' : Words) (g q : Go) : Type 0 where
 
 -- ---- going up until something is due
 
-pub record Climbed (w w' : Words) (g q : Go) (path budget : ℕ) : Type 0 where
-  pub sim : (c : World) (b : Bytes) → Set c path budget → Up c b w g → Sim c b w' q
+pub record Climbed (w w' : Words) (g q : Go) (setting : Setting) : Type 0 where
+  pub sim : (c : World) (b : Bytes) → Set c setting → Up c b w g → Sim c b w' q
   pub nodes : q.tallies ≡ g.tallies
   pub counted : q.from ≡ q.depth
-  pub stops : ¬ (q.mode ≡ up_mode)
+  pub stops : ¬ (q.mode ≡ modes.Up)

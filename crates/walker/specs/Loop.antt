@@ -1,16 +1,18 @@
 -- The contracts of the loop (src/advance.rt). Assumes nothing.
 use Rattle.std.specs.Prelude.{ℕ, ◌+◌, ◌-◌, ◌*◌, ◌≤◌, ◌<◌, ◌≡◌, ◌⊎◌, ltb, eqb}
+use Rattle.specification.specs.declared.Setting.{Setting}
 use Rattle.specification.specs.Bytes.{Bytes, pick}
 use Rattle.tables.specs.Layout.{lasts_at}
 use Rattle.tables.specs.Frames.{frames_at}
 use Rattle.tables.specs.Leaves.{rise_place}
 use Rattle.sheet.specs.Tables.{Words}
 use Rattle.search.specs.declared.Go.{Go}
+use Rattle.search.specs.declared.Mode.TheVariants as modes
+use Rattle.search.specs.States.{same}
 use Rattle.search.specs.Path.{World}
 use Rattle.search.specs.Sim.{In, Up, Sim}
 use Rattle.search.specs.Registers.{tallied, out_go}
 use Rattle.search.specs.Climb.{Set}
-use Rattle.search.specs.States.{down_mode, up_mode, stopped_mode}
 
 -- ---- what is due
 
@@ -20,11 +22,11 @@ pub data Due (c : World) (b : Bytes) (w : Words) (g : Go) : Type 0 where
   rising : g.due ≡ rise_place → Up c b w g → Due c b w g
 
 -- in some world of these limits
-pub record Dues (w : Words) (g : Go) (path budget : ℕ) : Type 0 where
+pub record Dues (w : Words) (g : Go) (setting : Setting) : Type 0 where
   pub c : World
   pub b : Bytes
-  pub set : Set c path budget
-  pub mode : g.mode ≡ down_mode
+  pub set : Set c setting
+  pub mode : g.mode ≡ modes.Down
   pub due : Due c b w g
 
 -- ---- how often the loop turns
@@ -34,58 +36,58 @@ abbrev pub pending_at : ℕ → ℕ
 pending_at due = pick (eqb due rise_place) 3 (pick (ltb due frames_at) 0 (pick (ltb due lasts_at) 1 0))
 
 abbrev pub pending : Go → ℕ
-pending g = pick (eqb g.mode up_mode) 2 (pending_at g.due)
+pending g = pick (same g.mode modes.Up) 2 (pending_at g.due)
 
 abbrev pub measure : ℕ → Go → ℕ
 measure budget g = 4 * (budget - (tallied g).nodes) + pending g
 
 -- ---- one turn
 
-pub record Came (w w' : Words) (g q : Go) (path budget : ℕ) : Type 0 where
-  pub sim : (c : World) (b : Bytes) → Set c path budget → Due c b w g → Sim c b w' q
-  pub falls : (q.mode ≡ down_mode) ⊎ (q.mode ≡ up_mode) → measure budget q < measure budget g
+pub record Came (w w' : Words) (g q : Go) (setting : Setting) : Type 0 where
+  pub sim : (c : World) (b : Bytes) → Set c setting → Due c b w g → Sim c b w' q
+  pub falls : (q.mode ≡ modes.Down) ⊎ (q.mode ≡ modes.Up) → measure setting.budget q < measure setting.budget g
   pub least : (tallied g).nodes ≤ (tallied q).nodes
 
 -- the invariant in some world of these limits
-pub record Simulates (w : Words) (g : Go) (path budget : ℕ) : Type 0 where
+pub record Simulates (w : Words) (g : Go) (setting : Setting) : Type 0 where
   pub c : World
   pub b : Bytes
-  pub set : Set c path budget
+  pub set : Set c setting
   pub sim : Sim c b w g
 
 -- no son is finished any more
-pub record Risen (w w' : Words) (g q : Go) (path budget : ℕ) : Type 0 where
-  pub sim : (c : World) (b : Bytes) → Set c path budget → Sim c b w g → Sim c b w' q
-  pub stops : ¬ (q.mode ≡ up_mode)
-  pub falls : q.mode ≡ down_mode → (q ≡ g) ⊎ ((g.mode ≡ up_mode) × (measure budget q < measure budget g))
+pub record Risen (w w' : Words) (g q : Go) (setting : Setting) : Type 0 where
+  pub sim : (c : World) (b : Bytes) → Set c setting → Sim c b w g → Sim c b w' q
+  pub stops : ¬ (q.mode ≡ modes.Up)
+  pub falls : q.mode ≡ modes.Down → (q ≡ g) ⊎ ((g.mode ≡ modes.Up) × (measure setting.budget q < measure setting.budget g))
   pub least : (tallied g).nodes ≤ (tallied q).nodes
 
 -- a visit that is due does not come where a limit is reached
 abbrev pub limit : Go → Go
-limit g = pick (eqb g.mode down_mode) (pick (eqb g.depth g.stop) (out_go g stopped_mode) g) g
+limit g = pick (same g.mode modes.Down) (pick (eqb g.depth g.stop) (out_go g modes.Stopped) g) g
 
-pub record Turned (w w' : Words) (g q : Go) (path budget : ℕ) : Type 0 where
-  pub sim : (c : World) (b : Bytes) → Set c path budget → Due c b w g → Sim c b w' q
-  pub stops : ¬ (q.mode ≡ up_mode)
-  pub room : q.mode ≡ down_mode → ¬ (q.depth ≡ q.stop)
-  pub falls : q.mode ≡ down_mode → measure budget q < measure budget g
+pub record Turned (w w' : Words) (g q : Go) (setting : Setting) : Type 0 where
+  pub sim : (c : World) (b : Bytes) → Set c setting → Due c b w g → Sim c b w' q
+  pub stops : ¬ (q.mode ≡ modes.Up)
+  pub room : q.mode ≡ modes.Down → ¬ (q.depth ≡ q.stop)
+  pub falls : q.mode ≡ modes.Down → measure setting.budget q < measure setting.budget g
   pub least : (tallied g).nodes ≤ (tallied q).nodes
 
 -- ---- from leaf to leaf
 
 -- a visit is due, or the loop is left
 pub data Going (c : World) (b : Bytes) (w : Words) (g : Go) : Type 0 where
-  goes : g.mode ≡ down_mode → Due c b w g → Going c b w g
-  left : ¬ (g.mode ≡ down_mode) → ¬ (g.mode ≡ up_mode) → Sim c b w g → Going c b w g
+  goes : g.mode ≡ modes.Down → Due c b w g → Going c b w g
+  left : ¬ (g.mode ≡ modes.Down) → ¬ (g.mode ≡ modes.Up) → Sim c b w g → Going c b w g
 
-pub record Goings (w : Words) (g : Go) (path budget : ℕ) : Type 0 where
+pub record Goings (w : Words) (g : Go) (setting : Setting) : Type 0 where
   pub c : World
   pub b : Bytes
-  pub set : Set c path budget
+  pub set : Set c setting
   pub going : Going c b w g
 
-pub record Advanced (w w' : Words) (g q : Go) (path budget : ℕ) : Type 0 where
-  pub sim : (c : World) (b : Bytes) → Set c path budget → Going c b w g → Sim c b w' q
-  pub over : ¬ (q.mode ≡ down_mode)
-  pub stops : ¬ (q.mode ≡ up_mode)
+pub record Advanced (w w' : Words) (g q : Go) (setting : Setting) : Type 0 where
+  pub sim : (c : World) (b : Bytes) → Set c setting → Going c b w g → Sim c b w' q
+  pub over : ¬ (q.mode ≡ modes.Down)
+  pub stops : ¬ (q.mode ≡ modes.Up)
   pub least : (tallied g).nodes ≤ (tallied q).nodes

@@ -1,5 +1,6 @@
 -- The contracts of the functions that enter a node, beside those of search/specs/Steps. Assumes nothing.
 use Rattle.std.specs.Prelude.{ℕ, suc, ◌+◌, ◌-◌, ◌≤◌, ◌<◌, ◌≡◌, Bool, true, false, ◌⊎◌, List, get_or}
+use Rattle.specification.specs.declared.Setting.{Setting}
 use Rattle.specification.specs.Bytes.{Bytes}
 use Rattle.specification.specs.Place.{Place}
 use Rattle.specification.specs.Value.{empty}
@@ -10,6 +11,7 @@ use Rattle.tables.specs.Leaves.{failure_place}
 use Rattle.sheet.specs.Tables.{Words}
 use Rattle.sheet.specs.Held.{slot_of}
 use Rattle.search.specs.declared.Go.{Go}
+use Rattle.search.specs.declared.Mode.TheVariants as modes
 use Rattle.search.specs.Marks.{Known}
 use Rattle.search.specs.Site.{assign_at}
 use Rattle.search.specs.Frame.{Item, the, tree_items, site_in, store_in}
@@ -17,7 +19,6 @@ use Rattle.search.specs.Path.{World, Job}
 use Rattle.search.specs.Sim.{tree, In, Sim}
 use Rattle.search.specs.Registers.{tallied}
 use Rattle.search.specs.Climb.{Set}
-use Rattle.search.specs.States.{down_mode, up_mode}
 use Rattle.search.specs.Steps.{Visited, Entered, GoesOn, OneLeaf}
 
 -- ---- inner trees
@@ -62,15 +63,15 @@ pub record Visits (g : Go) : Type 0 where
 -- ---- with the limits of a run
 
 -- in some world of these limits a node or leaf that no limit stops, whose token has the code n
-pub record Arrived (w : Words) (g : Go) (n path budget : ℕ) : Type 0 where
+pub record Arrived (w : Words) (g : Go) (n : ℕ) (setting : Setting) : Type 0 where
   pub c : World
   pub b : Bytes
-  pub set : Set c path budget
+  pub set : Set c setting
   pub ins : In c b w g
   pub code : get_or w g.due 0 ≡ n
 
 -- what a function makes of it: where the search goes on, the visit is counted
-pub record SteppedWithin (w w' : Words) (g q : Go) (path budget : ℕ) : Type 0 where
-  pub sim : (c : World) (b : Bytes) → Set c path budget → In c b w g → Sim c b w' q
-  pub counts : (q.mode ≡ down_mode) ⊎ (q.mode ≡ up_mode) → (tallied q).nodes ≡ suc (tallied g).nodes
+pub record SteppedWithin (w w' : Words) (g q : Go) (setting : Setting) : Type 0 where
+  pub sim : (c : World) (b : Bytes) → Set c setting → In c b w g → Sim c b w' q
+  pub counts : (q.mode ≡ modes.Down) ⊎ (q.mode ≡ modes.Up) → (tallied q).nodes ≡ suc (tallied g).nodes
   pub least : (tallied g).nodes ≤ (tallied q).nodes

@@ -1,8 +1,8 @@
 -- The contract of the whole walk: from the tables of a sheet, which are planned first, to its run. Assumes nothing.
-use Rattle.std.specs.Prelude.{ℕ, ◌≤◌, ◌<◌, ◌≡◌, ◌++◌, length, drop, eqb}
+use Rattle.std.specs.Prelude.{ℕ, ◌≤◌, ◌<◌, ◌≡◌, ◌++◌, length, drop, eqb, Ok}
 use Rattle.specification.specs.declared.End.{End}
 use Rattle.specification.specs.declared.End.TheVariants.{Done, Spent, Path, Output}
-use Rattle.specification.specs.declared.Outcome.{Outcome}
+use Rattle.specification.specs.declared.Ran.{Ran}
 use Rattle.specification.specs.Bytes.{Bytes, pick}
 use Rattle.specification.specs.Lines.{procedure_of}
 use Rattle.specification.specs.Sheet.{Sheet}
@@ -15,9 +15,11 @@ use Rattle.sheet.specs.Held.{proc_at, FormulaAt, Shallow, Holds, Marked, ArraysA
 use Rattle.plan.specs.Next.{end, back}
 use Rattle.plan.specs.Planned.{procedure_line, own_line, FormulaPlanned}
 use Rattle.search.specs.Registers.{tallied}
-use Rattle.search.specs.States.{done_mode, full_mode}
 use Rattle.walker.specs.declared.State.{State}
 use Rattle.walker.specs.declared.Task.{Task}
+use Rattle.search.specs.declared.Mode.{Mode}
+use Rattle.search.specs.declared.Mode.TheVariants as modes
+use Rattle.search.specs.States.{same}
 use Rattle.walker.specs.Walks.{Counted}
 
 -- the work words hold the sheet's tables, with room for the path
@@ -54,8 +56,8 @@ pub record Sets (w : Words) (t : Task) : Type 0 where
   pub prepared : Prepared w t sheet
 
 -- how a walk that is over ended: all is visited, no room for a block, or a limit
-abbrev pub end_by : ℕ → ℕ → ℕ → End
-end_by mode nodes budget = pick (eqb mode done_mode) Done (pick (eqb mode full_mode) Output (pick (eqb nodes budget) Spent Path))
+abbrev pub end_by : Mode → ℕ → ℕ → End
+end_by mode nodes budget = pick (same mode modes.Done) Done (pick (same mode modes.Full) Output (pick (eqb nodes budget) Spent Path))
 
 -- the walk is over: its registers and the output are those of the sheet's run
 pub record Finished (w w' : Words) (o o' : Bytes) (t : Task) (s : State) : Type 0 where
@@ -70,7 +72,7 @@ pub record Finished (w w' : Words) (o o' : Bytes) (t : Task) (s : State) : Type 
   pub size : length o' ≡ length o
 
 -- the sheet's run, in as many work words
-pub record Walked (w w' : Words) (o o' : Bytes) (t : Task) (r : Outcome) : Type 0 where
-  pub result : (s : Sheet) → Ready w t s → r ≡ outcome (result_of (run_of s t.setting (length o)))
+pub record Walked (w w' : Words) (o o' : Bytes) (t : Task) (r : Ran) : Type 0 where
+  pub result : (s : Sheet) → Ready w t s → Ok r ≡ outcome (result_of (run_of s t.setting (length o)))
   pub output : (s : Sheet) → Ready w t s → o' ≡ output_after (result_of (run_of s t.setting (length o))) o
   pub words : length w' ≡ length w

@@ -21,7 +21,7 @@ fn check(w: &[u32], g: Go, holds: bool) -> Go
     sons::fail(w, g)
 }
 
-// Both terms have values. The other arm is ALL.
+// Both terms have values. The other arm is ALL. (Here, in `visit` and in `climb` one match on a token's code picks its meaning, as a table of jumps.)
 pub(crate) fn valued(w: &mut [u32], g: Go, code: u32, x: u32, y: u32) -> Go
     requires { Valued w.old g code x y × HasTerms code }
     ensures { Stepped w.old w.new g result }
@@ -48,7 +48,7 @@ pub(crate) fn assign(w: &mut [u32], g: Go, slot: u32, value: u32) -> Go
         return sons::fail(w, g);
     }
     let next = sons::next(w, g.due);
-    words::push3(w, g.top, mark, g.inner, slot);
+    words::push(w, g.top, &[mark, g.inner, slot]);
     tables::set_slot(w, slot as usize, 1, value);
     registers::down(g, next, g.top + 3, inner::after_given(mark, g.inner), g.bad)
 }

@@ -9,13 +9,10 @@ ghost use Rattle.search.specs.Steps.{Stepped, Entered, back_word};
 ghost use Rattle.walker.specs.Climbing.{OfCode};
 ghost use Rattle.walker.specs.Frames.{Copied, Flagged, Refilled, Slots, Refills, Reflags, Restores, Saves, Saved, Returns, Left};
 
-use crate::{registers, sons, words};
+use crate::{OPERAND, PLAN, TOKEN, registers, sons, words};
 use search::Go;
 use tables::locals::has;
 use tables::{codes, frames, leaves, word};
-
-// The words of a token.
-const TOKEN: u32 = tables::TOKEN_WORDS as u32;
 
 // The words of a call's record beside those of its arguments.
 const HEAD: usize = 4;
@@ -27,11 +24,9 @@ fn copy(w: &mut [u32], top: usize, k: u32, n: u32)
     requires { Saves w.old top k n }
     ensures { Copied w.old w.new top k n }
 {
-    let mut i = 0;
-    while i < n {
+    for i in 0..n {
         let x = word(w, frames::argument(k, i) + 1);
         words::put(w, top + (i as usize), x);
-        i += 1;
     }
 }
 
@@ -46,7 +41,7 @@ fn save(w: &mut [u32], top: usize, k: u32, n: u32, t: u32) -> usize
     let tags = frames::tags(w, k);
     let back = frames::back(w, k);
     let call = frames::call(w, k);
-    words::push4(w, head, tags, back, call, t);
+    words::push(w, head, &[tags, back, call, t]);
     head + HEAD
 }
 
@@ -68,8 +63,8 @@ pub(crate) fn enter_call(w: &mut [u32], g: Go) -> Go
 {
     let t = g.due;
     let n = word(w, t + TOKEN) - codes::PROCEDURE;
-    let k = word(w, t + TOKEN + 1);
-    let around = word(w, t + TOKEN + 3);
+    let k = word(w, t + TOKEN + OPERAND);
+    let around = word(w, t + TOKEN + PLAN);
     let b = back(w, t);
     let top = save(w, g.top, k, n, t);
     terms::calls::settle(w, around);
@@ -85,10 +80,7 @@ fn first(set: u32, i: u32) -> u32
     requires { i < max_locals }
     ensures { result ≡ flag_of set i }
 {
-    if has(set, i) {
-        return 0;
-    }
-    1
+    u32::from(!has(set, i))
 }
 
 // The first words of the slots of n arguments of procedure k, by the set of those that are no values.
@@ -96,10 +88,8 @@ fn flag(w: &mut [u32], k: u32, n: u32, set: u32)
     requires { Slots w.old k n }
     ensures { Flagged w.old w.new k set n }
 {
-    let mut i = 0;
-    while i < n {
+    for i in 0..n {
         words::put(w, frames::argument(k, i) as usize, first(set, i));
-        i += 1;
     }
 }
 
@@ -108,11 +98,9 @@ fn refill(w: &mut [u32], k: u32, n: u32, from: usize)
     requires { Refills w.old k n from }
     ensures { Refilled w.old w.new k from n }
 {
-    let mut i = 0;
-    while i < n {
+    for i in 0..n {
         let x = words::at(w, from + (i as usize));
         words::put(w, (frames::argument(k, i) as usize) + 1, x);
-        i += 1;
     }
 }
 
@@ -147,7 +135,7 @@ pub(crate) fn leave(w: &mut [u32], g: Go, t: u32) -> Go
     ensures { Left w.old w.new g result }
 {
     let n = word(w, t + TOKEN) - codes::PROCEDURE;
-    let k = word(w, t + TOKEN + 1);
+    let k = word(w, t + TOKEN + OPERAND);
     let from = g.top - HEAD - (n as usize);
     restore(w, k, n, from);
     registers::dropped(g, from, g.inner)

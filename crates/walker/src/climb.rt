@@ -6,8 +6,9 @@ ghost use Rattle.search.specs.Records.{at};
 ghost use Rattle.search.specs.Climb.{Rises, Rose, Fell};
 ghost use Rattle.walker.specs.Climbing.{KeepsSlot, OfCode, Undone, Closed, Ended, RisesTo, RisesFrom, Climbed, WinsInside, WinsFrom, Releases, asking, Unwound};
 
-use crate::{calls, inner, modes, quantifiers, records, registers, words};
-use search::Go;
+use crate::{OPERAND, calls, inner, quantifiers, records, registers, words};
+use search::{Go, Mode};
+use specification::Setting;
 use tables::{codes, word};
 
 // The topmost record keeps a slot, which is told by its last word x: the slot is as it was.
@@ -51,27 +52,26 @@ fn end(w: &mut [u32], g: Go, t: u32) -> Go
 // ---- after a son is finished
 
 // The second son of an `or` at t.
-fn other(w: &[u32], g: Go, t: u32, path: u32, budget: u32) -> Go
-    requires { RisesTo w.now g or_code t path budget }
-    ensures { Rose w.now w.now g result path budget }
+fn other(w: &[u32], g: Go, t: u32, setting: Setting) -> Go
+    requires { RisesTo w.now g or_code t setting }
+    ensures { Rose w.now w.now g result setting }
 {
     let depth = words::at(w, g.top - 2);
     registers::resumed(
         g,
-        word(w, t + 1),
+        word(w, t + OPERAND),
         depth,
         g.top - 2,
         g.inner,
         g.bad,
-        path,
-        budget,
+        setting,
     )
 }
 
 // The next value of a `some` at t, or none is left.
-fn value(w: &mut [u32], g: Go, t: u32, path: u32, budget: u32) -> Go
-    requires { RisesTo w.old g some_code t path budget }
-    ensures { Rose w.old w.new g result path budget }
+fn value(w: &mut [u32], g: Go, t: u32, setting: Setting) -> Go
+    requires { RisesTo w.old g some_code t setting }
+    ensures { Rose w.old w.new g result setting }
 {
     let slot = quantifiers::slot_of(quantifiers::local(w, t));
     let current = word(w, slot + 1);
@@ -79,49 +79,49 @@ fn value(w: &mut [u32], g: Go, t: u32, path: u32, budget: u32) -> Go
         let b = quantifiers::body(w, t);
         let depth = words::at(w, g.top - 2);
         words::put(w, (slot as usize) + 1, current + 1);
-        return registers::resumed(g, b, depth, g.top, g.inner, g.bad, path, budget);
+        return registers::resumed(g, b, depth, g.top, g.inner, g.bad, setting);
     }
     close(w, g, t)
 }
 
 // One record that belongs to the token t.
-fn rise_token(w: &mut [u32], g: Go, t: u32, path: u32, budget: u32) -> Go
-    requires { RisesFrom w.old g t path budget }
-    ensures { Rose w.old w.new g result path budget }
+fn rise_token(w: &mut [u32], g: Go, t: u32, setting: Setting) -> Go
+    requires { RisesFrom w.old g t setting }
+    ensures { Rose w.old w.new g result setting }
 {
     let code = word(w, t);
     match code {
-        codes::OR => other(w, g, t, path, budget),
-        codes::SOME => value(w, g, t, path, budget),
+        codes::OR => other(w, g, t, setting),
+        codes::SOME => value(w, g, t, setting),
         codes::ALL => end(w, g, t),
         codes::CALL => calls::leave(w, g, t),
-        _ => inner::judge(w, g, t, path, budget),
+        _ => inner::judge(w, g, t, setting),
     }
 }
 
 // One record, or none is left.
-fn rise(w: &mut [u32], g: Go, path: u32, budget: u32) -> Go
-    requires { Rises w.old g path budget }
-    ensures { Rose w.old w.new g result path budget }
+fn rise(w: &mut [u32], g: Go, setting: Setting) -> Go
+    requires { Rises w.old g setting }
+    ensures { Rose w.old w.new g result setting }
 {
     if g.top == tables::PATH {
-        return registers::out(g, modes::DONE);
+        return registers::out(g, Mode::Done);
     }
     let x = words::at(w, g.top - 1);
     if records::SLOTS <= x {
         return undo(w, g, x);
     }
-    rise_token(w, g, x, path, budget)
+    rise_token(w, g, x, setting)
 }
 
 // Up until something is due.
-pub(crate) fn climb(w: &mut [u32], g: Go, path: u32, budget: u32) -> Go
-    requires { Rises w.old g path budget }
-    ensures { Climbed w.old w.new g result path budget }
+pub(crate) fn climb(w: &mut [u32], g: Go, setting: Setting) -> Go
+    requires { Rises w.old g setting }
+    ensures { Climbed w.old w.new g result setting }
 {
     let mut q = g;
-    while q.mode == modes::UP {
-        q = rise(w, q, path, budget);
+    while q.mode == Mode::Up {
+        q = rise(w, q, setting);
     }
     q
 }
@@ -162,10 +162,7 @@ fn asks(w: &[u32], x: u32) -> bool
         return false;
     }
     let code = word(w, x);
-    if code == codes::NOT {
-        return true;
-    }
-    code == codes::IMP
+    code == codes::NOT || code == codes::IMP
 }
 
 // All records above that of the node whose inner tree it is.

@@ -6,9 +6,9 @@ ghost use Rattle.search.specs.Registers.{tallied};
 ghost use Rattle.search.specs.Steps.{Stepped, Entered};
 ghost use Rattle.walker.specs.Steps.{Visits, Arrived, SteppedWithin};
 
-use crate::{climb, inner, modes, registers, tallies};
-use search::Go;
-use specification::Tallies;
+use crate::{climb, inner, registers, tallies};
+use search::{Errors, Go, Mode, Tally};
+use specification::{Setting, Tallies};
 
 // The tallies with the visit of the leaf, and of the nodes since the last one.
 pub(crate) fn visited(g: Go) -> Tallies
@@ -26,10 +26,10 @@ pub(crate) fn failure(w: &[u32], g: Go) -> Go
 {
     let t = visited(g);
     if g.inner == inner::MAIN {
-        let u = tallies::counted(t, tallies::FAILURE);
-        return registers::leaf(g, modes::UP, g.bad, u);
+        let u = tallies::counted(t, Tally::Failure);
+        return registers::leaf(g, Mode::Up, g.bad, u);
     }
-    registers::leaf(g, modes::UP, g.bad, t)
+    registers::leaf(g, Mode::Up, g.bad, t)
 }
 
 // An error leaf: in the main tree it has a block, an inner tree keeps it in mind.
@@ -38,21 +38,21 @@ pub(crate) fn error(w: &[u32], g: Go) -> Go
     ensures { Stepped w.now w.now g result }
 {
     if g.inner == inner::MAIN {
-        return registers::out(g, modes::BLOCK);
+        return registers::out(g, Mode::Block);
     }
     let t = visited(g);
-    registers::leaf(g, modes::UP, 1, t)
+    registers::leaf(g, Mode::Up, Errors::Seen, t)
 }
 
 // A success leaf: in the main tree it has a block, an inner tree ends with it.
-pub(crate) fn success(w: &mut [u32], g: Go, path: u32, budget: u32) -> Go
-    requires { Arrived w.old g success_code path budget }
-    ensures { SteppedWithin w.old w.new g result path budget }
+pub(crate) fn success(w: &mut [u32], g: Go, setting: Setting) -> Go
+    requires { Arrived w.old g success_code setting }
+    ensures { SteppedWithin w.old w.new g result setting }
 {
     if g.inner == inner::MAIN {
-        return registers::out(g, modes::BLOCK);
+        return registers::out(g, Mode::Block);
     }
     let t = visited(g);
-    let u = climb::unwind(w, registers::leaf(g, modes::WON, g.bad, t));
-    inner::grant(w, u, path, budget)
+    let u = climb::unwind(w, registers::leaf(g, Mode::Won, g.bad, t));
+    inner::grant(w, u, setting)
 }

@@ -13,7 +13,6 @@ mod connectives;
 mod inner;
 mod leaves;
 pub mod machine;
-mod modes;
 mod quantifiers;
 mod records;
 mod registers;
@@ -21,6 +20,13 @@ mod sons;
 mod tallies;
 mod unvalued;
 mod words;
+// The words of a token, and which of them are its operand and what its plan says comes after it.
+pub(crate) const TOKEN: u32 = tables::slots::TOKEN;
+
+pub(crate) const OPERAND: u32 = 1;
+
+pub(crate) const PLAN: u32 = 3;
+
 // What a walk is about: its setting, how many scalars and arrays the tables in the work words have, and the token that its formula begins at.
 #[derive(Clone, Copy)]
 pub struct Task {

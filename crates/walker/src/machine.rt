@@ -7,14 +7,11 @@ ghost use Rattle.walker.specs.Walked.{Readied, Sets, end_by, Finished, Walked};
 ghost use Rattle.walker.specs.Walks.{Onward, Onwards};
 
 use crate::leaves::visited;
-use crate::{State, Task, advance, modes, registers, tallies};
-use listing::{Head, Written};
-use search::Go;
-use specification::{End, Outcome};
+use crate::{State, TOKEN, Task, advance, registers, tallies};
+use listing::Head;
+use search::{Go, Mode, Tally};
+use specification::{End, Ran};
 use tables::leaves;
-
-// The words of a token.
-const TOKEN: u32 = tables::TOKEN_WORDS as u32;
 
 // The head of the block of the leaf that is due.
 fn head(w: &[u32], g: Go) -> Head
@@ -41,11 +38,11 @@ fn passed(g: Go) -> Go
 {
     let t = visited(g);
     if g.due == leaves::SUCCESS {
-        let u = tallies::counted(t, tallies::ANSWER);
-        return registers::rising(registers::leaf(g, modes::DOWN, g.bad, u));
+        let u = tallies::counted(t, Tally::Answer);
+        return registers::rising(registers::leaf(g, Mode::Down, g.bad, u));
     }
-    let u = tallies::counted(t, tallies::ERROR);
-    registers::rising(registers::leaf(g, modes::DOWN, g.bad, u))
+    let u = tallies::counted(t, Tally::Error);
+    registers::rising(registers::leaf(g, Mode::Down, g.bad, u))
 }
 
 // Its visit is counted, and there is no room for its block.
@@ -54,7 +51,7 @@ fn full(g: Go) -> Go
     ensures { result ≡ full_go g }
 {
     let t = visited(g);
-    registers::leaf(g, modes::FULL, g.bad, t)
+    registers::leaf(g, Mode::Full, g.bad, t)
 }
 
 fn state(go: Go, written: usize) -> State
@@ -77,8 +74,8 @@ fn block(w: &[u32], out: &mut [u8], s: State, task: Task) -> State
     let h = head(w, g);
     let rest = &mut out[written..];
     match listing::write(rest, w, task.scalars, task.arrays, h) {
-        Written::Full => state(full(g), written),
-        Written::Bytes(n) => state(passed(g), written + n),
+        None => state(full(g), written),
+        Some(n) => state(passed(g), written + n),
     }
 }
 
@@ -88,13 +85,10 @@ fn onward(w: &mut [u32], s: State, task: Task) -> State
     ensures { Onward w.old w.new s result task }
 {
     let g = s.go;
-    if g.mode == modes::FULL {
+    if g.mode == Mode::Full {
         return s;
     }
-    state(
-        advance::advance(w, g, task.setting.path, task.setting.budget),
-        s.written,
-    )
+    state(advance::advance(w, g, task.setting), s.written)
 }
 
 // (Both this function and `onward` call `advance`, so that the compiler keeps the loop a function of its own: 7 instructions a node.)
@@ -102,14 +96,10 @@ fn walk(w: &mut [u32], out: &mut [u8], task: Task) -> State
     requires { Sets w.old task }
     ensures { Finished w.old w.new out.old out.new task result }
 {
-    let g = advance::limited(registers::start(
-        TOKEN * task.formula,
-        task.setting.path,
-        task.setting.budget,
-    ));
-    let first = advance::advance(w, g, task.setting.path, task.setting.budget);
+    let g = advance::limited(registers::start(TOKEN * task.formula, task.setting));
+    let first = advance::advance(w, g, task.setting);
     let mut s = state(first, 0);
-    while s.go.mode == modes::BLOCK {
+    while s.go.mode == Mode::Block {
         let b = block(w, out, s, task);
         s = onward(w, b, task);
     }
@@ -117,23 +107,23 @@ fn walk(w: &mut [u32], out: &mut [u8], task: Task) -> State
 }
 
 // How the walk ended, with so many nodes visited.
-fn end_of(mode: u32, nodes: u32, budget: u32) -> End
+fn end_of(mode: Mode, nodes: u32, budget: u32) -> End
     ensures { result ≡ end_by mode nodes budget }
 {
-    if mode == modes::DONE {
-        return End::Done;
+    match mode {
+        Mode::Done => End::Done,
+        Mode::Full => End::Output,
+        _ => {
+            if nodes == budget {
+                return End::Spent;
+            }
+            End::Path
+        }
     }
-    if mode == modes::FULL {
-        return End::Output;
-    }
-    if nodes == budget {
-        return End::Spent;
-    }
-    End::Path
 }
 
 // Walks the tree of the sheet whose tables the work words hold, and writes its listing.
-pub fn walk_tables(w: &mut [u32], out: &mut [u8], task: Task) -> Outcome
+pub fn walk_tables(w: &mut [u32], out: &mut [u8], task: Task) -> Ran
     requires { Readied w.old task }
     ensures { Walked w.old w.new out.old out.new task result }
 {
@@ -143,7 +133,7 @@ pub fn walk_tables(w: &mut [u32], out: &mut [u8], task: Task) -> Outcome
     let u = g.tallies;
     let t = tallies::visited(u, g.depth - g.from);
     let end = end_of(g.mode, t.nodes, task.setting.budget);
-    Outcome::Ran {
+    Ran {
         end,
         tallies: t,
         written: s.written,

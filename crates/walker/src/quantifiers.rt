@@ -7,20 +7,22 @@ ghost use Rattle.search.specs.Records.{at, had_unit};
 ghost use Rattle.search.specs.Steps.{Stepped, Entered, Valued};
 
 use crate::records::HAD;
-use crate::{registers, sons, words};
+use crate::{OPERAND, PLAN, TOKEN, registers, sons, words};
 use search::Go;
 use tables::ranges::LOCAL_MARK;
 use tables::{slots, word};
 
-// The words of a token.
-const TOKEN: u32 = tables::TOKEN_WORDS as u32;
+// The words of its second token, the local's: the local, and where the formula begins.
+const LOCAL: usize = (TOKEN + OPERAND) as usize;
+
+const BODY: usize = (TOKEN + PLAN) as usize;
 
 // The local of the quantifier at t.
 pub(crate) fn local(w: &[u32], t: u32) -> u32
     requires { t + 5 < length w.now }
     ensures { result ≡ get_or w.now (t + 5) 0 }
 {
-    w[t as usize + 5]
+    w[t as usize + LOCAL]
 }
 
 // Its formula.
@@ -28,7 +30,7 @@ pub(crate) fn body(w: &[u32], t: u32) -> u32
     requires { t + 7 < length w.now }
     ensures { result ≡ get_or w.now (t + 7) 0 }
 {
-    w[t as usize + 7]
+    w[t as usize + BODY]
 }
 
 // The slot of a local.
@@ -46,7 +48,7 @@ fn keep(w: &mut [u32], top: usize, slot: u32, inner: u32)
 {
     let old = word(w, slot + 1);
     let had = word(w, slot);
-    words::push3(w, top, old, inner, slot + HAD * had);
+    words::push(w, top, &[old, inner, slot + HAD * had]);
 }
 
 // `ex`: its local is without a value, and its mark tells the depth.
@@ -69,7 +71,7 @@ fn open(w: &mut [u32], g: Go, low: u32, high: u32) -> Go
     let b = body(w, g.due);
     let had = word(w, slot);
     let old = word(w, slot + 1);
-    words::push5(w, g.top, had, old, high, g.depth + 1, g.due);
+    words::push(w, g.top, &[had, old, high, g.depth + 1, g.due]);
     tables::set_slot(w, slot as usize, 1, low);
     registers::down(g, b, g.top + 5, g.inner, g.bad)
 }
@@ -95,7 +97,7 @@ fn begin(w: &mut [u32], g: Go, low: u32, high: u32) -> Go
     let had = word(w, slot);
     let old = word(w, slot + 1);
     let last = tables::last(w, l);
-    words::push4(w, g.top, had, old, last, g.due);
+    words::push(w, g.top, &[had, old, last, g.due]);
     tables::set_last(w, l, high);
     tables::set_slot(w, slot as usize, 1, low);
     registers::down(g, b, g.top + 4, g.inner, g.bad)
@@ -123,7 +125,7 @@ pub(crate) fn enter_again(w: &mut [u32], g: Go) -> Go
         return registers::down(g, sons::next(w, g.due - TOKEN), g.top, g.inner, g.bad);
     }
     let b = sons::next(w, g.due);
-    words::push3(w, g.top, value, g.inner, slot + HAD);
+    words::push(w, g.top, &[value, g.inner, slot + HAD]);
     tables::set_slot(w, slot as usize, 1, value + 1);
     registers::down(g, b, g.top + 3, g.inner, g.bad)
 }

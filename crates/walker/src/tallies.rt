@@ -1,46 +1,35 @@
 // The tallies: one record that every leaf updates.
 ghost use Rattle.std.specs.Prelude.{◌≡◌, ◌+◌, ◌<◌};
-ghost use Rattle.search.specs.Registers.{node_tally, max_word, counted, visited_tallies};
+ghost use Rattle.search.specs.Registers.{max_word, counted, visited_tallies};
 
+use search::Tally;
 use specification::Tallies;
 
-// Which tally grows (specs/Registers.antt has the same numbers).
-const NODE: u32 = 0;
-
-pub const ANSWER: u32 = 1;
-
-pub const ERROR: u32 = 2;
-
-pub const FAILURE: u32 = 3;
-
 // The tallies are lent, and one of them is one more.
-fn add(t: &mut Tallies, leaf: u32)
-    requires { (leaf ≡ node_tally → t.old.nodes < max_word) × (t.old.answers < max_word) × (t.old.errors < max_word) × (t.old.fails < max_word) }
-    ensures { t.new ≡ counted t.old leaf }
+fn add(t: &mut Tallies, tally: Tally)
+    requires { (t.old.answers < max_word) × (t.old.errors < max_word) × (t.old.fails < max_word) }
+    ensures { t.new ≡ counted t.old tally }
 {
-    match leaf {
-        NODE => {
-            t.nodes += 1;
-        }
-        ANSWER => {
+    match tally {
+        Tally::Answer => {
             t.answers += 1;
         }
-        ERROR => {
+        Tally::Error => {
             t.errors += 1;
         }
-        _ => {
+        Tally::Failure => {
             t.fails += 1;
         }
     }
 }
 
-// The tallies with one more, as a caller has them that holds them by value.
-pub fn counted(t: Tallies, leaf: u32) -> Tallies
-    requires { (leaf ≡ node_tally → t.nodes < max_word) × (t.answers < max_word) × (t.errors < max_word) × (t.fails < max_word) }
-    ensures { result ≡ counted t leaf }
+// The tallies with one leaf more, as a caller has them that holds them by value.
+pub fn counted(t: Tallies, tally: Tally) -> Tallies
+    requires { (t.answers < max_word) × (t.errors < max_word) × (t.fails < max_word) }
+    ensures { result ≡ counted t tally }
 {
     let mut u = t;
-    add(&mut u, leaf);
+    add(&mut u, tally);
     u
 }
 
@@ -51,8 +40,6 @@ pub fn visited(t: Tallies, visits: u32) -> Tallies
 {
     Tallies {
         nodes: t.nodes + visits,
-        answers: t.answers,
-        errors: t.errors,
-        fails: t.fails,
+        ..t
     }
 }

@@ -5,19 +5,11 @@ ghost use Rattle.tables.specs.Frames.{frames_at};
 ghost use Rattle.search.specs.Steps.{Stepped, Entered, HasTerms};
 ghost use Rattle.walker.specs.Terms.{AreValues, Decides, Equates, Knows, Lacks, kind_of, first_term, end_of_terms, frame_of, Searches, Found};
 
-use crate::{atoms, sons};
+use crate::{TOKEN, atoms, sons};
 use search::Go;
 use tables::{codes, frames};
 use terms::evaluation::sides;
 use terms::{Sides, kinds, tags};
-
-// The words of a token.
-const TOKEN: u32 = tables::TOKEN_WORDS as u32;
-
-// The first word of frames, and how many a frame has.
-const FRAMES: u32 = frames::FRAMES as u32;
-
-const FRAME_WORDS: u32 = 20;
 
 // The kind of the error that a term without a value makes.
 fn kind_of(tag: u32, value: u32) -> u32
@@ -66,10 +58,7 @@ fn lacks(w: &mut [u32], g: Go, code: u32, s: Sides) -> Go
 fn are_values(s: Sides) -> bool
     ensures { AreValues s result }
 {
-    if s.ltag != tags::VALUE {
-        return false;
-    }
-    s.rtag == tags::VALUE
+    s.ltag == tags::VALUE && s.rtag == tags::VALUE
 }
 
 // What the two terms are is known. (Each case has one call, so that the compiler makes it a part of the loop.)
@@ -110,20 +99,19 @@ fn number(slot: u32) -> u32
     requires { frames_at ≤ slot }
     ensures { result ≡ frame_of slot }
 {
-    (slot - FRAMES) / FRAME_WORDS
+    (slot - frames::FIRST) / frames::WORDS
 }
 
-// The procedure whose parameters stand in the tokens from `from` up to `to`, by one more than its number; 0 where none stands there.
+// The procedure whose parameters stand in the tokens from `from` up to `to`, by one more than its number; 0 where none stands there. (A word and no
+// Option, since terms::evaluation::sides takes it so: it is the place of an environment in the tables.)
 fn procedure(w: &[u32], from: u32, to: u32) -> u32
     requires { Searches w.now from to }
     ensures { Found w.now from to result }
 {
-    let mut i = from;
-    while i < to {
+    for i in from..to {
         if tables::code(w, i) == codes::PARAMETER {
             return number(tables::planned(w, i)) + 1;
         }
-        i += 1;
     }
     0
 }

@@ -1,5 +1,6 @@
-// Words of records: one that is read, and some that go to where the records end.
-ghost use Rattle.std.specs.Prelude.{◌≡◌, ◌+◌, ◌≤◌, ◌<◌, [], ◌∷◌, length, get_or, set};
+// Words of records: one that is read, one that is written, and some that go to where the records end. (`put` stands for w[i], so that a contract
+// speaks of set.)
+ghost use Rattle.std.specs.Prelude.{◌≡◌, ◌+◌, ◌≤◌, ◌<◌, length, get_or, set};
 ghost use Rattle.search.specs.Kept.{Pushes};
 
 // The word i.
@@ -17,40 +18,13 @@ pub fn put(w: &mut [u32], i: usize, x: u32)
     w[i] = x;
 }
 
-pub fn push2(w: &mut [u32], top: usize, a: u32, b: u32)
-    requires { top + 2 ≤ length w.old }
-    ensures { Pushes w.old w.new top (a ∷ b ∷ []) }
+// The words of a record go to where the records end.
+pub fn push<const N: usize>(w: &mut [u32], top: usize, words: &[u32; N])
+    requires { top + N ≤ length w.old }
+    ensures { Pushes w.old w.new top words.now }
 {
-    w[top] = a;
-    w[top + 1] = b;
-}
-
-pub fn push3(w: &mut [u32], top: usize, a: u32, b: u32, c: u32)
-    requires { top + 3 ≤ length w.old }
-    ensures { Pushes w.old w.new top (a ∷ b ∷ c ∷ []) }
-{
-    w[top] = a;
-    w[top + 1] = b;
-    w[top + 2] = c;
-}
-
-pub fn push4(w: &mut [u32], top: usize, a: u32, b: u32, c: u32, d: u32)
-    requires { top + 4 ≤ length w.old }
-    ensures { Pushes w.old w.new top (a ∷ b ∷ c ∷ d ∷ []) }
-{
-    w[top] = a;
-    w[top + 1] = b;
-    w[top + 2] = c;
-    w[top + 3] = d;
-}
-
-pub fn push5(w: &mut [u32], top: usize, a: u32, b: u32, c: u32, d: u32, e: u32)
-    requires { top + 5 ≤ length w.old }
-    ensures { Pushes w.old w.new top (a ∷ b ∷ c ∷ d ∷ e ∷ []) }
-{
-    w[top] = a;
-    w[top + 1] = b;
-    w[top + 2] = c;
-    w[top + 3] = d;
-    w[top + 4] = e;
+    // No `copy_from_slice`: its loop keeps a test of overlap, in a walk's every record.
+    for i in 0..N {
+        w[top + i] = words[i];
+    }
 }

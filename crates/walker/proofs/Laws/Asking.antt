@@ -5,10 +5,11 @@ use mathlib.Core.Path.{◌≡◌}
 use mathlib.Core.List.{[], ◌∷◌}
 use mathlib.Core.Logic.{inl, inr}
 use Rattle.sheet.specs.Tables.{Words}
+use Rattle.search.specs.declared.Errors.TheVariants.{Unseen}
 use Rattle.search.specs.declared.Go.{Go}
 use Rattle.search.specs.Kept.{Pushes}
 use Rattle.search.specs.Registers.{down_go}
-use Rattle.search.specs.States.{inner_root}
+use Rattle.search.specs.States.{inner_root, errors_word}
 use Rattle.search.specs.Steps.{Visited, Stepped}
 use Rattle.search.proofs.Heads.{at-form}
 use Rattle.search.proofs.Inner.{imp-down, not-down}
@@ -23,7 +24,7 @@ module _ {w : Words} {g : Go} where
   asking-near (inl x) = let a = at-form x.at.ins x.code (omega arith) (omega arith) in omega (arith, a.form.place, a.form.inside)
   asking-near (inr x) = let a = at-form x.at.ins x.code (omega arith) (omega arith) in omega (arith, a.form.place, a.form.inside)
 
-  pub asking-down : Asking w g → {w' : Words} {q : Go} → Pushes w w' g.top (g.inner ∷ g.bad ∷ (g.depth + 1) ∷ g.due ∷ []) →
-      q ≡ down_go g (g.due + 4) (g.top + 4) (g.depth + inner_root) 0 → Stepped w w' g q
+  pub asking-down : Asking w g → {w' : Words} {q : Go} → Pushes w w' g.top (g.inner ∷ errors_word g.bad ∷ (g.depth + 1) ∷ g.due ∷ []) →
+      q ≡ down_go g (g.due + 4) (g.top + 4) (g.depth + inner_root) Unseen → Stepped w w' g q
   asking-down (inl x) p e = imp-down x p e
   asking-down (inr x) p e = not-down x p e

@@ -2,13 +2,17 @@
 use Prim.Native.Nat.{ℕ, ◌+◌, ◌-◌, ◌/◌, ◌%◌, ◌≤◌}
 use native.Mathlib.Omega.{arith}
 use mathlib.Core.Path.{◌≡◌, refl, ◌∙◌, ap}
+use lib.Dec.{eqb}
 use lib.ListN.{set}
 use Rattle.tables.specs.Layout.{local_slot, last_slot, path_at}
 use Rattle.sheet.specs.Tables.{Words}
+use Rattle.search.specs.declared.Errors.{Errors}
 use Rattle.search.specs.declared.Go.{Go}
+use Rattle.search.specs.States.{errors_of}
 use Rattle.search.specs.Records.{at, had_unit}
 use Rattle.search.specs.Registers.{drop_go, resume_go}
 use Rattle.search.specs.Climb.{around_go}
+use Rattle.specification.specs.declared.Setting.{Setting}
 use Rattle.walker.specs.Climbing.{Undone, Closed, Ended, Arounds}
 
 module _ {w : Words} {g q : Go} where
@@ -30,14 +34,14 @@ module _ {w : Words} {g q : Go} where
   ended et el es eh eo ea ms ws rs = record { words = ws ∙ rw (es, ms, el, et, ea, eh, eo) refl; regs = rs }
 
 -- the registers of the tree around
-pub around-is : (w : Words) (g : Go) (path budget : ℕ) {q : Go} {t inner bad depth : ℕ} → path_at + 4 ≤ g.top → inner ≡ at w (g.top - 4) → bad ≡ at w (g.top - 4 + 1) →
-    depth ≡ at w (g.top - 4 + 2) → q ≡ resume_go g t depth (g.top - 4) inner bad path budget → q ≡ around_go w g t path budget
-around-is w g path budget high ei eb ed rs =
+pub around-is : (w : Words) (g : Go) (setting : Setting) {q : Go} {t inner depth : ℕ} {bad : Errors} → path_at + 4 ≤ g.top → inner ≡ at w (g.top - 4) → bad ≡ errors_of (eqb (at w (g.top - 4 + 1)) 1) →
+    depth ≡ at w (g.top - 4 + 2) → q ≡ resume_go g t depth (g.top - 4) inner bad setting → q ≡ around_go w g t setting
+around-is w g setting high ei eb ed rs =
     let one : g.top - 4 + 1 ≡ g.top - 3 = omega arith in
     let two : g.top - 4 + 2 ≡ g.top - 2 = omega arith in
     rs ∙ rw (ei, eb, ed, one, two) refl
 
-pub around_depth : {w : Words} {g : Go} {path budget depth : ℕ} → Arounds w g path budget → depth ≡ at w (g.top - 4 + 2) → depth ≤ path
+pub around_depth : {w : Words} {g : Go} {setting : Setting} {depth : ℕ} → Arounds w g setting → depth ≡ at w (g.top - 4 + 2) → depth ≤ setting.path
 around_depth {w} {g} a ed =
     let high = a.high in
     let two : g.top - 4 + 2 ≡ g.top - 2 = omega arith in

@@ -11,6 +11,7 @@ use borrow.Author.Tests.{eq-eqb, ne_eqb, lt-ltb, le-ltb, le-leb, lt-leb}
 use borrow.Rule.Slice.PartMut.{put_mid, mid_of, post_of, put_same}
 use Rattle.specification.specs.declared.Setting.{Setting}
 use Rattle.specification.specs.declared.Tallies.{Tallies}
+use Rattle.specification.proofs.Laws.Contradiction.{contradiction}
 use Rattle.specification.specs.Bytes.{Bytes, pick}
 use Rattle.specification.specs.Value.{Valuation}
 use Rattle.specification.specs.Listing.{block_of, block_text}
@@ -18,17 +19,17 @@ use Rattle.specification.specs.Run.{tallies, add_answer, add_error, arrive, bloc
 use Rattle.tables.specs.Leaves.{success_place}
 use Rattle.sheet.specs.Tables.{Words}
 use Rattle.listing.specs.declared.Head.{Head}
-use Rattle.listing.specs.declared.Written.{Written}
-use Rattle.listing.specs.declared.Written.TheVariants.{Full, Bytes as Count}
+use Rattle.std.specs.Prelude.{Option, Some, None}
 use Rattle.listing.specs.Model.{head_of}
 use Rattle.listing.specs.Block as blocks
 use Rattle.search.specs.declared.Go.{Go}
+use Rattle.search.specs.declared.Tally.TheVariants as leaves
+use Rattle.search.specs.declared.Mode.TheVariants as modes
 use Rattle.search.specs.Walk as walks
 use Rattle.search.specs.Frame.{What, the, success, failure, error as error_what, store_in}
 use Rattle.search.specs.Path.{World, conditions_of, Job}
 use Rattle.search.specs.Sim.{yes, no, tree, IsLeaf, Leaf}
-use Rattle.search.specs.Registers.{tallied, Tallied, leaf_go, rise_go, counted, node_tally, answer_tally, error_tally, max_word}
-use Rattle.search.specs.States.{down_mode}
+use Rattle.search.specs.Registers.{tallied, Tallied, leaf_go, rise_go, counted, max_word}
 use Rattle.search.proofs.Gauges.{room-budget}
 use Rattle.walker.specs.declared.State.{State}
 use Rattle.walker.specs.declared.Task.{Task}
@@ -125,7 +126,7 @@ module _ {c : World} {b : Bytes} {w : Words} {g : Go} (l : Leaf c b w g) where
 
   -- it is passed, with the bytes d written
   passing : {d : Bytes} (s : State) → s.go ≡ passed_go g → no c l.ins.fr l.ins.e (passed_tallies g) d ≡ c.result → Goes c d w s
-  passing {d} s e r = starts (λ z. omega (arith, ap (λ q. q.mode) e, z)) (subst (λ q. Going c d w q) (sym e) (goes refl (rising refl (record {
+  passing {d} s e r = starts (λ z. let m : s.go.mode ≡ modes.Down = ap (λ q. q.mode) e in contradiction cc) (subst (λ q. Going c d w q) (sym e) (goes refl (rising refl (record {
     fr = l.ins.fr;
     α = α;
     e = l.ins.e;
@@ -161,7 +162,7 @@ module _ {c : World} {b : Bytes} {w : Words} {g : Go} (l : Leaf c b w g) where
 
   module _ {h o : Bytes} {n : ℕ} (out : Output h o n b) (size : c.size ≡ length h) (s : c.setting.skip ≤ g.tallies.answers + g.tallies.errors) where
     fills : {ys : Bytes} (m : ℕ) (q : State) → q.go ≡ passed_go g → q.written ≡ n + m →
-        blocks.Wrote text (mid_of n (length o - n) o) ys (Count m) → Wrote c w h (put_mid n (length o - n) o ys) q
+        blocks.Wrote text (mid_of n (length o - n) o) ys (Some m) → Wrote c w h (put_mid n (length o - n) o ys) q
     unfolding block
     fills m q e k z = record {
       b = b ++ text;
@@ -174,7 +175,7 @@ module _ {c : World} {b : Bytes} {w : Words} {g : Go} (l : Leaf c b w g) where
     }
 
     lacks : {ys : Bytes} (q : State) → q.go ≡ full_go g → q.written ≡ n →
-        blocks.Wrote text (mid_of n (length o - n) o) ys Full → Wrote c w h (put_mid n (length o - n) o ys) q
+        blocks.Wrote text (mid_of n (length o - n) o) ys None → Wrote c w h (put_mid n (length o - n) o ys) q
     unfolding block
     lacks q e k z = record {
       b = b;
@@ -196,10 +197,10 @@ module _ {c : World} {b : Bytes} {w : Words} {g : Go} (l : Leaf c b w g) where
 -- ---- the steps
 
 -- the head and the result by their equations
-pub told : {w : Words} {scalars arrays : ℕ} {h : Head} {v : Written} (o o' : Bytes) (h' : Head) (v' : Written) → h ≡ h' → v ≡ v' →
+pub told : {w : Words} {scalars arrays : ℕ} {h : Head} {v : Option ℕ} (o o' : Bytes) (h' : Head) (v' : Option ℕ) → h ≡ h' → v ≡ v' →
     blocks.Listed w scalars arrays h o o' v → blocks.Listed w scalars arrays h' o o' v'
 told {w} {scalars} {arrays} {h} {v} o o' h' v' e f p =
-    subst (λ (z : Written). blocks.Listed w scalars arrays h' o o' z) f (subst (λ (z : Head). blocks.Listed w scalars arrays z o o' v) e p)
+    subst (λ (z : Option ℕ). blocks.Listed w scalars arrays h' o o' z) f (subst (λ (z : Head). blocks.Listed w scalars arrays z o o' v) e p)
 
 module _ {w : Words} {o : Bytes} {s : State} {t : Task} (a : BlockDue w o s t) where
   pub leaf-due : LeafDue s.go
@@ -228,7 +229,7 @@ module _ {w : Words} {o : Bytes} {s : State} {t : Task} (a : BlockDue w o s t) w
 
   module _ {ys : Bytes} (h : t.setting.skip ≤ s.go.tallies.answers + s.go.tallies.errors) where
     pub blocked-written : {q : State} {x : Go} (n : ℕ) → x ≡ passed_go s.go → q.go ≡ x → q.written ≡ s.written + n →
-        blocks.Listed w t.scalars t.arrays (head_due w s.go) (mid_of s.written (length o - s.written) o) ys (Count n) →
+        blocks.Listed w t.scalars t.arrays (head_due w s.go) (mid_of s.written (length o - s.written) o) ys (Some n) →
         Blocked w o (put_mid s.written (length o - s.written) o ys) s q t
     blocked-written {q} n ex eq k p =
         let e = eq ∙ ex in
@@ -242,7 +243,7 @@ module _ {w : Words} {o : Bytes} {s : State} {t : Task} (a : BlockDue w o s t) w
         }
 
     pub blocked-full : {q : State} {x : Go} → x ≡ full_go s.go → q.go ≡ x → q.written ≡ s.written →
-        blocks.Listed w t.scalars t.arrays (head_due w s.go) (mid_of s.written (length o - s.written) o) ys Full →
+        blocks.Listed w t.scalars t.arrays (head_due w s.go) (mid_of s.written (length o - s.written) o) ys None →
         Blocked w o (put_mid s.written (length o - s.written) o ys) s q t
     blocked-full {q} ex eq k p =
         let e = eq ∙ ex in
@@ -254,7 +255,7 @@ module _ {w : Words} {o : Bytes} {s : State} {t : Task} (a : BlockDue w o s t) w
 
 -- where a block is written, its end is within the output
 pub written-inside : {w : Words} {o ys : Bytes} {s : State} {t : Task} (a : BlockDue w o s t) (n : ℕ) →
-    blocks.Listed w t.scalars t.arrays (head_due w s.go) (mid_of s.written (length o - s.written) o) ys (Count n) → s.written + n ≤ length o
+    blocks.Listed w t.scalars t.arrays (head_due w s.go) (mid_of s.written (length o - s.written) o) ys (Some n) → s.written + n ≤ length o
 written-inside a n p =
     let z = p a.c.declared a.leaf.ins.α (shows a.leaf a.fixed) in
     omega (arith, z.1, mid-size a.out, a.out.inside, out-size a.out)
@@ -262,15 +263,15 @@ written-inside a n p =
 -- ---- the registers once it is passed
 
 -- the leaf can be counted
-pub tally-fits : (k : ℕ) → ¬ (k ≡ node_tally) → {g : Go} {t : Tallies} → LeafDue g → t ≡ visited_leaf g →
-    (k ≡ node_tally → t.nodes < max_word) × (t.answers < max_word) × (t.errors < max_word) × (t.fails < max_word)
-tally-fits k n p e = rw e ((λ z. absurd (n z)), omega (arith, p.leaves), omega (arith, p.leaves), omega (arith, p.leaves))
+pub tally-fits : {g : Go} {t : Tallies} → LeafDue g → t ≡ visited_leaf g →
+    (t.answers < max_word) × (t.errors < max_word) × (t.fails < max_word)
+tally-fits p e = rw e (omega (arith, p.leaves), omega (arith, p.leaves), omega (arith, p.leaves))
 
 module _ (g : Go) {q : Go} {t u : Tallies} (e : t ≡ visited_leaf g) where
-  pub passed-answer : u ≡ counted t answer_tally → q ≡ rise_go (leaf_go g down_mode g.bad u) → g.due ≡ success_place → q ≡ passed_go g
-  unfolding counted passed_tallies
+  pub passed-answer : u ≡ counted t leaves.Answer → q ≡ rise_go (leaf_go g modes.Down g.bad u) → g.due ≡ success_place → q ≡ passed_go g
+  unfolding passed_tallies
   passed-answer v f j = f ∙ rw (v, e, eq-eqb g.due success_place j) refl
 
-  pub passed-error : u ≡ counted t error_tally → q ≡ rise_go (leaf_go g down_mode g.bad u) → ¬ (g.due ≡ success_place) → q ≡ passed_go g
-  unfolding counted passed_tallies
+  pub passed-error : u ≡ counted t leaves.Error → q ≡ rise_go (leaf_go g modes.Down g.bad u) → ¬ (g.due ≡ success_place) → q ≡ passed_go g
+  unfolding passed_tallies
   passed-error v f j = f ∙ rw (v, e, ne_eqb g.due success_place j) refl

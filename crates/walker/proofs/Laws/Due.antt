@@ -9,6 +9,9 @@ use mathlib.Core.List.{[], ◌∷◌}
 use lib.ListN.{get_or}
 use lib.Dec.{ltb, eqb, leb}
 use borrow.Author.Tests.{eqb-true, eqb-false, leb-true, leb-false, eq-eqb, ne_eqb}
+use denote.Enum.Bare.{false_same, true_same}
+use Rattle.specification.specs.declared.Setting.{Setting}
+use Rattle.specification.proofs.Laws.Contradiction.{contradiction}
 use Rattle.specification.specs.Bytes.{Bytes, pick}
 use Rattle.specification.specs.Value.{Valuation}
 use Rattle.tables.specs.Layout.{token_slot, lasts_at}
@@ -17,12 +20,14 @@ use Rattle.tables.specs.Frames.{frames_at, frame_slot}
 use Rattle.tables.specs.Leaves.{end_place, success_place, failure_place, error_place, rise_place, success_code, failure_code, error_code, return_code, rise_code}
 use Rattle.sheet.specs.Tables.{Words}
 use Rattle.search.specs.declared.Go.{Go}
+use Rattle.search.specs.contracts.Mode.{the_type}
+use Rattle.search.specs.declared.Mode.TheVariants as modes
+use Rattle.search.specs.States.{same}
 use Rattle.search.specs.Frame.{form, again, What, the, success, failure, error, store_in}
 use Rattle.search.specs.Store.{Store}
 use Rattle.search.specs.Path.{World}
 use Rattle.search.specs.Sim.{Down, In, Up, Sim, down, up, block, done, stopped}
 use Rattle.search.specs.Steps.{Stepped, HasTerms}
-use Rattle.search.specs.States.{down_mode, up_mode}
 use Rattle.terms.proofs.Laws.Here.{code_here}
 use Rattle.search.proofs.ByCode.{code-range}
 use Rattle.search.proofs.Heads.{Head, here, head}
@@ -47,19 +52,19 @@ down-place {c} {b} {w} {g} q = place-known q.x (head c (store_in q.fr) q.α g.du
 -- ---- the invariant by its mode
 
 module _ {c : World} {b : Bytes} {w : Words} {g : Go} where
-  pub sim-up : Sim c b w g → g.mode ≡ up_mode → Up c b w g
-  sim-up (down m q) e = absurd (omega arith)
+  pub sim-up : Sim c b w g → g.mode ≡ modes.Up → Up c b w g
+  sim-up (down m q) e = contradiction cc
   sim-up (up m q) e = q
-  sim-up (block m q) e = absurd (omega arith)
-  sim-up (done m q) e = absurd (omega arith)
-  sim-up (stopped m q) e = absurd (omega arith)
+  sim-up (block m q) e = contradiction cc
+  sim-up (done m q) e = contradiction cc
+  sim-up (stopped m q) e = contradiction cc
 
-  pub sim-down : Sim c b w g → g.mode ≡ down_mode → Down c b w g
+  pub sim-down : Sim c b w g → g.mode ≡ modes.Down → Down c b w g
   sim-down (down m q) e = q
-  sim-down (up m q) e = absurd (omega arith)
-  sim-down (block m q) e = absurd (omega arith)
-  sim-down (done m q) e = absurd (omega arith)
-  sim-down (stopped m q) e = absurd (omega arith)
+  sim-down (up m q) e = contradiction cc
+  sim-down (block m q) e = contradiction cc
+  sim-down (done m q) e = contradiction cc
+  sim-down (stopped m q) e = contradiction cc
 
 -- ---- codes
 
@@ -136,19 +141,19 @@ pending-at due = go (eqb due rise_place) (ltb due frames_at) (ltb due lasts_at)
     go false false false = omega arith
 
 pub pending-most : (g : Go) → pending g ≤ 3
-pending-most g = go (eqb g.mode up_mode)
+pending-most g = go (same g.mode modes.Up)
   where
     go : (a : Bool) → pick a 2 (pending_at g.due) ≤ 3
     go true = omega arith
     go false = pending-at g.due
 
-pub pending-up : (g : Go) → g.mode ≡ up_mode → pending g ≡ 2
-pending-up g e = rw (eq-eqb g.mode up_mode e) refl
+pub pending-up : (g : Go) → g.mode ≡ modes.Up → pending g ≡ 2
+pending-up g e = rw (true_same the_type g.mode modes.Up e) refl
 
-pub down-pending : (g : Go) → g.mode ≡ down_mode → pending g ≡ pending_at g.due
-down-pending g e = rw (ne_eqb g.mode up_mode (λ z. omega arith)) refl
+pub down-pending : (g : Go) → g.mode ≡ modes.Down → pending g ≡ pending_at g.due
+down-pending g e = rw (false_same the_type tt g.mode modes.Up (λ z. contradiction cc)) refl
 
-pub pending-down : (g : Go) → g.mode ≡ down_mode → ¬ (g.due ≡ rise_place) → pending g ≤ 1
+pub pending-down : (g : Go) → g.mode ≡ modes.Down → ¬ (g.due ≡ rise_place) → pending g ≤ 1
 pending-down g e n =
     let z = down-pending g e in
     let r : pending_at g.due ≤ 1 = rw (ne_eqb g.due rise_place n) (go (ltb g.due frames_at) (ltb g.due lasts_at)) in
@@ -159,12 +164,12 @@ pending-down g e n =
     go false true = omega arith
     go false false = omega arith
 
-pub pending-rise : (g : Go) → g.mode ≡ down_mode → g.due ≡ rise_place → pending g ≡ 3
+pub pending-rise : (g : Go) → g.mode ≡ modes.Down → g.due ≡ rise_place → pending g ≡ 3
 pending-rise g e p = down-pending g e ∙ rw (eq-eqb g.due rise_place p) refl
 
 -- a visit leaves fewer
-pub stepped-came : {w w' : Words} {g q : Go} {path budget : ℕ} → Dues w g path budget → ¬ (get_or w g.due 0 ≡ rise_code) → Stepped w w' g q →
-    Came w w' g q path budget
+pub stepped-came : {w w' : Words} {g q : Go} {setting : Setting} → Dues w g setting → ¬ (get_or w g.due 0 ≡ rise_code) → Stepped w w' g q →
+    Came w w' g q setting
 stepped-came {g = g} {q = q} d n st =
     let i = due_in d.due n in
     let room = room-budget i.gauge i.room in

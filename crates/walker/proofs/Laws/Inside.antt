@@ -14,6 +14,7 @@ use Rattle.specification.proofs.Laws.Contradiction.{contradiction}
 use Rattle.tables.specs.Layout.{path_at}
 use Rattle.sheet.specs.Tables.{Words}
 use Rattle.search.specs.declared.Go.{Go}
+use Rattle.search.specs.declared.Mode.{Mode}
 use Rattle.search.specs.Walk.{Next, gated}
 use Rattle.search.specs.Frame.{Frame, pass, other, bound, began, given, range, asks, called, top_of, inner_in}
 use Rattle.search.specs.Path.{World, conditions_of, Path}
@@ -125,7 +126,7 @@ asks-stop c (called C β ∷ fr) e t b h = asks-stop c fr e t b h
 
 -- ---- a success leaf of an inner tree is visited
 
-pub won-inside : {w : Words} {g : Go} {mode : ℕ} (c : World) (b : Bytes) → In c b w g → ¬ (g.inner ≡ main_tree) → Yes c b w (leaf_go g mode g.bad (add_node (tallied g))) →
+pub won-inside : {w : Words} {g : Go} {mode : Mode} (c : World) (b : Bytes) → In c b w g → ¬ (g.inner ≡ main_tree) → Yes c b w (leaf_go g mode g.bad (add_node (tallied g))) →
     WinsInside w (leaf_go g mode g.bad (add_node (tallied g)))
 won-inside {w} {g} {mode} c b i n y =
     let t = add_node (tallied g) in

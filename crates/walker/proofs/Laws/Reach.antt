@@ -25,6 +25,7 @@ use Rattle.search.proofs.Stripped.{Strip, stripped}
 use Rattle.search.proofs.Tops.{top-undo, top-other, top-some, top-all, top-asks}
 use Rattle.search.proofs.NextValue.{some-depth, some-local}
 use Rattle.search.proofs.Judged.{ask-token}
+use Rattle.specification.specs.declared.Setting.{Setting}
 use Rattle.walker.specs.Climbing.{Topped, KeepsSlot, OfCode, OfAsking, RisesTo}
 
 -- ---- a record of n words
@@ -158,23 +159,23 @@ module _ {w : Words} {g : Go} where
   all_small o et el = rw (el, et) (all-lies o).1
 
 -- a path with a record, on which a son is finished
-pub rises-top : {w : Words} {g : Go} {path budget : ℕ} → Rises w g path budget → ¬ (g.top ≡ path_at) → Topped w g
+pub rises-top : {w : Words} {g : Go} {setting : Setting} → Rises w g setting → ¬ (g.top ≡ path_at) → Topped w g
 rises-top r n = record { c = r.c; α = r.up.α; fr = r.up.fr; path = r.up.path; some = n }
 
-module _ {w : Words} {g : Go} {n t path budget : ℕ} (r : RisesTo w g n t path budget) where
+module _ {w : Words} {g : Go} {n t : ℕ} {setting : Setting} (r : RisesTo w g n t setting) where
   pub rises-code : OfCode w g n
   rises-code = record { top = rises-top r.from.rises r.from.some; low = r.from.low; code = r.code }
 
-pub rises-visits : {w : Words} {g : Go} {path budget : ℕ} → Rises w g path budget → g.tallies.nodes ≤ budget
+pub rises-visits : {w : Words} {g : Go} {setting : Setting} → Rises w g setting → g.tallies.nodes ≤ setting.budget
 rises-visits r = omega (arith, r.up.tallies.budget, r.set.budget_is)
 
-pub or-depth : {w : Words} {g : Go} {t path budget : ℕ} → RisesTo w g or_code t path budget → TokenLies w g.top 2 3 × (at w (g.top - 2) ≤ path)
+pub or-depth : {w : Words} {g : Go} {t : ℕ} {setting : Setting} → RisesTo w g or_code t setting → TokenLies w g.top 2 3 × (at w (g.top - 2) ≤ setting.path)
 or-depth r =
     let u = r.from.rises in
     let z = or-path u.up.path r.from.some r.from.low r.code in
     (z.0, omega (arith, z.1, u.set.path_is))
 
-pub some-depth-is : {w : Words} {g : Go} {t path budget : ℕ} → RisesTo w g some_code t path budget → at w (g.top - 2) ≤ path
+pub some-depth-is : {w : Words} {g : Go} {t : ℕ} {setting : Setting} → RisesTo w g some_code t setting → at w (g.top - 2) ≤ setting.path
 some-depth-is r =
     let u = r.from.rises in
     let z = some-path u.up.path r.from.some r.from.low r.code in

@@ -5,6 +5,7 @@ use mathlib.Core.Path.{◌≡◌, refl, sym, ◌∙◌, ap, subst}
 use mathlib.Core.List.{List, [], ◌∷◌}
 use lib.ListN.{get_or}
 use borrow.Author.Tests.{ne_eqb, lt-ltb, le-ltb}
+use Rattle.specification.specs.declared.Setting.{Setting}
 use Rattle.specification.specs.Bytes.{Bytes}
 use Rattle.specification.specs.Lines.{Declared}
 use Rattle.specification.specs.Value.{Valuation}
@@ -105,8 +106,8 @@ module _ {c : World} {b : Bytes} {w : Words} {g : Go} (i : In c b w g) (code : g
       let h = r.small in
       rw (r.place, ne_eqb (frame_slot r.K) rise_place (λ e. omega arith), le-ltb (frame_slot r.K) frames_at (omega arith), lt-ltb (frame_slot r.K) lasts_at (omega arith)) refl
 
-pub returned-came : {w : Words} {g q : Go} {path budget place : ℕ} → Dues w g path budget → get_or w g.due 0 ≡ return_code → place ≡ get_or w (g.due + 1) 0 →
-    q ≡ to_go g place → Came w w g q path budget
+pub returned-came : {w : Words} {g q : Go} {setting : Setting} {place : ℕ} → Dues w g setting → get_or w g.due 0 ≡ return_code → place ≡ get_or w (g.due + 1) 0 →
+    q ≡ to_go g place → Came w w g q setting
 returned-came {w} {g} d code at e =
     let n : ¬ (get_or w g.due 0 ≡ rise_code) = λ z. omega arith in
     let i = due_in d.due n in

@@ -8,15 +8,15 @@ use mathlib.Core.List.{[], ◌∷◌, ◌++◌}
 use lib.ListN.{length, drop}
 use lib.Dec.{eqb}
 use borrow.Author.Tests.{eq-eqb, ne_eqb, eqb-true, eqb-false, lt-ltb}
+use denote.Enum.Bare.{true_same}
 use Rattle.specification.specs.declared.End.{End}
 use Rattle.specification.specs.declared.Tallies.{Tallies}
-use Rattle.specification.specs.declared.Outcome.TheVariants.{Ran}
 use Rattle.specification.specs.Bytes.{Bytes, pick}
 use Rattle.specification.specs.Sheet.{Sheet}
 use Rattle.specification.specs.Place.{cell, local}
 use Rattle.specification.specs.WellFormed.{nowhere}
 use Rattle.specification.specs.Run.{Conditions, conditions, tallies, going, stopped, spent, path, output}
-use Rattle.specification.specs.Outcome.{ran, result_of, start, run_of, output_after}
+use Rattle.specification.specs.Outcome.{ran, result_of, start, run_of, ended, output_after}
 use Rattle.specification.proofs.Laws.Start.{start-valid}
 use Rattle.specification.proofs.Laws.Contradiction.{contradiction}
 use Rattle.tables.specs.Layout.{max_tokens, token_slot}
@@ -27,6 +27,9 @@ use Rattle.plan.specs.Next.{end, token}
 use Rattle.plan.specs.Plans.{Lined, Plans, Planned}
 use Rattle.plan.proofs.Laws.Here.{formula-ends, formula-kept, procedures-kept}
 use Rattle.search.specs.declared.Go.{Go}
+use Rattle.search.specs.contracts.Mode.{the_type}
+use Rattle.search.specs.declared.Mode.TheVariants as modes
+use Rattle.search.specs.States.{same}
 use Rattle.search.specs.Marks.{marks_in, Marks}
 use Rattle.search.specs.Walk.{Next, walk, gated}
 use Rattle.search.specs.Frame.{form, the}
@@ -34,7 +37,6 @@ use Rattle.search.specs.Stands.{Good}
 use Rattle.search.specs.Path.{World, conditions_of}
 use Rattle.search.specs.Sim.{Down, Leaf, Over, Stopped, Sim, down, up, block, done, stopped as stopped_sim}
 use Rattle.search.specs.Registers.{tallied, start_go}
-use Rattle.search.specs.States.{down_mode, up_mode, block_mode, done_mode, stopped_mode, full_mode}
 use Rattle.search.proofs.Gauges.{room-budget}
 use Rattle.search.proofs.Slots.{holds-keep}
 use Rattle.search.proofs.Walk.{walk-run}
@@ -119,7 +121,7 @@ module _ (o : Bytes) {w : Words} {t : Task} (s : Sheet) (p : Prepared w t s) whe
   pub world-set : SetBy (world_of w o t s) t
   world-set = record { path_is = refl; budget_is = refl }
 
-  start-down : t.setting.budget < 4294967296 → Down (world_of w o t s) [] w (start_go (token_slot t.formula) t.setting.path t.setting.budget)
+  start-down : t.setting.budget < 4294967296 → Down (world_of w o t s) [] w (start_go (token_slot t.formula) t.setting)
   start-down fits = let a = p.ready in record {
     x = the (form [] s.formula ∷ []);
     fr = [];
@@ -196,30 +198,30 @@ module _ (o : Bytes) {w : Words} {t : Task} (s : Sheet) (p : Prepared w t s) whe
 
   -- the first state, at its limit or not
   pub start-going : t.setting.budget < 4294967296 → {q g : Go} {place : ℕ} → place ≡ token_slot t.formula →
-      g ≡ start_go place t.setting.path t.setting.budget → q ≡ limit g → Going (world_of w o t s) [] w q
+      g ≡ start_go place t.setting → q ≡ limit g → Going (world_of w o t s) [] w q
   start-going fits {q} {g} pl e f =
-      let z = f ∙ ap limit (e ∙ ap (λ j. start_go j t.setting.path t.setting.budget) pl) in
+      let z = f ∙ ap limit (e ∙ ap (λ j. start_go j t.setting) pl) in
       subst (λ x. Going (world_of w o t s) [] w x) (sym z) (going-first refl (start-down fits))
 
 -- ---- from leaf to leaf
 
 -- the search goes on
-pub onward-goings : {w : Words} {s : State} {t : Task} → Onwards w s t → ¬ (s.go.mode ≡ full_mode) → Goings w s.go t.setting.path t.setting.budget
+pub onward-goings : {w : Words} {s : State} {t : Task} → Onwards w s t → ¬ (s.go.mode ≡ modes.Full) → Goings w s.go t.setting
 onward-goings {w} {s} {t} a n = go a.goes
   where
-    go : Goes a.c a.b w s → Goings w s.go t.setting.path t.setting.budget
+    go : Goes a.c a.b w s → Goings w s.go t.setting
     go (starts m x) = record { c = a.c; b = a.b; set = a.set; going = x }
     go (overflows m r f) = absurd (n m)
 
-sim-came : {c : World} {b : Bytes} {w : Words} {g : Go} {q : State} → q.go ≡ g → ¬ (g.mode ≡ down_mode) → ¬ (g.mode ≡ up_mode) → Sim c b w g → Came c b w q
+sim-came : {c : World} {b : Bytes} {w : Words} {g : Go} {q : State} → q.go ≡ g → ¬ (g.mode ≡ modes.Down) → ¬ (g.mode ≡ modes.Up) → Sim c b w g → Came c b w q
 sim-came e n k (down m i) = absurd (n m)
 sim-came e n k (up m i) = absurd (k m)
 sim-came {c} {b} {w} {g} {q} e n k (block m i) = leaf (ap (λ x. x.mode) e ∙ m) (subst (λ x. Leaf c b w x) (sym e) i)
 sim-came {c} {b} {w} {g} {q} e n k (done m i) = walks.done (ap (λ x. x.mode) e ∙ m) (subst (λ x. Over c b x) (sym e) i)
 sim-came {c} {b} {w} {g} {q} e n k (stopped_sim m i) = walks.stops (ap (λ x. x.mode) e ∙ m) (subst (λ x. Stopped c b w x) (sym e) i)
 
-pub onward-went : {w w' : Words} {s q : State} {t : Task} {g : Go} → Advanced w w' s.go g t.setting.path t.setting.budget →
-    q.go ≡ g → q.written ≡ s.written → ¬ (s.go.mode ≡ full_mode) → Onward w w' s q t
+pub onward-went : {w w' : Words} {s q : State} {t : Task} {g : Go} → Advanced w w' s.go g t.setting →
+    q.go ≡ g → q.written ≡ s.written → ¬ (s.go.mode ≡ modes.Full) → Onward w w' s q t
 onward-went {w} {w'} {s} {q} {t} v e n f = record {
   came = λ c b k x. go k x;
   same = n;
@@ -230,18 +232,18 @@ onward-went {w} {w'} {s} {q} {t} v e n f = record {
     go k (starts m x) = sim-came e v.over v.stops (v.sim _ _ k x)
     go k (overflows m r j) = absurd (f m)
 
-pub onward-full : {w : Words} {s q : State} {t : Task} → s.go.mode ≡ full_mode → q ≡ s → Onward w w s q t
+pub onward-full : {w : Words} {s q : State} {t : Task} → s.go.mode ≡ modes.Full → q ≡ s → Onward w w s q t
 onward-full {w} {s} {q} {t} m e = rw e (record { came = λ c b k x. go x; same = refl; least = omega arith })
   where
     go : {c : World} {b : Bytes} → Goes c b w s → Came c b w s
     go (starts n x) = absurd (n m)
     go (overflows d r j) = walks.overflowed d r j
 
-came-leaf : {c : World} {b : Bytes} {w : Words} {s : State} → Came c b w s → s.go.mode ≡ block_mode → Leaf c b w s.go
+came-leaf : {c : World} {b : Bytes} {w : Words} {s : State} → Came c b w s → s.go.mode ≡ modes.Block → Leaf c b w s.go
 came-leaf (leaf m l) e = l
-came-leaf (walks.done m o) e = absurd (omega arith)
-came-leaf (walks.stops m o) e = absurd (omega arith)
-came-leaf (walks.overflowed m r j) e = absurd (omega arith)
+came-leaf (walks.done m o) e = contradiction cc
+came-leaf (walks.stops m o) e = contradiction cc
+came-leaf (walks.overflowed m r j) e = contradiction cc
 
 -- ---- the end
 
@@ -261,13 +263,13 @@ gate-path C d k t b n h = rw (ne_eqb t.nodes C.setting.budget n, lt-ltb C.settin
 abbrev Ended : World → Bytes → Task → Go → Type 0
 Ended c b t g = ran (end_by g.mode (tallied g).nodes t.setting.budget) (tallied g) b ≡ result_of c.result
 
-end-done : (c : World) (b : Bytes) (t : Task) (g : Go) → g.mode ≡ done_mode → Over c b g → Ended c b t g
+end-done : (c : World) (b : Bytes) (t : Task) (g : Go) → g.mode ≡ modes.Done → Over c b g → Ended c b t g
 end-done c b t g m o = rw (m, counted-tallied g o.counted) (ap result_of o.result)
 
-end-full : (c : World) (b : Bytes) (t : Task) (g : Go) → g.mode ≡ full_mode → stopped output (tallied g) b ≡ c.result → Ended c b t g
+end-full : (c : World) (b : Bytes) (t : Task) (g : Go) → g.mode ≡ modes.Full → stopped output (tallied g) b ≡ c.result → Ended c b t g
 end-full c b t g m r = rw m (ap result_of r)
 
-end-stopped : (c : World) (b : Bytes) (t : Task) (g : Go) {w : Words} → SetBy c t → g.mode ≡ stopped_mode → Stopped c b w g → Ended c b t g
+end-stopped : (c : World) (b : Bytes) (t : Task) (g : Go) {w : Words} → SetBy c t → g.mode ≡ modes.Stopped → Stopped c b w g → Ended c b t g
 end-stopped c b t g set m o = go (eqb (tallied g).nodes t.setting.budget) refl
   where
     go : (x : Bool) → eqb (tallied g).nodes t.setting.budget ≡ x → Ended c b t g
@@ -280,7 +282,7 @@ end-stopped c b t g set m o = go (eqb (tallied g).nodes t.setting.budget) refl
         rw (m, e) (ap result_of (sym (gate-path (conditions_of c) (suc g.depth) _ (tallied g) b (λ y. z (y ∙ set.budget_is))
         (omega (arith, o.limit, q.stop, q.begun, q.tallies.budget, set.budget_is, z))) ∙ o.down.result))
 
-came-ended : (c : World) (b : Bytes) (t : Task) (q : State) {w : Words} → SetBy c t → Came c b w q → ¬ (q.go.mode ≡ block_mode) → Ended c b t q.go
+came-ended : (c : World) (b : Bytes) (t : Task) (q : State) {w : Words} → SetBy c t → Came c b w q → ¬ (q.go.mode ≡ modes.Block) → Ended c b t q.go
 came-ended c b t q set (leaf m l) n = absurd (n m)
 came-ended c b t q set (walks.done m o) n = end-done c b t q.go m o
 came-ended c b t q set (walks.stops m o) n = end-stopped c b t q.go set m o
@@ -303,15 +305,15 @@ pub record Reached (v : Words) (h : Bytes) (t : Task) (x : Sheet) (w : Words) (o
 
 -- the first leaf, or the end
 pub reached-first : (h : Bytes) {v w : Words} {t : Task} (x : Sheet) → Prepared v t x → t.setting.budget < 4294967296 → {g q r : Go} {s : State} {place : ℕ} →
-    place ≡ token_slot t.formula → g ≡ start_go place t.setting.path t.setting.budget → q ≡ limit g →
-    Advanced v w q r t.setting.path t.setting.budget → (s.go ≡ r) × (s.written ≡ 0) → Reached v h t x w h s
+    place ≡ token_slot t.formula → g ≡ start_go place t.setting → q ≡ limit g →
+    Advanced v w q r t.setting → (s.go ≡ r) × (s.written ≡ 0) → Reached v h t x w h s
 reached-first h {v} {w} {t} x p fits pl e f a k = record {
   b = [];
   out = rw k.1 (record { count = refl; inside = omega arith; bytes = refl });
   came = sim-came k.0 a.over a.stops (a.sim (world_of v h t x) [] (world-set h x p) (start-going h x p fits pl e f));
 }
 
-pub reached-due : (h : Bytes) {v w : Words} {o : Bytes} {t : Task} (x : Sheet) {s : State} → Prepared v t x → Reached v h t x w o s → s.go.mode ≡ block_mode →
+pub reached-due : (h : Bytes) {v w : Words} {o : Bytes} {t : Task} (x : Sheet) {s : State} → Prepared v t x → Reached v h t x w o s → s.go.mode ≡ modes.Block →
     BlockDue w o s t
 reached-due h {v} {w} {o} {t} x {s} p r m = record {
   c = world_of v h t x;
@@ -322,13 +324,13 @@ reached-due h {v} {w} {o} {t} x {s} p r m = record {
   leaf = came-leaf r.came m;
 }
 
-pub reached-onwards : (h : Bytes) {v w : Words} {o o' : Bytes} {t : Task} (x : Sheet) {s q : State} → Prepared v t x → Reached v h t x w o s → s.go.mode ≡ block_mode →
+pub reached-onwards : (h : Bytes) {v w : Words} {o o' : Bytes} {t : Task} (x : Sheet) {s q : State} → Prepared v t x → Reached v h t x w o s → s.go.mode ≡ modes.Block →
     Blocked w o o' s q t → Onwards w q t
 reached-onwards h {v} {w} {o} {o'} {t} x {s} {q} p r m k =
     let wr = k.wrote (world_of v h t x) r.b h (world-fixed h x p) r.out (came-leaf r.came m) in
     record { c = world_of v h t x; b = wr.b; set = world-set h x p; goes = wr.goes }
 
-pub reached-next : (h : Bytes) {v w w' : Words} {o o' : Bytes} {t : Task} (x : Sheet) {s q n : State} → Prepared v t x → Reached v h t x w o s → s.go.mode ≡ block_mode →
+pub reached-next : (h : Bytes) {v w w' : Words} {o o' : Bytes} {t : Task} (x : Sheet) {s q n : State} → Prepared v t x → Reached v h t x w o s → s.go.mode ≡ modes.Block →
     Blocked w o o' s q t → Onward w w' q n t → Reached v h t x w' o' n
 reached-next h {v} {w} {w'} {o} {o'} {t} x {s} {q} {n} p r m k on =
     let wr = k.wrote (world_of v h t x) r.b h (world-fixed h x p) r.out (came-leaf r.came m) in
@@ -336,16 +338,16 @@ reached-next h {v} {w} {w'} {o} {o'} {t} x {s} {q} {n} p r m k on =
 
 -- how many leaves are left at most, and once more
 abbrev pub leaves_left : ℕ → State → ℕ
-leaves_left budget s = pick (eqb s.go.mode block_mode) (suc (budget - (tallied s.go).nodes)) 0
+leaves_left budget s = pick (same s.go.mode modes.Block) (suc (budget - (tallied s.go).nodes)) 0
 
-pub leaves-fall : (h : Bytes) {v w w' : Words} {o o' : Bytes} {t : Task} (x : Sheet) {s q n : State} → Reached v h t x w o s → s.go.mode ≡ block_mode →
+pub leaves-fall : (h : Bytes) {v w w' : Words} {o o' : Bytes} {t : Task} (x : Sheet) {s q n : State} → Reached v h t x w o s → s.go.mode ≡ modes.Block →
     Blocked w o o' s q t → Onward w w' q n t → leaves_left t.setting.budget n < leaves_left t.setting.budget s
-leaves-fall h {t = t} x {s} {q} {n} r m k on = go (eqb n.go.mode block_mode) refl
+leaves-fall h {t = t} x {s} {q} {n} r m k on = go (same n.go.mode modes.Block) refl
   where
     more : leaves_left t.setting.budget s ≡ suc (t.setting.budget - (tallied s.go).nodes)
-    more = rw (eq-eqb s.go.mode block_mode m) refl
+    more = rw (true_same the_type s.go.mode modes.Block m) refl
 
-    go : (b : Bool) → eqb n.go.mode block_mode ≡ b → leaves_left t.setting.budget n < leaves_left t.setting.budget s
+    go : (b : Bool) → same n.go.mode modes.Block ≡ b → leaves_left t.setting.budget n < leaves_left t.setting.budget s
     go true e =
         let l = came-leaf r.came m in
         let room = room-budget l.ins.gauge l.ins.room in
@@ -353,7 +355,7 @@ leaves-fall h {t = t} x {s} {q} {n} r m k on = go (eqb n.go.mode block_mode) ref
         omega (arith, more, z, on.least, k.nodes, room)
     go false e = let z : leaves_left t.setting.budget n ≡ 0 = rw e refl in omega (arith, more, z)
 
-pub finished : {v w : Words} {h o : Bytes} {t : Task} {s : State} (x : Sheet) → Prepared v t x → ¬ (s.go.mode ≡ block_mode) → length w ≡ length v → length o ≡ length h →
+pub finished : {v w : Words} {h o : Bytes} {t : Task} {s : State} (x : Sheet) → Prepared v t x → ¬ (s.go.mode ≡ modes.Block) → length w ≡ length v → length o ≡ length h →
     ((x : Sheet) → Prepared v t x → Reached v h t x w o s) → Finished v w h o t s
 finished {v} {w} {h} {o} {t} {s} x p n words size f = record {
   run = λ y a.
@@ -367,7 +369,7 @@ finished {v} {w} {h} {o} {t} {s} x p n words size f = record {
 -- ---- the whole
 
 pub walked : {w v w' : Words} {o o' : Bytes} {t : Task} {s : State} {e : End} {u : Tallies} → Planned w v t.formula → Finished v w' o o' t s → u ≡ tallied s.go →
-    e ≡ end_by s.go.mode u.nodes t.setting.budget → Walked w w' o o' t (Ran e u s.written)
+    e ≡ end_by s.go.mode u.nodes t.setting.budget → Walked w w' o o' t (ended e u s.written)
 unfolding output_after
 walked {t = t} {s = s} p f eu ee = record {
   result = λ x a. let r = f.run x (prepared t p x a) in rw (← r.1, ee, eu, r.2) refl;

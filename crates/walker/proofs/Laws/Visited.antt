@@ -13,10 +13,11 @@ use Rattle.search.proofs.Heads.{at_return}
 use Rattle.walker.specs.Steps.{Arrived, SteppedWithin}
 use Rattle.walker.specs.Loop.{Due, visit, rising, Dues, Came}
 use Rattle.walker.proofs.Laws.Due.{due_in, terms-code, stepped-came}
+use Rattle.specification.specs.declared.Setting.{Setting}
 use Rattle.walker.proofs.Laws.Loops.{within-came}
 
 -- its code is a word
-pub due-word : {w : Words} {g : Go} {path budget : ℕ} → Dues w g path budget → g.due < length w
+pub due-word : {w : Words} {g : Go} {setting : Setting} → Dues w g setting → g.due < length w
 due-word {w} {g} d = go d.due
   where
     go : Due d.c d.b w g → g.due < length w
@@ -27,20 +28,20 @@ above-not : (n : ℕ) → ¬ (n ≡ empty_code) → ¬ (n ≡ true_code) → ¬ 
 above-not n a b c d e f = omega arith
 
 -- the code that was read is n
-module _ {w : Words} {g : Go} {path budget : ℕ} (d : Dues w g path budget) {code : ℕ} (read : code ≡ get_or w g.due 0) where
+module _ {w : Words} {g : Go} {setting : Setting} (d : Dues w g setting) {code : ℕ} (read : code ≡ get_or w g.due 0) where
   not-up : (n : ℕ) → code ≡ n → ¬ (n ≡ rise_code) → ¬ (get_or w g.due 0 ≡ rise_code)
   not-up n e r z = r (sym e ∙ read ∙ z)
 
   pub due-entered : (n : ℕ) → code ≡ n → ¬ (n ≡ rise_code) → Entered w g n
   due-entered n e r = record { at = record { c = d.c; b = d.b; ins = due_in d.due (not-up n e r) }; code = sym read ∙ e }
 
-  pub due-arrived : (n : ℕ) → code ≡ n → ¬ (n ≡ rise_code) → Arrived w g n path budget
+  pub due-arrived : (n : ℕ) → code ≡ n → ¬ (n ≡ rise_code) → Arrived w g n setting
   due-arrived n e r = record { c = d.c; b = d.b; set = d.set; ins = due_in d.due (not-up n e r); code = sym read ∙ e }
 
-  pub due-came : (n : ℕ) → code ≡ n → ¬ (n ≡ rise_code) → {w' : Words} {q : Go} → Stepped w w' g q → Came w w' g q path budget
+  pub due-came : (n : ℕ) → code ≡ n → ¬ (n ≡ rise_code) → {w' : Words} {q : Go} → Stepped w w' g q → Came w w' g q setting
   due-came n e r s = stepped-came d (not-up n e r) s
 
-  pub due-within : (n : ℕ) → code ≡ n → ¬ (n ≡ rise_code) → {w' : Words} {q : Go} → SteppedWithin w w' g q path budget → Came w w' g q path budget
+  pub due-within : (n : ℕ) → code ≡ n → ¬ (n ≡ rise_code) → {w' : Words} {q : Go} → SteppedWithin w w' g q setting → Came w w' g q setting
   due-within n e r s = within-came d (not-up n e r) s
 
   -- the place that a procedure's end leads to is a word

@@ -10,9 +10,9 @@ use Rattle.walker.specs.Loop.{Going}
 use Rattle.walker.proofs.Laws.Loops.{turns}
 use Rattle.walker.proofs.advance.advance.Given as goal
 
-abbrev pub invariant-loop-q : goal.invariant-loop-q
-invariant-loop-q l =
-    (length l.w ≡ length l.initial.w) × ((tallied l.initial.q).nodes ≤ (tallied l.q).nodes) × ((c : World) (b : Bytes) → Set c l.path l.budget → Going c b l.initial.w l.initial.q → Going c b l.w l.q)
+abbrev pub invariant-loop-setting : goal.invariant-loop-setting
+invariant-loop-setting l =
+    (length l.w ≡ length l.initial.w) × ((tallied l.initial.q).nodes ≤ (tallied l.q).nodes) × ((c : World) (b : Bytes) → Set c l.setting → Going c b l.initial.w l.initial.q → Going c b l.w l.q)
 
-abbrev pub decreases-loop-q : goal.decreases-loop-q
-decreases-loop-q l = turns l.budget l.q
+abbrev pub decreases-loop-setting : goal.decreases-loop-setting
+decreases-loop-setting l = turns l.setting.budget l.q

@@ -23,17 +23,17 @@ pub next-next-requires : goal.next-next-requires
 next-next-requires c =
     due-near c.requires.at.ins
 
-pub push3-requires : goal.push3-requires
-push3-requires c =
+pub push-requires : goal.push-requires
+push-requires c =
     omega (arith, top-room c.requires.at.ins)
 
 pub set_slot-requires : goal.set_slot-requires
 set_slot-requires c =
-    let z = slot-near c.requires in omega (arith, z.0, z.1, c.push3.ensures.size)
+    let z = slot-near c.requires in omega (arith, z.0, z.1, c.push.ensures.size)
 
 pub overflow_add-g : goal.overflow_add-g
 overflow_add-g c =
-    omega (arith, top-room c.requires.at.ins, c.push3.ensures.size)
+    omega (arith, top-room c.requires.at.ins, c.push.ensures.size)
 
 pub down-requires : goal.down-requires
 down-requires c =
@@ -42,5 +42,5 @@ down-requires c =
 pub returns : goal.returns
 returns c =
     let mark = c.word-mark.ensures in
-    assign-down c.requires (rw mark at (sym c.allows.ensures ∙ c.if-not-allows.false)) (rw mark at c.push3.ensures)
+    assign-down c.requires (rw mark at (sym c.allows.ensures ∙ c.if-not-allows.false)) (rw mark at c.push.ensures)
     c.set_slot.ensures (rw mark at c.after_given.ensures) (rw c.next-next.ensures at c.down.ensures)

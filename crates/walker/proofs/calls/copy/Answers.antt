@@ -5,7 +5,7 @@ use Rattle.walker.proofs.Laws.Filled.{fill_none, copy_step}
 use Rattle.walker.proofs.calls.copy.Goals as goal
 
 pub loop-i-init : goal.loop-i-init
-loop-i-init c = (omega arith, fill_none _ _ _)
+loop-i-init c = fill_none _ _ _
 
 pub argument-requires : goal.argument-requires
 argument-requires c =
@@ -20,7 +20,7 @@ overflow_add-argument c =
       c.requires.few,
       c.requires.low,
       c.requires.room,
-      c.loop-i.invariant.1.size,
+      c.loop-i.invariant.size,
       c.argument.ensures,
     )
 
@@ -33,7 +33,7 @@ word-x-requires c =
       c.requires.few,
       c.requires.low,
       c.requires.room,
-      c.loop-i.invariant.1.size,
+      c.loop-i.invariant.size,
       c.argument.ensures,
     )
 
@@ -46,7 +46,7 @@ overflow_cast-i c =
       c.requires.few,
       c.requires.low,
       c.requires.room,
-      c.loop-i.invariant.1.size,
+      c.loop-i.invariant.size,
     )
 
 pub overflow_add-top : goal.overflow_add-top
@@ -58,7 +58,7 @@ overflow_add-top c =
       c.requires.few,
       c.requires.low,
       c.requires.room,
-      c.loop-i.invariant.1.size,
+      c.loop-i.invariant.size,
     )
 
 pub put-requires : goal.put-requires
@@ -70,26 +70,18 @@ put-requires c =
       c.requires.few,
       c.requires.low,
       c.requires.room,
-      c.loop-i.invariant.1.size,
+      c.loop-i.invariant.size,
     )
 
-pub overflow_add-i : goal.overflow_add-i
-overflow_add-i c = omega (arith, c.loop-i-test.true)
-
-pub loop-i-smaller : goal.loop-i-smaller
-loop-i-smaller c = omega (arith, c.loop-i-test.true)
-
 pub loop-i-preserved : goal.loop-i-preserved
-loop-i-preserved c = (
-  omega (arith, c.loop-i-test.true),
-  copy_step c.requires c.loop-i.invariant.1 c.loop-i-test.true
-      c.argument.ensures c.word-x.ensures c.put.ensures,
-)
+loop-i-preserved c =
+    copy_step c.requires c.loop-i.invariant c.loop-i-test.true
+    c.argument.ensures c.word-x.ensures c.put.ensures
 
 pub shape_of-w : goal.shape_of-w
-shape_of-w c = c.loop-i.invariant.1.size
+shape_of-w c = c.loop-i.invariant.size
 
 pub returns : goal.returns
 returns c =
-    let e : c.loop-i.i ≡ c.args.n = omega (arith, c.loop-i-test.false, c.loop-i.invariant.0) in
-    rw e at c.loop-i.invariant.1
+    let e : c.loop-i.i ≡ c.args.n = omega (arith, c.loop-i-test.false, c.loop-i.auto.i-end) in
+    rw e at c.loop-i.invariant

@@ -5,7 +5,7 @@ use Rattle.walker.proofs.Laws.Filled.{fill_none, flag-step}
 use Rattle.walker.proofs.calls.flag.Goals as goal
 
 pub loop-i-init : goal.loop-i-init
-loop-i-init c = (omega arith, fill_none _ _ _)
+loop-i-init c = fill_none _ _ _
 
 pub argument-requires : goal.argument-requires
 argument-requires c =
@@ -19,13 +19,13 @@ overflow_cast-argument c =
       c.requires.procedure,
       c.requires.few,
       c.requires.size,
-      c.loop-i.invariant.1.size,
+      c.loop-i.invariant.size,
       c.argument.ensures,
     )
 
 pub first-requires : goal.first-requires
 first-requires c =
-    omega (arith, c.loop-i-test.true, c.requires.procedure, c.requires.few, c.requires.size, c.loop-i.invariant.1.size)
+    omega (arith, c.loop-i-test.true, c.requires.procedure, c.requires.few, c.requires.size, c.loop-i.invariant.size)
 
 pub put-requires : goal.put-requires
 put-requires c =
@@ -35,27 +35,19 @@ put-requires c =
       c.requires.procedure,
       c.requires.few,
       c.requires.size,
-      c.loop-i.invariant.1.size,
+      c.loop-i.invariant.size,
       c.argument.ensures,
     )
 
-pub overflow_add-i : goal.overflow_add-i
-overflow_add-i c = omega (arith, c.loop-i-test.true)
-
-pub loop-i-smaller : goal.loop-i-smaller
-loop-i-smaller c = omega (arith, c.loop-i-test.true)
-
 pub loop-i-preserved : goal.loop-i-preserved
-loop-i-preserved c = (
-  omega (arith, c.loop-i-test.true),
-  flag-step _ c.requires c.loop-i.invariant.1 c.loop-i-test.true
-      c.argument.ensures c.first.ensures c.put.ensures,
-)
+loop-i-preserved c =
+    flag-step _ c.requires c.loop-i.invariant c.loop-i-test.true
+    c.argument.ensures c.first.ensures c.put.ensures
 
 pub shape_of-w : goal.shape_of-w
-shape_of-w c = c.loop-i.invariant.1.size
+shape_of-w c = c.loop-i.invariant.size
 
 pub returns : goal.returns
 returns c =
-    let e : c.loop-i.i ≡ c.args.n = omega (arith, c.loop-i-test.false, c.loop-i.invariant.0) in
-    rw e at c.loop-i.invariant.1
+    let e : c.loop-i.i ≡ c.args.n = omega (arith, c.loop-i-test.false, c.loop-i.auto.i-end) in
+    rw e at c.loop-i.invariant

@@ -1,10 +1,6 @@
 -- `calls::flag` meets its contract. The invariant: which words are there.
-use Prim.Native.Nat.{◌≤◌, ◌-◌}
 use Rattle.walker.specs.Frames.{Flagged}
 use Rattle.walker.proofs.calls.flag.Given as goal
 
 abbrev pub invariant-loop-i : goal.invariant-loop-i
-invariant-loop-i l = (l.i ≤ l.n) × Flagged l.initial.w l.w l.k l.set l.i
-
-abbrev pub decreases-loop-i : goal.decreases-loop-i
-decreases-loop-i l = l.n - l.i
+invariant-loop-i l = Flagged l.initial.w l.w l.k l.set l.i

@@ -5,7 +5,7 @@ use Rattle.walker.proofs.Laws.Filled.{fill_none, refill-step}
 use Rattle.walker.proofs.calls.refill.Goals as goal
 
 pub loop-i-init : goal.loop-i-init
-loop-i-init c = (omega arith, fill_none _ _ _)
+loop-i-init c = fill_none _ _ _
 
 pub overflow_cast-i : goal.overflow_cast-i
 overflow_cast-i c =
@@ -16,7 +16,7 @@ overflow_cast-i c =
       c.requires.slots.few,
       c.requires.slots.size,
       c.requires.inside,
-      c.loop-i.invariant.1.size,
+      c.loop-i.invariant.size,
     )
 
 pub overflow_add-from : goal.overflow_add-from
@@ -28,7 +28,7 @@ overflow_add-from c =
       c.requires.slots.few,
       c.requires.slots.size,
       c.requires.inside,
-      c.loop-i.invariant.1.size,
+      c.loop-i.invariant.size,
     )
 
 pub at-x-requires : goal.at-x-requires
@@ -40,7 +40,7 @@ at-x-requires c =
       c.requires.slots.few,
       c.requires.slots.size,
       c.requires.inside,
-      c.loop-i.invariant.1.size,
+      c.loop-i.invariant.size,
     )
 
 pub argument-requires : goal.argument-requires
@@ -56,7 +56,7 @@ overflow_cast-argument c =
       c.requires.slots.few,
       c.requires.slots.size,
       c.requires.inside,
-      c.loop-i.invariant.1.size,
+      c.loop-i.invariant.size,
       c.argument.ensures,
     )
 
@@ -69,7 +69,7 @@ overflow_add-argument c =
       c.requires.slots.few,
       c.requires.slots.size,
       c.requires.inside,
-      c.loop-i.invariant.1.size,
+      c.loop-i.invariant.size,
       c.argument.ensures,
     )
 
@@ -82,27 +82,19 @@ put-requires c =
       c.requires.slots.few,
       c.requires.slots.size,
       c.requires.inside,
-      c.loop-i.invariant.1.size,
+      c.loop-i.invariant.size,
       c.argument.ensures,
     )
 
-pub overflow_add-i : goal.overflow_add-i
-overflow_add-i c = omega (arith, c.loop-i-test.true)
-
-pub loop-i-smaller : goal.loop-i-smaller
-loop-i-smaller c = omega (arith, c.loop-i-test.true)
-
 pub loop-i-preserved : goal.loop-i-preserved
-loop-i-preserved c = (
-  omega (arith, c.loop-i-test.true),
-  refill-step c.requires c.loop-i.invariant.1 c.loop-i-test.true
-      c.at-x.ensures c.argument.ensures c.put.ensures,
-)
+loop-i-preserved c =
+    refill-step c.requires c.loop-i.invariant c.loop-i-test.true
+    c.at-x.ensures c.argument.ensures c.put.ensures
 
 pub shape_of-w : goal.shape_of-w
-shape_of-w c = c.loop-i.invariant.1.size
+shape_of-w c = c.loop-i.invariant.size
 
 pub returns : goal.returns
 returns c =
-    let e : c.loop-i.i ≡ c.args.n = omega (arith, c.loop-i-test.false, c.loop-i.invariant.0) in
-    rw e at c.loop-i.invariant.1
+    let e : c.loop-i.i ≡ c.args.n = omega (arith, c.loop-i-test.false, c.loop-i.auto.i-end) in
+    rw e at c.loop-i.invariant

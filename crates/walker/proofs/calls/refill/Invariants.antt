@@ -1,10 +1,6 @@
 -- `calls::refill` meets its contract. The invariant: which words are there.
-use Prim.Native.Nat.{◌≤◌, ◌-◌}
 use Rattle.walker.specs.Frames.{Refilled}
 use Rattle.walker.proofs.calls.refill.Given as goal
 
 abbrev pub invariant-loop-i : goal.invariant-loop-i
-invariant-loop-i l = (l.i ≤ l.n) × Refilled l.initial.w l.w l.k l.from l.i
-
-abbrev pub decreases-loop-i : goal.decreases-loop-i
-decreases-loop-i l = l.n - l.i
+invariant-loop-i l = Refilled l.initial.w l.w l.k l.from l.i

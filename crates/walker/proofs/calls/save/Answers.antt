@@ -23,19 +23,19 @@ pub call-call-requires : goal.call-call-requires
 call-call-requires c =
     omega (arith, c.requires.procedure, c.requires.low, c.requires.room, c.copy.ensures.size)
 
-pub push4-requires : goal.push4-requires
-push4-requires c =
+pub push-requires : goal.push-requires
+push-requires c =
     omega (arith, c.requires.few, c.requires.room, c.copy.ensures.size)
 
 pub overflow_add-result : goal.overflow_add-result
 overflow_add-result c =
-    omega (arith, c.requires.few, c.requires.room, c.copy.ensures.size, c.push4.ensures.size)
+    omega (arith, c.requires.few, c.requires.room, c.copy.ensures.size, c.push.ensures.size)
 
 pub shape_of-w : goal.shape_of-w
 shape_of-w c =
-    c.push4.ensures.size ∙ c.copy.ensures.size
+    c.push.ensures.size ∙ c.copy.ensures.size
 
 pub returns : goal.returns
 returns c =
-    saved c.requires c.copy.ensures c.push4.ensures c.tags-tags.ensures c.back-back.ensures
+    saved c.requires c.copy.ensures c.push.ensures c.tags-tags.ensures c.back-back.ensures
     c.call-call.ensures

@@ -4,8 +4,8 @@ use lib.ListN.{length}
 use Rattle.walker.proofs.Laws.Risen.{Climbs, level}
 use Rattle.walker.proofs.climb.climb.Given as goal
 
-abbrev pub invariant-loop-q : goal.invariant-loop-q
-invariant-loop-q l = Climbs l.initial.w l.w l.initial.q l.q l.path l.budget × (length l.w ≡ length l.initial.w)
+abbrev pub invariant-loop-setting : goal.invariant-loop-setting
+invariant-loop-setting l = Climbs l.initial.w l.w l.initial.q l.q l.setting × (length l.w ≡ length l.initial.w)
 
-abbrev pub decreases-loop-q : goal.decreases-loop-q
-decreases-loop-q l = level l.q
+abbrev pub decreases-loop-setting : goal.decreases-loop-setting
+decreases-loop-setting l = level l.q

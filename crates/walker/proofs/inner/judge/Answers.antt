@@ -10,8 +10,8 @@ around-q-requires c = judges-arounds c.requires
 pub set_error-requires : goal.set_error-requires
 set_error-requires c = let r = (asks-lies (c.requires).asks).reach in omega (arith, r.low, r.high)
 
-pub returns-then-g-eq1 : goal.returns-then-g-eq1
-returns-then-g-eq1 c = judged-undecided c.requires c.set_error.ensures c.if-g-eq1.true c.around-q.ensures
+pub returns-in-Seen : goal.returns-in-Seen
+returns-in-Seen c = judged-undecided c.requires c.set_error.ensures c.in-Seen.is c.around-q.ensures
 
 pub next-requires : goal.next-requires
 next-requires c =
@@ -22,5 +22,5 @@ next-requires c =
 pub around-requires : goal.around-requires
 around-requires c = judges-arounds c.requires
 
-pub returns : goal.returns
-returns c = judged-failed c.requires c.next.ensures c.if-g-eq1.false c.around.ensures
+pub returns-in-Unseen : goal.returns-in-Unseen
+returns-in-Unseen c = judged-failed c.requires c.next.ensures c.in-Unseen.is c.around.ensures

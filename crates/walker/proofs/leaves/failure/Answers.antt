@@ -1,11 +1,12 @@
 -- `leaves::failure` meets its contract.
 use native.Mathlib.Omega.{arith}
 use mathlib.Core.Path.{◌∙◌, ap}
-use Rattle.search.specs.Registers.{leaf_go, counted, fail_tally}
-use Rattle.search.specs.States.{up_mode}
+use Rattle.search.specs.Registers.{leaf_go, counted}
 use Rattle.search.proofs.Simple.{depth_small}
 use Rattle.search.proofs.LeafSteps.{inner-failed, main-failed}
 use Rattle.walker.proofs.Laws.Leaves.{visit-fits, fail-fits}
+use Rattle.search.specs.declared.Mode.TheVariants as modes
+use Rattle.search.specs.declared.Tally.TheVariants as leaves
 use Rattle.walker.proofs.leaves.failure.Goals as goal
 
 pub visited-t-requires : goal.visited-t-requires
@@ -19,11 +20,10 @@ pub leaf-requires : goal.leaf-requires
 leaf-requires c = omega (arith, depth_small c.requires.at.ins)
 
 pub returns-then-g-eq-MAIN : goal.returns-then-g-eq-MAIN
-unfolding counted
 returns-then-g-eq-MAIN c =
-    let tally = c.counted-u.ensures ∙ ap (λ t. counted t fail_tally) c.visited-t.ensures in
+    let tally = c.counted-u.ensures ∙ ap (λ t. counted t leaves.Failure) c.visited-t.ensures in
     let g = c.args.g in
-    main-failed c.requires c.if-g-eq-MAIN.true (c.leaf.ensures ∙ ap (leaf_go g up_mode g.bad) tally)
+    main-failed c.requires c.if-g-eq-MAIN.true (c.leaf.ensures ∙ ap (leaf_go g modes.Up g.bad) tally)
 
 pub leaf-requires-2 : goal.leaf-requires-2
 leaf-requires-2 c = omega (arith, depth_small c.requires.at.ins)
@@ -31,4 +31,4 @@ leaf-requires-2 c = omega (arith, depth_small c.requires.at.ins)
 pub returns : goal.returns
 returns c =
     let g = c.args.g in
-    inner-failed c.requires c.if-g-eq-MAIN.false (c.leaf-2.ensures ∙ ap (leaf_go g up_mode g.bad) c.visited-t.ensures)
+    inner-failed c.requires c.if-g-eq-MAIN.false (c.leaf-2.ensures ∙ ap (leaf_go g modes.Up g.bad) c.visited-t.ensures)

@@ -39,21 +39,21 @@ pub full-requires : goal.full-requires
 full-requires c =
     (leaf-due c.requires).visits
 
-pub passed-requires-in-Bytes : goal.passed-requires-in-Bytes
-passed-requires-in-Bytes c =
+pub passed-requires-in-Some : goal.passed-requires-in-Some
+passed-requires-in-Some c =
     leaf-due c.requires
 
 pub overflow_add-written : goal.overflow_add-written
 overflow_add-written c =
-    let listed = told _ _ _ _ c.head-h.ensures c.in-Bytes.is c.write.ensures in
-    omega (arith, written-inside c.requires c.in-Bytes.n listed, c.well_formed.1.0.0)
+    let listed = told _ _ _ _ c.head-h.ensures c.in-Some.is c.write.ensures in
+    omega (arith, written-inside c.requires c.in-Some.n listed, c.well_formed.1.0.0)
 
-pub returns-in-Full : goal.returns-in-Full
-returns-in-Full c =
-    let listed = told _ _ _ _ c.head-h.ensures c.in-Full.is c.write.ensures in
-    blocked-full c.requires c.if-t-task.false c.full.ensures c.state-in-Full.ensures.0 c.state-in-Full.ensures.1 listed
+pub returns-in-None : goal.returns-in-None
+returns-in-None c =
+    let listed = told _ _ _ _ c.head-h.ensures c.in-None.is c.write.ensures in
+    blocked-full c.requires c.if-t-task.false c.full.ensures c.state-in-None.ensures.0 c.state-in-None.ensures.1 listed
 
-pub returns-in-Bytes : goal.returns-in-Bytes
-returns-in-Bytes c =
-    let listed = told _ _ _ _ c.head-h.ensures c.in-Bytes.is c.write.ensures in
-    blocked-written c.requires c.if-t-task.false c.in-Bytes.n c.passed-in-Bytes.ensures c.state-in-Bytes.ensures.0 c.state-in-Bytes.ensures.1 listed
+pub returns-in-Some : goal.returns-in-Some
+returns-in-Some c =
+    let listed = told _ _ _ _ c.head-h.ensures c.in-Some.is c.write.ensures in
+    blocked-written c.requires c.if-t-task.false c.in-Some.n c.passed-in-Some.ensures c.state-in-Some.ensures.0 c.state-in-Some.ensures.1 listed

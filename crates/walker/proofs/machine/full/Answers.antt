@@ -2,7 +2,7 @@
 use native.Mathlib.Omega.{arith}
 use mathlib.Core.Path.{◌∙◌, ap}
 use Rattle.search.specs.Registers.{leaf_go}
-use Rattle.search.specs.States.{full_mode}
+use Rattle.search.specs.declared.Mode.TheVariants as modes
 use Rattle.walker.proofs.machine.full.Goals as goal
 
 pub visited-t-requires : goal.visited-t-requires
@@ -14,4 +14,4 @@ leaf-requires c = omega (arith, c.requires.deep)
 pub returns : goal.returns
 returns c =
     let g = c.args.g in
-    c.leaf.ensures ∙ ap (leaf_go g full_mode g.bad) c.visited-t.ensures
+    c.leaf.ensures ∙ ap (leaf_go g modes.Full g.bad) c.visited-t.ensures

@@ -1,7 +1,7 @@
 -- `machine::passed` meets its contract.
 use native.Mathlib.Omega.{arith}
 use mathlib.Core.Path.{◌∙◌, ap}
-use Rattle.search.specs.Registers.{rise_go, answer_tally, error_tally}
+use Rattle.search.specs.Registers.{rise_go}
 use Rattle.walker.proofs.Laws.Blocks.{tally-fits, passed-answer, passed-error}
 use Rattle.walker.proofs.machine.passed.Goals as goal
 
@@ -10,7 +10,7 @@ visited-t-requires c = c.requires.visits
 
 pub counted-u-requires : goal.counted-u-requires
 counted-u-requires c =
-    tally-fits answer_tally (λ z. omega arith) c.requires c.visited-t.ensures
+    tally-fits c.requires c.visited-t.ensures
 
 pub leaf-requires : goal.leaf-requires
 leaf-requires c = omega (arith, c.requires.visits.deep)
@@ -22,7 +22,7 @@ returns-then-g-eq-SUCCESS c =
 
 pub counted-u-requires-2 : goal.counted-u-requires-2
 counted-u-requires-2 c =
-    tally-fits error_tally (λ z. omega arith) c.requires c.visited-t.ensures
+    tally-fits c.requires c.visited-t.ensures
 
 pub leaf-requires-2 : goal.leaf-requires-2
 leaf-requires-2 c = omega (arith, c.requires.visits.deep)

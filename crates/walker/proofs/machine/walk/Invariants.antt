@@ -8,10 +8,10 @@ use Rattle.walker.proofs.Laws.Started.{Reached}
 use Rattle.walker.proofs.Laws.Started.{leaves_left}
 use Rattle.walker.proofs.machine.walk.Given as goal
 
-abbrev pub invariant-loop-s : goal.invariant-loop-s
-invariant-loop-s l =
+abbrev pub invariant-loop-task : goal.invariant-loop-task
+invariant-loop-task l =
     (length l.w ≡ length l.initial.w) × (length l.out ≡ length l.initial.out)
     × ((v : Words) (x : Sheet) → Prepared v l.task x → Reached v l.initial.out l.task x l.initial.w l.initial.out l.initial.s → Reached v l.initial.out l.task x l.w l.out l.s)
 
-abbrev pub decreases-loop-s : goal.decreases-loop-s
-decreases-loop-s l = leaves_left l.task.setting.budget l.s
+abbrev pub decreases-loop-task : goal.decreases-loop-task
+decreases-loop-task l = leaves_left l.task.setting.budget l.s

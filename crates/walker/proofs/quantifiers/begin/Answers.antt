@@ -40,22 +40,22 @@ last-last-requires c =
     let i = x.at.at.ins in
     omega (arith, (all_near x).0, c.local-l.ensures, top-low i, top-room i)
 
-pub push4-requires : goal.push4-requires
-push4-requires c =
+pub push-requires : goal.push-requires
+push-requires c =
     omega (arith, top-room c.requires.0.at.at.ins)
 
 pub set_last-requires : goal.set_last-requires
 set_last-requires c =
     let x = c.requires.0 in
     let i = x.at.at.ins in
-    omega (arith, (all_near x).0, c.local-l.ensures, c.push4.ensures.size, top-low i, top-room i)
+    omega (arith, (all_near x).0, c.local-l.ensures, c.push.ensures.size, top-low i, top-room i)
 
 pub set_slot-requires : goal.set_slot-requires
 set_slot-requires c =
     let x = c.requires.0 in
     let i = x.at.at.ins in
     let size = simp length-set at (ap length c.set_last.ensures) in
-    omega (arith, (all_near x).0, c.local-l.ensures, c.slot_of-slot.ensures, size, c.push4.ensures.size, top-low i, top-room i)
+    omega (arith, (all_near x).0, c.local-l.ensures, c.slot_of-slot.ensures, size, c.push.ensures.size, top-low i, top-room i)
 
 pub overflow_add-g : goal.overflow_add-g
 overflow_add-g c =
@@ -70,7 +70,7 @@ pub returns : goal.returns
 returns c =
     let x = c.requires.0 in
     let i = x.at.at.ins in
-    let words = rw (c.word-had.ensures, c.word-old.ensures, c.last-last.ensures) at c.push4.ensures in
+    let words = rw (c.word-had.ensures, c.word-old.ensures, c.last-last.ensures) at c.push.ensures in
     let regs = rw c.body-b.ensures at c.down.ensures in
     let low = top-low i in
     let room = top-room i in

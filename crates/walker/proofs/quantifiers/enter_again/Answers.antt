@@ -70,8 +70,8 @@ overflow_add-slot-2 c =
     let i = x.at.ins in
     omega (arith, (again-near x).0, (again-near x).1, (again-near x).2, c.word-l.ensures, c.slot_of-slot.ensures)
 
-pub push3-requires : goal.push3-requires
-push3-requires c =
+pub push-requires : goal.push-requires
+push-requires c =
     omega (arith, top-room c.requires.at.ins)
 
 pub overflow_add-value : goal.overflow_add-value
@@ -88,7 +88,7 @@ pub set_slot-requires : goal.set_slot-requires
 set_slot-requires c =
     let x = c.requires in
     let i = x.at.ins in
-    omega (arith, (again-near x).0, (again-near x).1, (again-near x).2, c.word-l.ensures, c.slot_of-slot.ensures, top-low i, top-room i, c.push3.ensures.size)
+    omega (arith, (again-near x).0, (again-near x).1, (again-near x).2, c.word-l.ensures, c.slot_of-slot.ensures, top-low i, top-room i, c.push.ensures.size)
 
 pub overflow_add-g-2 : goal.overflow_add-g-2
 overflow_add-g-2 c =
@@ -104,4 +104,4 @@ returns c =
     let es = c.slot_of-slot.ensures ∙ ap local_slot c.word-l.ensures in
     let last-is = c.last.ensures ∙ ap (last_at c.args.w.now) c.word-l.ensures in
     again-some c.requires es c.word-value.ensures (λ z. c.if-value-last.false (z ∙ sym last-is))
-    c.push3.ensures c.set_slot.ensures c.next-b.ensures c.down-2.ensures
+    c.push.ensures c.set_slot.ensures c.next-b.ensures c.down-2.ensures

@@ -3,4 +3,4 @@ use Rattle.walker.proofs.quantifiers.keep.Goals as goal
 
 pub returns : goal.returns
 returns c =
-    rw (c.word-old.ensures, c.word-had.ensures) at c.push3.ensures
+    rw (c.word-old.ensures, c.word-had.ensures) at c.push.ensures

@@ -33,14 +33,14 @@ pub overflow_add-g : goal.overflow_add-g
 overflow_add-g c =
     omega (arith, depth_small c.requires.0.at.at.ins)
 
-pub push5-requires : goal.push5-requires
-push5-requires c =
+pub push-requires : goal.push-requires
+push-requires c =
     omega (arith, top-room c.requires.0.at.at.ins)
 
 pub set_slot-requires : goal.set_slot-requires
 set_slot-requires c =
     let x = c.requires.0 in
-    omega (arith, (some_near x).0, c.local.ensures, c.slot_of-slot.ensures, c.push5.ensures.size, top-low x.at.at.ins, top-room x.at.at.ins)
+    omega (arith, (some_near x).0, c.local.ensures, c.slot_of-slot.ensures, c.push.ensures.size, top-low x.at.at.ins, top-room x.at.at.ins)
 
 pub overflow_add-g-2 : goal.overflow_add-g-2
 overflow_add-g-2 c =
@@ -53,6 +53,6 @@ down-requires c =
 
 pub returns : goal.returns
 returns c =
-    let words = rw (c.word-had.ensures, c.word-old.ensures) at c.push5.ensures in
+    let words = rw (c.word-had.ensures, c.word-old.ensures) at c.push.ensures in
     let regs = rw c.body-b.ensures at c.down.ensures in
     some-open c.requires.0 c.requires.1 (c.slot_of-slot.ensures ∙ ap local_slot c.local.ensures) words c.set_slot.ensures regs

@@ -8,7 +8,7 @@ use Rattle.walker.proofs.Laws.Unvalued.{none_more}
 use Rattle.walker.proofs.unvalued.procedure.Goals as goal
 
 pub loop-i-init : goal.loop-i-init
-loop-i-init c = (omega arith, λ j low high e. omega arith)
+loop-i-init c = λ j low high e. omega arith
 
 pub code-requires : goal.code-requires
 code-requires c = let x = c.requires in omega (arith, x.inside, x.size)
@@ -20,7 +20,7 @@ planned-requires c =
 pub number-requires : goal.number-requires
 number-requires c =
     let code = c.code.ensures in
-    rw c.planned.ensures (c.requires.slots _ c.loop-i.invariant.0 c.loop-i-test.true (sym code ∙ c.if-code-eq-PARAMETER.true))
+    rw c.planned.ensures (c.requires.slots _ c.loop-i.auto.i c.loop-i-test.true (sym code ∙ c.if-code-eq-PARAMETER.true))
 
 pub overflow_add-result : goal.overflow_add-result
 overflow_add-result c = omega (arith, c.number.ensures)
@@ -29,24 +29,17 @@ pub returns-then-code-eq-PARAMETER : goal.returns-then-code-eq-PARAMETER
 returns-then-code-eq-PARAMETER c =
     inr (record {
       token = c.loop-i.i;
-      after = c.loop-i.invariant.0;
+      after = c.loop-i.auto.i;
       before = c.loop-i-test.true;
       code = sym c.code.ensures ∙ c.if-code-eq-PARAMETER.true;
       number = ap (◌+ 1) (c.number.ensures ∙ ap frame_of c.planned.ensures);
     })
 
-pub overflow_add-i : goal.overflow_add-i
-overflow_add-i c =
-    omega (arith, c.requires.inside)
-
-pub loop-i-smaller : goal.loop-i-smaller
-loop-i-smaller c = omega arith
-
 pub loop-i-preserved : goal.loop-i-preserved
 loop-i-preserved c =
     let code = c.code.ensures in
     let other = c.if-code-eq-PARAMETER.false in
-    (omega arith, none_more c.args.w.now c.args.from c.loop-i.i c.loop-i.invariant.1 (λ e. other (code ∙ e)))
+    none_more c.args.w.now c.args.from c.loop-i.i c.loop-i.invariant (λ e. other (code ∙ e))
 
 pub returns : goal.returns
-returns c = let none = c.loop-i.invariant.1 in inl (refl, λ j low high e. none j low (omega arith) e)
+returns c = let none = c.loop-i.invariant in inl (refl, λ j low high e. none j low (omega arith) e)
