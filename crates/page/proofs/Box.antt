@@ -6,9 +6,8 @@ use mathlib.Core.List.{List}
 use lib.ListN.{length, take, drop, replicate, length-append}
 use lib.Seq.{take_at}
 use Rattle.specification.specs.declared.Setting.{Setting}
-use Rattle.specification.specs.declared.Outcome.{Outcome}
 use Rattle.specification.specs.Bytes.{Bytes}
-use Rattle.specification.specs.Outcome.{Result, refusal, ran, call, written, outcome, output_after, words_after}
+use Rattle.specification.specs.Outcome.{Result, refusal, ran, call, written, Outcome, outcome, output_after, words_after}
 use Rattle.specification.specs.Printed.{closing, printed, box_setting, box_words, box_output}
 use Rattle.specification.proofs.Laws.Printed.{box-whole}
 use Rattle.vodlasim.specs.Lent.{Lent, lent}

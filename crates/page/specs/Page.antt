@@ -1,18 +1,17 @@
 -- The page in lent memory: the listing at the start of the output, the lines after it at the start of memory of their own. Assumes nothing.
-use Rattle.std.specs.Prelude.{ℕ, ◌≤◌, ◌≡◌, List, ◌++◌, length, take, drop, replicate}
-use Rattle.specification.specs.declared.Outcome.{Outcome}
-use Rattle.specification.specs.declared.Outcome.TheVariants.{Refused, Ran}
+use Rattle.std.specs.Prelude.{ℕ, ◌≤◌, ◌≡◌, List, ◌++◌, length, take, drop, replicate, Ok, Err}
 use Rattle.specification.specs.Bytes.{Bytes}
-use Rattle.specification.specs.Outcome.{Result, call, written, outcome, output_after}
+use Rattle.specification.specs.Outcome.{Result, call, written, Outcome, outcome, output_after}
 use Rattle.specification.specs.Printed.{closing, box_setting, box_words, box_output, box}
-use Rattle.listing.specs.Put.{Put}
+use Rattle.listing.specs.declared.writer.Writer.{Writer}
+use Rattle.listing.specs.Put.{Writes}
 use Rattle.vodlasim.specs.Lent.{Lent}
 use Rattle.page.specs.declared.Page.{Page}
 
 -- the bytes written that an outcome tells
 abbrev pub written_of : Outcome → ℕ
-written_of (Refused number place) = 0
-written_of (Ran end t n) = n
+written_of (Err r) = 0
+written_of (Ok x) = x.written
 
 -- the longest line of an end, `end=output`; and the longest lines after a listing, that and four tallies of ten digits
 abbrev pub end_most : ℕ
@@ -21,10 +20,10 @@ end_most = 11
 abbrev pub closing_most : ℕ
 closing_most = 82
 
--- some of these lines, put from a place on; they end among the first so many bytes
-pub record Lined (most : ℕ) (b b' : Bytes) (at : ℕ) (t : Bytes) (r : ℕ) : Type 0 where
-  pub text : Put b b' at t r
-  pub short : r ≤ most
+-- some of these lines, put where a writer stands; they end among the first so many bytes
+pub record Lined (most : ℕ) (before after : Writer) (t : Bytes) : Type 0 where
+  pub text : Writes before after t
+  pub short : after.at ≤ most
 
 -- the lines after the listing at the start of memory that is b before and b' after; beyond them it holds what it held
 pub record Closed (o : Outcome) (b b' : Bytes) (r : ℕ) : Type 0 where

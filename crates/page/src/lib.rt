@@ -2,12 +2,12 @@
 #![tactic(auto)]
 
 ghost use Rattle.std.specs.Prelude.{◌≡◌, ◌≤◌};
-ghost use Rattle.specification.specs.Printed.{end_line, tally_lines, refusal_lines};
+ghost use Rattle.specification.specs.Printed.{end_line, tally_lines, refusal_lines, closing};
 ghost use Rattle.vodlasim.specs.Lent.{lent};
 ghost use Rattle.page.specs.Page.{written_of, end_most, closing_most, Lined, Closed, Paged};
 
-use listing::put;
-use specification::{End, Outcome, Setting, Tallies};
+use listing::Writer;
+use specification::{End, Ran, Refusal, Setting, Tallies};
 
 // The memory of the box: work words, 6,144 for tables and 12 for each of 512 path nodes; a sheet one byte longer than any that is
 // accepted; the output; and the lines after the listing.
@@ -26,76 +26,78 @@ const BUDGET: u32 = 1_000_000;
 
 const SKIP: u32 = 0;
 
-// How long a page's two parts are: the listing in the output, and the lines after it.
+// How long a page's two parts are (lengths and no slices: the caller holds the memory): the listing in the output, and the lines after it.
 #[derive(Clone, Copy)]
 pub struct Page {
     pub listing: usize,
     pub closing: usize,
 }
 
-// ---- the lines after the listing
+// ---- the lines after the listing (by a Writer: of a `write!` no clause says that it does not fail)
 
-fn end_line(lines: &mut [u8], end: End) -> usize
-    ensures { Lined end_most lines.old lines.new 0 (end_line end) result }
+fn end_line(lines: &mut Writer, end: End)
+    requires { lines.old.at ≡ 0 }
+    ensures { Lined end_most lines.old lines.new (end_line end) }
 {
     match end {
-        End::Done => put::text(lines, 0, b"end=done\n"),
-        End::Spent => put::text(lines, 0, b"end=spent\n"),
-        End::Path => put::text(lines, 0, b"end=path\n"),
-        End::Output => put::text(lines, 0, b"end=output\n"),
+        End::Done => lines.text(b"end=done\n"),
+        End::Spent => lines.text(b"end=spent\n"),
+        End::Path => lines.text(b"end=path\n"),
+        End::Output => lines.text(b"end=output\n"),
     }
 }
 
-fn tally_lines(lines: &mut [u8], at: usize, t: Tallies) -> usize
-    requires { at ≤ end_most }
-    ensures { Lined closing_most lines.old lines.new at (tally_lines t) result }
+fn tally_lines(lines: &mut Writer, t: Tallies)
+    requires { lines.old.at ≤ end_most }
+    ensures { Lined closing_most lines.old lines.new (tally_lines t) }
 {
-    let p = put::field(lines, at, b"nodes=", t.nodes as u64);
-    let q = put::field(lines, p, b"answers=", t.answers as u64);
-    let s = put::field(lines, q, b"errors=", t.errors as u64);
-    put::field(lines, s, b"fails=", t.fails as u64)
+    lines.field(b"nodes=", t.nodes as u64);
+    lines.field(b"answers=", t.answers as u64);
+    lines.field(b"errors=", t.errors as u64);
+    lines.field(b"fails=", t.fails as u64);
 }
 
-fn refusal_lines(lines: &mut [u8], number: u32, place: usize) -> usize
-    ensures { Lined closing_most lines.old lines.new 0 (refusal_lines number place) result }
+fn refusal_lines(lines: &mut Writer, refusal: Refusal)
+    requires { lines.old.at ≡ 0 }
+    ensures { Lined closing_most lines.old lines.new (refusal_lines refusal.0 refusal.1) }
 {
-    let p = put::field(lines, 0, b"refused=", number as u64);
-    put::field(lines, p, b"at=", place as u64)
+    let number = refusal.number();
+    let place = refusal.place();
+    lines.field(b"refused=", number as u64);
+    lines.field(b"at=", place as u64);
+}
+
+fn closing_lines(lines: &mut Writer, outcome: &Result<Ran, Refusal>)
+    requires { lines.old.at ≡ 0 }
+    ensures { Lined closing_most lines.old lines.new (closing outcome.now) }
+{
+    match outcome {
+        Err(refusal) => refusal_lines(lines, *refusal),
+        Ok(ran) => {
+            end_line(lines, ran.end);
+            tally_lines(lines, ran.tallies);
+        }
+    }
 }
 
 // How the run ended and the four tallies, or the refusal, from the start of the memory. Gives their length.
-pub fn closing(outcome: Outcome, lines: &mut [u8; CLOSING]) -> usize
-    ensures { Closed outcome lines.old lines.new result }
+pub fn closing(outcome: &Result<Ran, Refusal>, lines: &mut [u8; CLOSING]) -> usize
+    ensures { Closed outcome.now lines.old lines.new result }
 {
-    match outcome {
-        Outcome::Refused { number, place } => refusal_lines(lines, number, place),
-        Outcome::Ran {
-            end,
-            tallies,
-            written: _,
-        } => {
-            let p = end_line(lines, end);
-            tally_lines(lines, p, tallies)
-        }
-    }
+    let mut written = Writer::new(lines);
+    closing_lines(&mut written, outcome);
+    written.at
 }
 
 // ---- the page
 
 // The bytes written of the output.
-pub fn written(outcome: Outcome) -> usize
-    ensures { result ≡ written_of outcome }
+pub fn written(outcome: &Result<Ran, Refusal>) -> usize
+    ensures { result ≡ written_of outcome.now }
 {
     match outcome {
-        Outcome::Refused {
-            number: _,
-            place: _,
-        } => 0,
-        Outcome::Ran {
-            end: _,
-            tallies: _,
-            written,
-        } => written,
+        Ok(ran) => ran.written,
+        Err(_) => 0,
     }
 }
 
@@ -114,9 +116,8 @@ pub fn run_box(
         skip: SKIP,
     };
     let outcome = vodlasim::run(sheet, setting, work, output);
-    let count = closing(outcome, lines);
     Page {
-        listing: written(outcome),
-        closing: count,
+        listing: written(&outcome),
+        closing: closing(&outcome, lines),
     }
 }

@@ -7,15 +7,14 @@ use mathlib.Core.Bool.{Bool, true, false, ◌&&◌}
 use mathlib.Core.List.{List}
 use lib.ListN.{length, replicate}
 use lib.Dec.{leb}
-use borrow.Author.Tests.{leb-true, le-leb, lt-leb}
-use Rattle.specification.specs.declared.Move.{Move}
-use Rattle.specification.specs.declared.Move.TheVariants as moves
+use borrow.Author.Tests.{leb-true}
+use Rattle.std.specs.Prelude.{Ok, Err}
 use Rattle.specification.specs.Bytes.{Bytes, bytes, between}
 use Rattle.specification.specs.Parser.{Reader, Read, refused, found}
 use Rattle.specification.specs.Sheet.{Sheet, read_with}
 use Rattle.specification.specs.Text.{text_of}
 use Rattle.specification.specs.Outcome.{words_after}
-use Rattle.specification.specs.Moves.{Result, refusal, longest_sheet, words_to_move, read_only, admitted, after_reading, move_up, move_down, tidy, outcome, output_after}
+use Rattle.specification.specs.Moves.{Result, refusal, longest_sheet, words_to_move, read_only, admitted, after_reading, move_up, move_down, tidy, Move, outcome, output_after}
 use Rattle.specification.proofs.Laws.Contradiction.{contradiction}
 use Rattle.specification.proofs.Laws.Parser.{and-true}
 use Rattle.specification.proofs.Laws.ReadSheet.{read-well-formed}
@@ -23,7 +22,7 @@ use Rattle.specification.proofs.Laws.SheetText.{read-text, strict-orderly}
 use Rattle.specification.proofs.Laws.Admitted.{only-read, admitted-found}
 use Rattle.specification.proofs.Laws.Moves.{all-ranges}
 use Rattle.tables.specs.Layout.{Words, path_at}
-use Rattle.sheet.specs.declared.Reading.TheVariants as reading
+use Rattle.sheet.specs.declared.Reading.{Reading}
 use Rattle.sheet.specs.Whole.{reading_of, words_of}
 use Rattle.sheet.proofs.Tables.{tables-length}
 use Rattle.sheet.proofs.ReadSheet.{read-counts}
@@ -36,18 +35,13 @@ use Rattle.mover.proofs.Laws.MovedText.{head-long, up-result, down-result, tidy-
 use Rattle.vodlasim.specs.Lent.{lent}
 use Rattle.vodlasim.specs.Moved.{Moved}
 use Rattle.vodlasim.specs.Ways.{way_of, edition_of, strict_on, sheet_result}
+use Rattle.vodlasim.proofs.Runs.{same-refusal, reading_is}
 
 -- ---- the memory
 
 module _ (words size : ℕ) where
   abbrev enough : Bool
   enough = leb longest_sheet size && leb words_to_move words
-
-  pub little : size < longest_sheet → enough ≡ false
-  little h = ap (λ t. t && leb words_to_move words) (lt-leb longest_sheet size h)
-
-  pub much : longest_sheet ≤ size → enough ≡ leb words_to_move words
-  much h = ap (λ t. t && leb words_to_move words) (le-leb longest_sheet size h)
 
   pub words-enough : enough ≡ true → words_to_move ≤ words
   words-enough e = leb-true words_to_move words (and-true (leb longest_sheet size) (leb words_to_move words) e).1
@@ -75,7 +69,7 @@ module _ (strict : Bool) (edition : ℕ) (sheet : Bytes) (words size : ℕ) wher
   reads_only e l = rw (e, l)
 
 -- a sheet was read on its way: these are its numbers and the words
-module _ (way : Way) (sheet : Bytes) (words size scalars arrays tokens formula : ℕ) (w : Words) where
+module _ (way : Way) (sheet : Bytes) (words size : ℕ) (d : Reading) (w : Words) where
   abbrev admits-way : Read Sheet
   admits-way = admitted (strict_on way) (edition_of way) sheet words size
 
@@ -85,9 +79,9 @@ module _ (way : Way) (sheet : Bytes) (words size scalars arrays tokens formula :
     pub admits : admits-way ≡ found what reader
     pub is_read : read_with (strict_on way) sheet ≡ found what reader
     pub written : what.declared.edition ≡ edition_of way
-    pub ranges : scalars + arrays ≡ what.declared.scalars + length what.declared.arrays
+    pub ranges : d.scalars + d.arrays ≡ what.declared.scalars + length what.declared.arrays
     pub table : Tabled what w
-    pub few : (scalars ≤ 64) × (arrays ≤ 16)
+    pub few : (d.scalars ≤ 64) × (d.arrays ≤ 16)
     pub room : longest_sheet ≤ size
     pub movable : Movable sheet w
 
@@ -96,10 +90,10 @@ module _ (way : Way) (sheet : Bytes) (words size scalars arrays tokens formula :
   known-edition Down = refl
   known-edition Tidy = refl
 
-  pub known-sheet : reading.Read scalars arrays tokens formula ≡ reading_of admits-way → w ≡ words_of words admits-way → Known
+  pub known-sheet : Ok d ≡ reading_of admits-way → w ≡ words_of words admits-way → Known
   known-sheet is holds = go admits-way refl is holds
     where
-      go : (x : Read Sheet) → admits-way ≡ x → reading.Read scalars arrays tokens formula ≡ reading_of x → w ≡ words_of words x → Known
+      go : (x : Read Sheet) → admits-way ≡ x → Ok d ≡ reading_of x → w ≡ words_of words x → Known
       go (refused n p) e f h = contradiction cc
       go (found s r) e f h =
           let strict = strict_on way in
@@ -108,10 +102,11 @@ module _ (way : Way) (sheet : Bytes) (words size scalars arrays tokens formula :
           let well = read-well-formed strict sheet s r reads in
           let count = read-counts strict sheet s r reads in
           let enough : path_at ≤ words = a.enough.0 in
-          let v : scalars ≡ s.declared.scalars = cc in
-          let u : arrays ≡ length s.declared.arrays = cc in
+          let same : d ≡ reading_is s = cc in
+          let v : d.scalars ≡ s.declared.scalars = ap (λ x. x.scalars) same in
+          let u : d.arrays ≡ length s.declared.arrays = ap (λ x. x.arrays) same in
           let long : length w ≡ words = ap length h ∙ tables-length s words enough count.few in
-          let few : (scalars ≤ 64) × (arrays ≤ 16) = (rw v well.limits.scalars, rw u well.limits.arrays) in
+          let few : (d.scalars ≤ 64) × (d.arrays ≤ 16) = (rw v well.limits.scalars, rw u well.limits.arrays) in
           record {
             what = s;
             reader = r;
@@ -155,32 +150,31 @@ module _ (way : Way) (sheet : Bytes) (w : List ℕ) (o : Bytes) where
   gives-here x e = way_parts way sheet (length w) (length o) ∙ ap (after_reading (sheet_result way)) e
 
   -- a sheet that is not admitted
-  pub refused-answers : (w' : List ℕ) (n p : ℕ) → reading.Refused n p ≡ reading_of admits-here → w' ≡ words_of (length w) admits-here →
-      Moved (way_of way) sheet (lent w w') (lent o o) (moves.Refused n p)
+  pub refused-answers : (w' : List ℕ) (n p : ℕ) → Err (n, p) ≡ reading_of admits-here → w' ≡ words_of (length w) admits-here →
+      Moved (way_of way) sheet (lent w w') (lent o o) (Err (n, p))
   unfolding words_after output_after
   refused-answers w' n p e h = go admits-here refl e h
     where
-      go : (x : Read Sheet) → admits-here ≡ x → reading.Refused n p ≡ reading_of x → w' ≡ words_of (length w) x →
-          Moved (way_of way) sheet (lent w w') (lent o o) (moves.Refused n p)
+      go : (x : Read Sheet) → admits-here ≡ x → Err (n, p) ≡ reading_of x → w' ≡ words_of (length w) x →
+          Moved (way_of way) sheet (lent w w') (lent o o) (Err (n, p))
       go (refused m q) f e h =
-          let a : m ≡ n = cc in
-          let b : q ≡ p = cc in
-          let g : way_of way sheet (length w) (length o) ≡ refusal n p = gives-here (refused m q) f ∙ rw (a, b) in
+          let (a, b) = same-refusal e in
+          let g : way_of way sheet (length w) (length o) ≡ refusal n p = gives-here (refused m q) f ∙ rw (a, b) refl in
           record { result = rw g; output = rw g; work = h }
       go (found s r) f e h = contradiction cc
 
   -- one that is admitted, where the mover did this and the words v were cleared
-  pub moved-answers : (scalars arrays tokens formula : ℕ) (v w' : List ℕ) (o' : Bytes) (r : Move) →
-      reading.Read scalars arrays tokens formula ≡ reading_of admits-here → v ≡ words_of (length w) admits-here →
-      Done (moved_result way (scalars + arrays) v sheet) r o o' → w' ≡ replicate (length w) 0 → Moved (way_of way) sheet (lent w w') (lent o o') r
+  pub moved-answers : (d : Reading) (v w' : List ℕ) (o' : Bytes) (r : Move) →
+      Ok d ≡ reading_of admits-here → v ≡ words_of (length w) admits-here →
+      Done (moved_result way (d.scalars + d.arrays) v sheet) r o o' → w' ≡ replicate (length w) 0 → Moved (way_of way) sheet (lent w w') (lent o o') r
   unfolding words_after
-  moved-answers scalars arrays tokens formula v w' o' r e h d z =
-      let k = known-sheet way sheet (length w) (length o) scalars arrays tokens formula v e h in
+  moved-answers d v w' o' r e h done z =
+      let k = known-sheet way sheet (length w) (length o) d v e h in
       let s = k.what in
       let n = s.declared.scalars + length s.declared.arrays in
-      let f : moved_result way (scalars + arrays) v sheet ≡ sheet_result way s =
+      let f : moved_result way (d.scalars + d.arrays) v sheet ≡ sheet_result way s =
       ap (λ (m : ℕ). moved_result way m v sheet) k.ranges
       ∙ ap (moved_result way n v) (read-text (strict_on way) sheet k.is_read)
       ∙ written-result way sheet s k.reader v k.is_read k.written k.table in
       let g : way_of way sheet (length w) (length o) ≡ sheet_result way s = gives-here (found s k.reader) k.admits in
-      record { result = d.0 ∙ ap outcome (f ∙ sym g); output = d.1 ∙ ap (λ (x : Result). output_after x o) (f ∙ sym g); work = z }
+      record { result = done.0 ∙ ap outcome (f ∙ sym g); output = done.1 ∙ ap (λ (x : Result). output_after x o) (f ∙ sym g); work = z }

@@ -4,14 +4,13 @@ use mathlib.Core.Path.{◌≡◌, refl, sym, ◌∙◌, ap, subst}
 use mathlib.Core.List.{◌++◌}
 use lib.ListN.{length, take, drop}
 use lib.Seq.{take_at, drop_at}
+use Rattle.std.specs.Prelude.{Ok, Err}
 use Rattle.specification.specs.declared.Setting.{Setting}
 use Rattle.specification.specs.declared.Tallies.{Tallies}
 use Rattle.specification.specs.declared.End.{End}
 use Rattle.specification.specs.declared.End.TheVariants.{Done}
-use Rattle.specification.specs.declared.Outcome.{Outcome}
-use Rattle.specification.specs.declared.Outcome.TheVariants.{Refused, Ran}
 use Rattle.specification.specs.Bytes.{Bytes}
-use Rattle.specification.specs.Outcome.{Result, refusal, ran, call, written, outcome, output_after, words_after}
+use Rattle.specification.specs.Outcome.{Result, refusal, ran, call, written, Outcome, ended, outcome, output_after, words_after}
 use Rattle.specification.specs.Report.{report_of}
 use Rattle.specification.proofs.Laws.Contradiction.{contradiction}
 use Rattle.specification.proofs.Laws.Demand3.{Told, told}
@@ -20,21 +19,22 @@ use Rattle.specification.proofs.Laws.CutShort.{shorter-refused}
 use Rattle.specification.proofs.Laws.Whole.{whole-blocks}
 use Rattle.vodlasim.specs.Lent.{Lent}
 use Rattle.vodlasim.specs.Answered.{Answered}
+use Rattle.vodlasim.proofs.Runs.{same-refusal}
 use Rattle.vodlasim.specs.Demands.{Memory, Lists, Agrees, KeepsRanges, CutShort}
 
 -- a result by its outcome
-ran-of : (x : Result) (e : End) (t : Tallies) (n : ℕ) → outcome x ≡ Ran e t n → (w : Bytes) × (x ≡ ran e t w) × (length w ≡ n)
+pub ran-of : (x : Result) (e : End) (t : Tallies) (n : ℕ) → outcome x ≡ Ok (ended e t n) → (w : Bytes) × (x ≡ ran e t w) × (length w ≡ n)
 ran-of (refusal k p) e t n h = contradiction cc
 ran-of (ran e' t' w) e t n h =
-    let p : e' ≡ e = cc in
-    let q : t' ≡ t = cc in
-    (w, ap (λ x. ran x t' w) p ∙ ap (λ x. ran e x w) q, cc)
+    let same : ended e' t' (length w) ≡ ended e t n = cc in
+    let p : e' ≡ e = ap (λ x. x.end) same in
+    let q : t' ≡ t = ap (λ x. x.tallies) same in
+    (w, ap (λ x. ran x t' w) p ∙ ap (λ x. ran e x w) q, ap (λ x. x.written) same)
 
-refused-of : (x : Result) (k p : ℕ) → outcome x ≡ Refused k p → x ≡ refusal k p
+pub refused-of : (x : Result) (k p : ℕ) → outcome x ≡ Err (k, p) → x ≡ refusal k p
 refused-of (refusal k' p') k p h =
-    let a : k' ≡ k = cc in
-    let b : p' ≡ p = cc in
-    ap (λ x. refusal x p') a ∙ ap (refusal k) b
+    let (a, b) = same-refusal h in
+    rw (a, b) refl
 refused-of (ran e t w) k p h = contradiction cc
 
 module _ (sheet : Bytes) (S : Setting) (work output : Lent) (r : Outcome) (a : Answered sheet S work output r) where
@@ -42,14 +42,14 @@ module _ (sheet : Bytes) (S : Setting) (work output : Lent) (r : Outcome) (a : A
   result = call sheet S (length work.before) (length output.before)
 
   -- what stands in the output where the call ran
-  pub stands : (e : End) (t : Tallies) (n : ℕ) → r ≡ Ran e t n →
+  pub stands : (e : End) (t : Tallies) (n : ℕ) → r ≡ Ok (ended e t n) →
       (w : Bytes) × (result ≡ ran e t w) × (length w ≡ n) × (output.after ≡ w ++ drop n output.before)
   unfolding output_after
   stands e t n h =
       let (w, is, count) = ran-of result e t n (sym a.result ∙ h) in
       (w, is, count, a.output ∙ ap (λ x. written x ++ drop (length (written x)) output.before) is ∙ ap (λ k. w ++ drop k output.before) count)
 
-  refused_as : (k p : ℕ) → r ≡ Refused k p → result ≡ refusal k p
+  refused_as : (k p : ℕ) → r ≡ Err (k, p) → result ≡ refusal k p
   refused_as k p h = refused-of result k p (sym a.result ∙ h)
 
   pub memory : Memory sheet S work output r
@@ -68,7 +68,7 @@ module _ (sheet : Bytes) (S : Setting) (work output : Lent) (r : Outcome) (a : A
   }
 
   -- what a call that ran has told, over the bytes that stand in the output
-  ran-told : (e : End) (t : Tallies) (n : ℕ) → r ≡ Ran e t n → Told sheet (take n output.after) S (length output.before) e t
+  ran-told : (e : End) (t : Tallies) (n : ℕ) → r ≡ Ok (ended e t n) → Told sheet (take n output.after) S (length output.before) e t
   ran-told e t n h =
       let (w, is, count, bytes) = stands e t n h in
       subst (λ x. Told sheet x S (length output.before) e t) (sym (ap (take n) bytes ∙ take_at w (drop n output.before) n count))

@@ -6,18 +6,15 @@ use mathlib.Core.Bool.{Bool, true, false}
 use mathlib.Core.Logic.{inl, inr, ⊎_elim}
 use lib.ListN.{length, take, drop}
 use lib.Seq.{take-append_seam, drop-append_seam}
+use Rattle.std.specs.Prelude.{Ok, Err}
 use Rattle.specification.specs.declared.Setting.{Setting}
-use Rattle.specification.specs.declared.Outcome.{Outcome}
-use Rattle.specification.specs.declared.Outcome.TheVariants as outcomes
-use Rattle.specification.specs.declared.Move.{Move}
-use Rattle.specification.specs.declared.Move.TheVariants as move
 use Rattle.specification.specs.Bytes.{Bytes}
 use Rattle.specification.specs.Parser.{Read, refused, found}
 use Rattle.specification.specs.Sheet.{Sheet}
 use Rattle.specification.specs.Outcome as run
-use Rattle.specification.specs.Outcome.{words_after, call_with}
+use Rattle.specification.specs.Outcome.{words_after, call_with, Outcome}
 use Rattle.specification.specs.Tidy.{tidied}
-use Rattle.specification.specs.Moves.{older, newer, raised, lowered, Result, refusal, moved, longest_sheet, admitted, after_reading, move_up, move_down, tidy, outcome, output_after}
+use Rattle.specification.specs.Moves.{older, newer, raised, lowered, Result, refusal, moved, longest_sheet, admitted, after_reading, move_up, move_down, tidy, Move, outcome, output_after}
 use Rattle.specification.specs.Moving.{Way, Carries, Moves, Accepted, Settles, Orderly, ThereAndBack, ListsAlike, RunsAsBefore}
 use Rattle.specification.proofs.Laws.Contradiction.{contradiction}
 use Rattle.specification.proofs.Laws.CallRan.{call-ran}
@@ -27,6 +24,8 @@ use Rattle.specification.proofs.Laws.AsBefore as before
 use Rattle.vodlasim.specs.Lent.{Lent}
 use Rattle.vodlasim.specs.Answered.{Answered}
 use Rattle.vodlasim.specs.Moved.{Moved}
+use Rattle.vodlasim.proofs.Runs.{same-refusal}
+use Rattle.vodlasim.proofs.Demands.{ran-of, refused-of}
 use Rattle.vodlasim.specs.Moves.{moved_sheet, MoveMemory, PassRefuses, MovesSheet, BackAgain, Settled, LeftAlone, Runs, RunAlike, told, RunAsBefore, RunKept}
 
 -- ---- what a call shows of a move
@@ -39,7 +38,7 @@ record Shown (x : Result) (o o' : Bytes) (n : ℕ) : Type 0 where
   stands : take n o' ≡ sheet
   rest : drop n o' ≡ drop n o
 
-shown : (x : Result) (o o' : Bytes) (n : ℕ) → move.Moved n ≡ outcome x → o' ≡ output_after x o → Shown x o o' n
+shown : (x : Result) (o o' : Bytes) (n : ℕ) → Ok n ≡ outcome x → o' ≡ output_after x o → Shown x o o' n
 unfolding output_after
 shown (refusal k p) o o' n e f = contradiction cc
 shown (moved t) o o' n e f =
@@ -52,15 +51,15 @@ shown (moved t) o o' n e f =
       rest = rw (sym l, f) (drop-append_seam t (drop (length t) o));
     }
 
-refused-is : (x : Result) (n p : ℕ) → move.Refused n p ≡ outcome x → x ≡ refusal n p
-refused-is (refusal m q) n p e = let a : m ≡ n = cc in let b : q ≡ p = cc in rw (a, b)
+refused-is : (x : Result) (n p : ℕ) → Err (n, p) ≡ outcome x → x ≡ refusal n p
+refused-is (refusal m q) n p e = let (a, b) = same-refusal e in rw (a, b) refl
 refused-is (moved t) n p e = contradiction cc
 
 module _ {way : Way} {sheet : Bytes} {work output : Lent} {r : Move} (h : Moved way sheet work output r) where
   abbrev gives : Result
   gives = way sheet (length work.before) (length output.before)
 
-  shows : (n : ℕ) → r ≡ move.Moved n → Shown gives output.before output.after n
+  shows : (n : ℕ) → r ≡ Ok n → Shown gives output.before output.after n
   shows n e = shown gives output.before output.after n (sym e ∙ h.result) h.output
 
 -- ---- lent memory
@@ -138,7 +137,7 @@ pub pass-refuses : PassRefuses
 pass-refuses sheet w o w' o' r r' h k lw lo n p =
     let law = laws.refuses-as-back sheet (length w.before) (length o.before) n p in
     let back : gives k ≡ move_down sheet (length w.before) (length o.before) = rw (lw, lo) in
-    let told : (m q : ℕ) → move_down sheet (length w.before) (length o.before) ≡ refusal m q → r' ≡ move.Refused m q =
+    let told : (m q : ℕ) → move_down sheet (length w.before) (length o.before) ≡ refusal m q → r' ≡ Err (m, q) =
     λ m q e. k.result ∙ ap outcome (back ∙ e) in (
       λ e. ⊎_elim (λ x. inl (told n p x)) (λ x. inr (x.0, told 17 x.0 x.1)) (law.0 (refused-is (gives h) n p (sym e ∙ h.result))),
       λ e. ⊎_elim (λ x. inl x) (λ x. inr (h.result ∙ ap outcome x)) (law.1 (sym back ∙ refused-is (gives k) n p (sym e ∙ k.result))),
@@ -148,7 +147,7 @@ pass-refuses sheet w o w' o' r r' h k lw lo n p =
 
 -- a call with what another wrote, where the way gives these bytes for it
 returned : {way : Way} {sheet t : Bytes} {work output : Lent} {r : Move} (h : Moved way t work output r) → gives h ≡ moved sheet →
-    (r ≡ move.Moved (length sheet)) × (moved_sheet (length sheet) output ≡ sheet)
+    (r ≡ Ok (length sheet)) × (moved_sheet (length sheet) output ≡ sheet)
 unfolding output_after
 returned {sheet = sheet} {output = output} h f = (
   h.result ∙ ap outcome f,
@@ -176,7 +175,7 @@ settled law sheet work output r h n e work' output' r' k enough =
     returned k
     (ap (λ (t : Bytes). tidy t (length work'.before) (length output'.before)) s.stands
     ∙ law sheet s.sheet (length work.before) (length output.before) s.is (length work'.before) (length output'.before) enough) in
-    (x ∙ ap move.Moved s.long, ap (λ (m : ℕ). moved_sheet m output') (sym s.long) ∙ y ∙ sym s.stands)
+    (x ∙ ap Ok s.long, ap (λ (m : ℕ). moved_sheet m output') (sym s.long) ∙ y ∙ sym s.stands)
 
 pub up-settled : Settled move_up
 up-settled = settled laws.up-settles
@@ -188,13 +187,9 @@ tidy-settled = settled laws.tidy-settles
 pub tidy-leaves : LeftAlone
 tidy-leaves sheet S w o e t m a work output r h n f =
     let s = shows h n f in
-    let (x, b, reads, ran) = call-ran sheet S (length w.before) (length o.before) e t _ (ran-is _ a.result) in
+    let (x, b, reads, ran) = call-ran sheet S (length w.before) (length o.before) e t _ (ran-of _ e t m (sym a.result)).1 in
     let same : s.sheet ≡ sheet = laws.tidy-accepts sheet x b reads s.sheet (length work.before) (length output.before) s.is in
     (sym s.long ∙ ap length same, s.stands ∙ same)
-  where
-    ran-is : (y : run.Result) → outcomes.Ran e t m ≡ run.outcome y → y ≡ run.ran e t (run.written y)
-    ran-is (run.refusal k p) g = contradiction cc
-    ran-is (run.ran e' t' v) g = let i : e' ≡ e = cc in let j : t' ≡ t = cc in rw (i, j)
 
 -- ---- runs before and after
 
@@ -202,11 +197,7 @@ runs : {way : Way} → Accepted way → Runs way
 runs law sheet work output r h n e S w o x a k p f =
     let s = shows h n e in
     law sheet s.sheet (length work.before) (length output.before) s.is S (length w.before) (length o.before) k p
-    (ap (λ (t : Bytes). run.call t S (length w.before) (length o.before)) (sym s.stands) ∙ refusal_is _ (sym f ∙ a.result))
-  where
-    refusal_is : (y : run.Result) → outcomes.Refused k p ≡ run.outcome y → y ≡ run.refusal k p
-    refusal_is (run.refusal m q) g = let i : m ≡ k = cc in let j : q ≡ p = cc in rw (i, j)
-    refusal_is (run.ran e' t v) g = contradiction cc
+    (ap (λ (t : Bytes). run.call t S (length w.before) (length o.before)) (sym s.stands) ∙ refused-of _ k p (sym a.result ∙ f))
 
 pub up-runs : Runs move_up
 up-runs = runs laws.up-accepted

@@ -5,15 +5,14 @@ use mathlib.Core.Path.{◌≡◌, refl, sym, ◌∙◌, ap, subst}
 use mathlib.Core.Logic.{◌⊎◌, inl, inr}
 use mathlib.Core.List.{List, [], ◌∷◌, ◌++◌}
 use lib.ListN.{length, drop}
+use Rattle.std.specs.Prelude.{Ok}
 use Rattle.specification.specs.declared.End.TheVariants.{Output}
-use Rattle.specification.specs.declared.Outcome.{Outcome}
-use Rattle.specification.specs.declared.Outcome.TheVariants.{Ran}
 use Rattle.specification.specs.Bytes.{Bytes}
 use Rattle.specification.specs.Parser.{Reader, found}
 use Rattle.specification.specs.Sheet.{Sheet, read}
 use Rattle.specification.specs.Listing.{Block, listing_text}
 use Rattle.specification.specs.Run.{setting}
-use Rattle.specification.specs.Outcome.{ran, words_for, call, written, outcome, output_after}
+use Rattle.specification.specs.Outcome.{ran, words_for, call, written, Outcome, ended, outcome, output_after}
 use Rattle.specification.specs.Demand2.{listed_before}
 use Rattle.specification.proofs.Laws.Blocks.{listing_text-++}
 use Rattle.specification.proofs.Laws.CallRan.{every-refused}
@@ -121,7 +120,7 @@ module _ (sheet : Bytes) (limit budget : ℕ) where
   pub parts-answered : (ps : List Plot) (last : Plot) → InParts (Shown sheet limit budget) 0 ps last →
       (work output : Lent) (r : Outcome) → Answered sheet (setting limit budget 0) work output r →
       words_for limit ≤ length work.before → length (joined ps last) ≤ length output.before →
-      (r ≡ Ran last.end last.tallies (length (joined ps last))) ×
+      (r ≡ Ok (ended last.end last.tallies (length (joined ps last)))) ×
       (output.after ≡ joined ps last ++ drop (length (joined ps last)) output.before)
   unfolding output_after
   parts-answered ps last h work output r a enough room =

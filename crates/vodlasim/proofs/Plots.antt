@@ -5,17 +5,17 @@ use mathlib.Core.Logic.{◌⊎◌, inl, inr}
 use mathlib.Core.List.{List}
 use lib.ListN.{length, take, drop}
 use lib.Seq.{take_at}
+use Rattle.std.specs.Prelude.{Ok}
 use Rattle.specification.specs.declared.Setting.{Setting}
 use Rattle.specification.specs.declared.Tallies.{Tallies}
 use Rattle.specification.specs.declared.End.{End}
 use Rattle.specification.specs.declared.End.TheVariants.{Done, Spent, Path, Output}
-use Rattle.specification.specs.declared.Outcome.TheVariants.{Ran}
 use Rattle.specification.specs.Bytes.{Bytes}
 use Rattle.specification.specs.Parser.{Reader, found}
 use Rattle.specification.specs.Sheet.{Sheet, read}
 use Rattle.specification.specs.Listing.{Block, listing_text}
 use Rattle.specification.specs.Run.{setting, Run, going, stopped}
-use Rattle.specification.specs.Outcome.{ran, end_of, result_of, run_of, words_for, call}
+use Rattle.specification.specs.Outcome.{ran, end_of, result_of, run_of, words_for, call, ended}
 use Rattle.specification.specs.Demand2.{ReadLeftToRight}
 use Rattle.specification.proofs.Laws.Contradiction.{contradiction}
 use Rattle.specification.proofs.Laws.CallRan.{call-ran, every-runs}
@@ -81,22 +81,22 @@ module _ (sheet : Bytes) (limit budget : ℕ) where
 -- ---- of the public call
 
 -- each run of it that is not refused is a plot
-pub plots : (sheet : Bytes) (S : Setting) (work output : Lent) (e : End) (t : Tallies) (n : ℕ) → Answered sheet S work output (Ran e t n) →
+pub plots : (sheet : Bytes) (S : Setting) (work output : Lent) (e : End) (t : Tallies) (n : ℕ) → Answered sheet S work output (Ok (ended e t n)) →
     (p : Plot) × Shown sheet S.path S.budget p × (p.skip ≡ S.skip) × (p.end ≡ e) × (p.tallies ≡ t) × (length (bytes_of p) ≡ n)
 plots sheet S work output e t n a =
-    let (w, is, count, bytes) = stands sheet S work output (Ran e t n) a e t n refl in
+    let (w, is, count, bytes) = stands sheet S work output (Ok (ended e t n)) a e t n refl in
     let (bs, whole, fits) = whole-blocks sheet S (length work.before) (length output.before) e t w is in
     let long : length (listing_text bs) ≡ n = ap length (sym whole) ∙ count in
     let p : Plot = record { skip = S.skip; words = length work.before; size = length output.before; end = e; tallies = t; blocks = bs } in
     let top : take (length (listing_text bs)) output.after ≡ listing_text bs =
     ap (λ k. take k output.after) long ∙ ap (take n) bytes ∙ take_at w (drop n output.before) n count ∙ whole in
-    (p, (work, output, refl, refl, subst (λ k. Answered sheet S work output (Ran e t k)) (sym long) a, top), refl, refl, refl, long)
+    (p, (work, output, refl, refl, subst (λ k. Answered sheet S work output (Ok (ended e t k))) (sym long) a, top), refl, refl, refl, long)
 
 -- and it is what `call` gives
 pub shown-plotted : (sheet : Bytes) (limit budget : ℕ) (p : Plot) → Shown sheet limit budget p → Plotted call sheet limit budget p
 shown-plotted sheet limit budget p (work, output, words, size, a, top) =
     let S = setting limit budget p.skip in
     let n = length (bytes_of p) in
-    let (w, is, count, bytes) = stands sheet S work output (Ran p.end p.tallies n) a p.end p.tallies n refl in
+    let (w, is, count, bytes) = stands sheet S work output (Ok (ended p.end p.tallies n)) a p.end p.tallies n refl in
     let same : w ≡ bytes_of p = sym (take_at w (drop n output.before) n count) ∙ ap (take n) (sym bytes) ∙ top in
     ap (λ k. call sheet S k p.size) words ∙ ap (call sheet S (length work.before)) size ∙ is ∙ ap (ran p.end p.tallies) same

@@ -2,9 +2,8 @@
 -- sheet, each setting and each length of the lent slices. Assumes nothing.
 use Rattle.std.specs.Prelude.{◌≡◌, length}
 use Rattle.specification.specs.declared.Setting.{Setting}
-use Rattle.specification.specs.declared.Outcome.{Outcome}
 use Rattle.specification.specs.Bytes.{Bytes}
-use Rattle.specification.specs.Outcome.{call, outcome, output_after, words_after}
+use Rattle.specification.specs.Outcome.{call, Outcome, outcome, output_after, words_after}
 use Rattle.vodlasim.specs.Lent.{Lent}
 
 pub record Answered (sheet : Bytes) (S : Setting) (w o : Lent) (r : Outcome) : Type 0 where

@@ -1,11 +1,10 @@
 -- A long listing in several plots (document 02, Five): the law of parts, progress, and the skip of the next part, over what a box gives for a
 -- call and the bytes that it wrote. The theorems, over the call and every sheet of whatever bytes, are in proofs/Parts.antt. Assumes nothing.
-use Rattle.std.specs.Prelude.{ℕ, ◌+◌, ◌≤◌, ◌<◌, ◌≡◌, List, [], ◌∷◌, ◌++◌, length, take}
+use Rattle.std.specs.Prelude.{ℕ, ◌+◌, ◌≤◌, ◌<◌, ◌≡◌, List, [], ◌∷◌, ◌++◌, length, take, Ok}
 use Rattle.specification.specs.declared.Setting.{Setting}
 use Rattle.specification.specs.declared.Tallies.{Tallies}
 use Rattle.specification.specs.declared.End.{End}
 use Rattle.specification.specs.declared.End.TheVariants.{Output}
-use Rattle.specification.specs.declared.Outcome.TheVariants.{Ran}
 use Rattle.specification.specs.Lists.{Each}
 use Rattle.specification.specs.Bytes.{Bytes}
 use Rattle.specification.specs.Parser.{Reader, found}
@@ -13,7 +12,7 @@ use Rattle.specification.specs.Sheet.{Sheet, read}
 use Rattle.specification.specs.Listing.{Block, block_text, listing_text}
 use Rattle.specification.specs.Leaves.{leaves, blocks}
 use Rattle.specification.specs.Run.{setting}
-use Rattle.specification.specs.Outcome.{Result, refusal, ran, root_of, words_for}
+use Rattle.specification.specs.Outcome.{Result, refusal, ran, root_of, words_for, ended}
 use Rattle.specification.specs.Demand2.{past}
 use Rattle.vodlasim.specs.Lent.{Lent}
 use Rattle.vodlasim.specs.Answered.{Answered}
@@ -108,5 +107,5 @@ module _ (box : Box) (sheet : Bytes) (limit budget : ℕ) where
 abbrev pub Shown : Bytes → ℕ → ℕ → Plot → Type 0
 Shown sheet limit budget p =
     (work output : Lent) × (p.words ≡ length work.before) × (p.size ≡ length output.before) ×
-    Answered sheet (setting limit budget p.skip) work output (Ran p.end p.tallies (length (bytes_of p))) ×
+    Answered sheet (setting limit budget p.skip) work output (Ok (ended p.end p.tallies (length (bytes_of p)))) ×
     (take (length (bytes_of p)) output.after ≡ bytes_of p)

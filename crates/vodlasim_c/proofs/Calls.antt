@@ -6,11 +6,11 @@ use mathlib.Core.Path.{◌≡◌, refl, sym, ap, ◌∙◌}
 use lib.ListN.{length, take, length-append}
 use Rattle.specification.specs.Bytes.{Bytes}
 use Rattle.plotter.specs.declared.Port.{Port}
-use Rattle.plotter.specs.Port.{step, occur}
+use Rattle.plotter.specs.Port.{port_of, step, occur}
 use Rattle.plotter.specs.History.{History, action, then, play, chances, total}
 use Rattle.plotter.proofs.Laws.Sent.{a-beginning, finishes}
 use Rattle.plotter.proofs.Laws.Registers.{sum-register}
-use Rattle.vodlasim_c.specs.Port.{port_of, Calls, none, stepped, occurred}
+use Rattle.vodlasim_c.specs.Port.{Calls, none, stepped, occurred}
 
 -- the registers after the calls are those that the history leaves, and as many bytes went out
 pub calls-play :

@@ -1,17 +1,10 @@
 -- The plotter's port for C and Rust hosts: its registers as four bytes, what a step leaves in them, and the calls of a history one after the
 -- other. Assumes nothing.
-use Rattle.std.specs.Prelude.{ℕ, ◌+◌, ◌≡◌, [], ◌∷◌, length, drop, get_or}
+use Rattle.std.specs.Prelude.{ℕ, ◌+◌, ◌≡◌, [], ◌∷◌, length, drop}
 use Rattle.specification.specs.Bytes.{Bytes}
-use Rattle.plotter.specs.declared.Port.{Port}
-use Rattle.plotter.specs.Port.{Event, step, occur}
+use Rattle.plotter.specs.declared.Event.{Event}
+use Rattle.plotter.specs.Port.{port_of, bytes_of, step, occur}
 use Rattle.plotter.specs.History.{a_step, event, History}
-
--- the registers of four bytes, and the bytes of the registers
-abbrev pub port_of : Bytes → Port
-port_of r = record { status = get_or r 0 0; control = get_or r 1 0; «data» = get_or r 2 0; sum = get_or r 3 0 }
-
-abbrev pub bytes_of : Port → Bytes
-bytes_of p = p.status ∷ p.control ∷ p.«data» ∷ p.sum ∷ []
 
 -- a step over four bytes, r before and r' after it, that sends so many of the unsent bytes; those behind them are left
 pub record Sends (r r' unsent : Bytes) (n : ℕ) : Type 0 where

@@ -4,12 +4,12 @@
 mod port;
 
 ghost use Rattle.std.specs.Prelude.{◌≡◌};
-ghost use Rattle.specification.specs.Report.{end_number, report_of, move_report};
+ghost use Rattle.specification.specs.Report.{refusal_report, report_of, move_report};
 ghost use Rattle.specification.specs.Moves.{move_up, move_down, tidy};
 ghost use Rattle.vodlasim.specs.Lent.{lent};
 ghost use Rattle.vodlasim_c.specs.Report.{Reported, MoveReported};
 
-use specification::{End, Move, Outcome, Setting};
+use specification::{Ran, Refusal, Setting};
 
 // `vodlasim::run`, with its outcome in `report`, as the specification's `report_of` gives it: refused number or 0, place, the end's number,
 // nodes, answers, errors, fails, bytes written. Every length of the slices is allowed.
@@ -75,44 +75,46 @@ pub extern "C" fn vodlasim_tidy(
     *report = move_numbers(moved);
 }
 
-fn move_numbers(moved: Move) -> [u64; 8]
+// ---- reports
+
+fn refusal_numbers(refusal: Refusal) -> [u64; 8]
+    ensures { result ≡ refusal_report refusal }
+{
+    [
+        u64::from(refusal.number()),
+        refusal.place() as u64,
+        0,
+        0,
+        0,
+        0,
+        0,
+        0,
+    ]
+}
+
+fn move_numbers(moved: Result<usize, Refusal>) -> [u64; 8]
     ensures { result ≡ move_report moved }
 {
     match moved {
-        Move::Refused { number, place } => [number as u64, place as u64, 0, 0, 0, 0, 0, 0],
-        Move::Moved { written } => [0, 0, 0, 0, 0, 0, 0, written as u64],
+        Err(refusal) => refusal_numbers(refusal),
+        Ok(written) => [0, 0, 0, 0, 0, 0, 0, written as u64],
     }
 }
 
-fn numbers(outcome: Outcome) -> [u64; 8]
+fn numbers(outcome: Result<Ran, Refusal>) -> [u64; 8]
     ensures { result ≡ report_of outcome }
 {
     match outcome {
-        Outcome::Refused { number, place } => [number as u64, place as u64, 0, 0, 0, 0, 0, 0],
-        Outcome::Ran {
-            end,
-            tallies,
-            written,
-        } => [
+        Err(refusal) => refusal_numbers(refusal),
+        Ok(ran) => [
             0,
             0,
-            end_number(end),
-            tallies.nodes as u64,
-            tallies.answers as u64,
-            tallies.errors as u64,
-            tallies.fails as u64,
-            written as u64,
+            ran.end as u64,
+            u64::from(ran.tallies.nodes),
+            u64::from(ran.tallies.answers),
+            u64::from(ran.tallies.errors),
+            u64::from(ran.tallies.fails),
+            ran.written as u64,
         ],
-    }
-}
-
-fn end_number(end: End) -> u64
-    ensures { result ≡ end_number end }
-{
-    match end {
-        End::Done => 0,
-        End::Spent => 1,
-        End::Path => 2,
-        End::Output => 3,
     }
 }

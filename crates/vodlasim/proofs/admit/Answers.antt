@@ -1,8 +1,7 @@
 -- `admit` meets its contract, by the laws of Carried.
-use mathlib.Core.Path.{sym, ◌∙◌, ap}
+use mathlib.Core.Path.{refl, sym, ◌∙◌}
 use lib.ListN.{length}
 use borrow.Author.Tests.{le-leb, lt-leb}
-use Rattle.sheet.specs.Whole.{reading_of, words_of}
 use Rattle.vodlasim.proofs.Carried.{words-enough, first-refused, second-refused, reads_only}
 use Rattle.vodlasim.proofs.admit.Goals as goal
 
@@ -11,7 +10,7 @@ returns-then-not-room c =
     let a = c.args in
     let none = sym c.room.ensures ∙ c.if-not-room.true in
     let e = first-refused a.strict a.edition a.sheet.now (length a.work.now) a.size none in
-    (sym (ap reading_of e), c.clear.ensures ∙ sym (ap (words_of (length a.work.now)) e))
+    rw (c.new.ensures, e) (refl, c.clear.ensures)
 
 pub returns-then-sheet-gt-LONGEST_SHEET : goal.returns-then-sheet-gt-LONGEST_SHEET
 returns-then-sheet-gt-LONGEST_SHEET c =
@@ -19,7 +18,7 @@ returns-then-sheet-gt-LONGEST_SHEET c =
     let enough = sym c.room.ensures ∙ c.if-not-room.false in
     let long = lt-leb (length a.sheet.now) 4096 c.if-sheet-gt-LONGEST_SHEET.true in
     let e = second-refused a.strict a.edition a.sheet.now (length a.work.now) a.size enough long in
-    (sym (ap reading_of e), c.clear-then-sheet-gt-LONGEST_SHEET.ensures ∙ sym (ap (words_of (length a.work.now)) e))
+    rw (c.new-then-sheet-gt-LONGEST_SHEET.ensures, e) (refl, c.clear-then-sheet-gt-LONGEST_SHEET.ensures)
 
 pub read_only-requires : goal.read_only-requires
 read_only-requires c =
@@ -31,5 +30,4 @@ returns c =
     let a = c.args in
     let enough = sym c.room.ensures ∙ c.if-not-room.false in
     let short = le-leb (length a.sheet.now) 4096 c.if-sheet-gt-LONGEST_SHEET.false in
-    let e = reads_only a.strict a.edition a.sheet.now (length a.work.now) a.size enough short in
-    (c.read_only.ensures.0 ∙ sym (ap reading_of e), c.read_only.ensures.1 ∙ sym (ap (words_of (length a.work.now)) e))
+    rw (reads_only a.strict a.edition a.sheet.now (length a.work.now) a.size enough short) c.read_only.ensures
