@@ -8,20 +8,25 @@
 
 mod header;
 
-ghost use Rattle.std.specs.Prelude.{◌≡◌, ◌<◌, length};
+ghost use Rattle.std.specs.Prelude.{◌<◌, length, IfOk};
 
-use listing::put;
+use case_file::{Stop, print_field};
 use page::CLOSING;
-use specification::{Outcome, Setting};
+use specification::{Ran, Refusal, Setting};
 use std::io::Read;
 
 // The bytes of the longest input.
 const INPUT: usize = 655360;
 
+// The most that is lent.
+const WORDS: usize = 399360;
+
+const OUTPUT: usize = 65536;
+
 fn main(rt: HostRuntime) {
     let mut cases = [0u8; INPUT];
-    let mut work = [0u32; 399360];
-    let mut output = [0u8; 65536];
+    let mut work = [0u32; WORDS];
+    let mut output = [0u8; OUTPUT];
     let mut lines = [0u8; CLOSING];
     run_input(
         &mut rt.stdin(),
@@ -33,6 +38,7 @@ fn main(rt: HostRuntime) {
     );
 }
 
+// Apart from `main`, with the input as an array: beside arrays of this size the check finds no end else.
 fn run_input(
     input: &mut impl Read,
     rt: &impl Print,
@@ -42,87 +48,58 @@ fn run_input(
     lines: &mut [u8; CLOSING],
 ) {
     let n = console::read(input, cases);
-    run_cases(rt, &cases[..n], work, output, lines);
+    if let Err(stop) = run_cases(rt, &cases[..n], work, output, lines) {
+        let _ = console::write(rt, stop.message());
+    }
 }
 
 fn run_cases(
     rt: &impl Print,
-    cases: &[u8],
+    input: &[u8],
     work: &mut [u32],
     output: &mut [u8],
     lines: &mut [u8; CLOSING],
-) {
-    let mut at = 0;
+) -> Result<(), Stop> {
+    let mut cases = input;
     let mut n: usize = 0;
-    while at < cases.len() {
+    // Each case says where the next begins.
+    while !cases.is_empty() {
         n += 1;
-        if !print_number(rt, n) {
-            return;
-        }
-        at = run_case(rt, cases, at, work, output, lines);
+        print_field(rt, b"case ", n as u64)?;
+        cases = run_case(rt, cases, work, output, lines)?;
     }
+    Ok(())
 }
 
-// The line before a case's page: five bytes, twenty digits at most, a line feed.
-fn print_number(rt: &impl Print, n: usize) -> bool {
-    let mut line = [0u8; 26];
-    let count = put::field(&mut line, 0, b"case ", n as u64);
-    let sent = console::write(rt, &line[..count]);
-    sent.whole
-}
-
-// Runs the case at a place and answers the place after it: the end of the input where no whole case stands there, or a byte is lost.
-fn run_case(
+// Runs the first of the cases and answers those after it.
+fn run_case<'a>(
     rt: &impl Print,
-    cases: &[u8],
-    at: usize,
+    cases: &'a [u8],
     work: &mut [u32],
     output: &mut [u8],
     lines: &mut [u8; CLOSING],
-) -> usize
-    requires { at < length cases.now }
-    ensures { at < result }
+) -> Result<&'a [u8], Stop>
+    ensures { IfOk result (λ rest. length rest.now < length cases.now) }
 {
-    let header = header::read(cases, at);
-    let words = header.words as usize;
-    let size = header.output as usize;
-    let start = header.sheet;
-    let end = header.end;
-    if cases.len() < end {
-        return malformed(rt, cases);
-    }
-    if work.len() < words {
-        return malformed(rt, cases);
-    }
-    if output.len() < size {
-        return malformed(rt, cases);
-    }
-    let setting = Setting {
-        path: header.path,
-        budget: header.budget,
-        skip: header.skip,
+    let Some(case) = header::read(cases) else {
+        return Err(Stop::Malformed);
     };
-    if run_sheet(
+    let words = case.words as usize;
+    let size = case.output as usize;
+    if work.len() < words || output.len() < size {
+        return Err(Stop::Malformed);
+    }
+    run_sheet(
         rt,
-        &cases[start..end],
-        setting,
+        case.sheet,
+        case.setting,
         &mut work[..words],
         &mut output[..size],
         lines,
-    ) {
-        return end + 1;
-    }
-    cases.len()
+    )?;
+    Ok(case.rest)
 }
 
-fn malformed(rt: &impl Print, cases: &[u8]) -> usize
-    ensures { result ≡ length cases.now }
-{
-    console::write(rt, b"malformed\n");
-    cases.len()
-}
-
-// Whether all was printed.
 fn run_sheet(
     rt: &impl Print,
     sheet: &[u8],
@@ -130,24 +107,20 @@ fn run_sheet(
     work: &mut [u32],
     output: &mut [u8],
     lines: &mut [u8; CLOSING],
-) -> bool {
-    rubbish::fill_words(work);
-    rubbish::fill_bytes(output);
+) -> Result<(), Stop> {
+    work.fill(rubbish::WORD);
+    output.fill(rubbish::BYTE);
     let outcome = vodlasim::run(sheet, setting, work, output);
-    let listing = page::written(outcome);
-    let closing = page::closing(outcome, lines);
-    let sent = console::write_page(rt, output, listing, lines, closing);
-    if !sent.whole {
-        return false;
+    let listing = page::written(&outcome);
+    let closing = page::closing(&outcome, lines);
+    console::write_page(rt, &output[..listing], &lines[..closing])?;
+    if !is_clean(&outcome, work, output) {
+        console::write(rt, b"dirty\n")?;
     }
-    if is_clean(outcome, work, output) {
-        return true;
-    }
-    let dirty = console::write(rt, b"dirty\n");
-    dirty.whole
+    Ok(())
 }
 
-fn is_clean(outcome: Outcome, work: &[u32], output: &[u8]) -> bool {
+fn is_clean(outcome: &Result<Ran, Refusal>, work: &[u32], output: &[u8]) -> bool {
     if !rubbish::is_zero(work) {
         return false;
     }

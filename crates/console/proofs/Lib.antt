@@ -1,3 +1,2 @@
--- The laws that the proofs of this crate and of the programs share.
+-- The laws that the programs share.
 pub mod Parts
-mod Went

@@ -1,8 +1,7 @@
 -- What a write tells of so many bytes. Assumes nothing.
-use Rattle.std.specs.Prelude.{ℕ, ◌≤◌, ◌≡◌, eqb}
-use Rattle.console.specs.declared.Sent.{Sent}
+use Rattle.std.specs.Prelude.{ℕ, ◌<◌, ◌≡◌, Result, MatchResult}
+use Rattle.console.specs.declared.Lost.{Lost}
 
--- no more than these went out, and `whole` just if they all did
-pub record Went (all : ℕ) (r : Sent) : Type 0 where
-  pub some : r.count ≤ all
-  pub whole : r.whole ≡ eqb r.count all
+-- they all went out, and so many are told; or a byte was lost, after fewer
+abbrev pub Went : ℕ → Result ℕ Lost → Type 0
+Went all r = MatchResult r (λ sent. sent ≡ all) (λ lost. lost.sent < all)

@@ -2,104 +2,70 @@
 // that a signal interrupts before it moves a byte, ends what it stands in, and nothing is written after a byte that was lost.
 #![tactic(auto)]
 
-ghost use Rattle.std.specs.Prelude.{◌≡◌, ◌+◌, ◌≤◌, length, take};
+ghost use Rattle.std.specs.Prelude.{◌≡◌, ◌+◌, ◌≤◌, ◌++◌, Some, codes, decimal, length, take};
 ghost use Rattle.console.specs.Went.{Went};
 
-use std::io;
+use std::error::Error;
+use std::fmt;
 use std::io::Read;
 
-// How many bytes went out, from the first on, and whether these are all that were to be written.
-#[derive(Clone, Copy)]
-pub struct Sent {
-    pub count: usize,
-    pub whole: bool,
+// A byte was lost, after so many that went out.
+#[derive(Clone, Copy, Debug, PartialEq, Eq)]
+pub struct Lost {
+    pub sent: usize,
 }
 
-// Reads until `bytes` is full or the input ends: how many bytes were read.
+impl fmt::Display for Lost {
+    ghost output = { λ lost. Some (codes "a byte was lost after " ++ decimal lost.sent) };
+
+    fn fmt<W: fmt::Write>(&self, f: &mut fmt::Formatter<W>) -> fmt::Result {
+        write!(f, "a byte was lost after {}", self.sent)
+    }
+}
+
+impl Error for Lost {}
+
+// Reads until `bytes` is full or the input ends: how many bytes were read. A read that fails ends the input, and is no error.
 pub fn read(input: &mut impl Read, bytes: &mut [u8]) -> usize
     ensures room { result ≤ length bytes.new }
     ensures first { result ≡ length (take result bytes.new) }
 {
-    let mut n = 0;
-    while n < bytes.len() {
-        let got = read_rest(input, bytes, n);
+    // A place and no iterator, here and in `write`: each call tells how many bytes it moved.
+    let mut filled = 0;
+    while filled < bytes.len() {
+        let got = input.read(&mut bytes[filled..]).unwrap_or(0);
         if got == 0 {
-            return n;
+            return filled;
         }
-        n += got;
+        filled += got;
     }
-    n
+    filled
 }
 
-// One read into the bytes from `n` on.
-fn read_rest(input: &mut impl Read, bytes: &mut [u8], n: usize) -> usize
-    requires { n ≤ length bytes.old }
-    ensures { n + result ≤ length bytes.old }
-{
-    let rest = &mut bytes[n..];
-    let got = input.read(rest);
-    count(got, rest)
-}
-
-// Writes the bytes.
-pub fn write(rt: &impl Print, bytes: &[u8]) -> Sent
+// Writes the bytes: how many they are, which no contract could say of `()`, so that a writer which gives up cannot tell that all went out.
+pub fn write(rt: &impl Print, bytes: &[u8]) -> Result<usize, Lost>
     ensures { Went (length bytes.now) result }
 {
-    let mut n = 0;
-    while n < bytes.len() {
-        let put = write_rest(rt, bytes, n);
+    let mut sent = 0;
+    while sent < bytes.len() {
+        let put = rt.write_some(&bytes[sent..]).unwrap_or(0);
         if put == 0 {
-            return Sent {
-                count: n,
-                whole: false,
-            };
+            return Err(Lost { sent });
         }
-        n += put;
+        sent += put;
     }
-    Sent {
-        count: n,
-        whole: true,
-    }
+    Ok(sent)
 }
 
-// One write of the bytes from `n` on.
-fn write_rest(rt: &impl Print, bytes: &[u8], n: usize) -> usize
-    requires { n ≤ length bytes.now }
-    ensures { n + result ≤ length bytes.now }
+// Writes a page: the listing and then, if all of it went out, the lines after it.
+pub fn write_page(rt: &impl Print, listing: &[u8], closing: &[u8]) -> Result<usize, Lost>
+    ensures { Went (length listing.now + length closing.now) result }
 {
-    let rest = &bytes[n..];
-    let put = rt.write_some(rest);
-    count(put, rest)
-}
-
-// How many of the bytes were moved: none where the read or write failed, and never more than there are.
-fn count(moved: io::Result<usize>, bytes: &[u8]) -> usize
-    ensures { result ≤ length bytes.now }
-{
-    match moved {
-        Ok(n) => n.min(bytes.len()),
-        Err(_) => 0,
-    }
-}
-
-// Writes a page: the listing, so many bytes of the output, and then, if all of it went out, so many of the lines after it.
-pub fn write_page(
-    rt: &impl Print,
-    output: &[u8],
-    listing: usize,
-    lines: &[u8],
-    closing: usize,
-) -> Sent
-    requires { (listing ≤ length output.now) × (closing ≤ length lines.now) }
-    ensures { Went (listing + closing) result }
-{
-    let first = write(rt, &output[..listing]);
-    if !first.whole {
-        return first;
-    }
-    let second = write(rt, &lines[..closing]);
-    Sent {
-        count: first.count + second.count,
-        whole: second.whole,
+    let listed = write(rt, listing)?;
+    match write(rt, closing) {
+        Ok(closed) => Ok(listed + closed),
+        Err(lost) => Err(Lost {
+            sent: listed + lost.sent,
+        }),
     }
 }

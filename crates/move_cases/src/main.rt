@@ -8,16 +8,16 @@
 // the output beyond the moved sheet holds its rubbish; else `lost`.
 #![tactic(auto)]
 
-mod decimal;
+ghost use Rattle.std.specs.Prelude.{◌<◌, length, IfOk};
 
-ghost use Rattle.std.specs.Prelude.{◌≡◌, ◌≤◌, ◌<◌, length};
-
-use listing::put;
-use specification::Move;
-use std::io::Read;
+use case_file::{Stop, number, print_field};
+use specification::Refusal;
 
 // The bytes of a case's first line.
 const HEADER: usize = 23;
+
+// The bytes of the longest input.
+const INPUT: usize = 393216;
 
 // The most that is lent.
 const WORDS: usize = 6400;
@@ -25,76 +25,70 @@ const WORDS: usize = 6400;
 const OUTPUT: usize = 4352;
 
 fn main(rt: HostRuntime) {
-    let mut cases = [0u8; 393216];
-    move_input(&mut rt.stdin(), &rt, &mut cases);
-}
-
-fn move_input(input: &mut impl Read, rt: &impl Print, cases: &mut [u8]) {
-    let n = console::read(input, cases);
-    move_cases(rt, &cases[..n]);
-}
-
-fn move_cases(rt: &impl Print, cases: &[u8]) {
-    let mut at = 0;
-    while at < cases.len() {
-        at = move_case(rt, cases, at);
+    let mut cases = [0u8; INPUT];
+    let n = console::read(&mut rt.stdin(), &mut cases);
+    if let Err(stop) = move_cases(&rt, &cases[..n]) {
+        let _ = console::write(&rt, stop.message());
     }
 }
 
-// Moves the sheet of the case at a place and answers the place after it: the end of the input where no whole case stands there, or a byte is
-// lost.
-fn move_case(rt: &impl Print, cases: &[u8], at: usize) -> usize
-    requires { at < length cases.now }
-    ensures { at < result }
+fn move_cases(rt: &impl Print, input: &[u8]) -> Result<(), Stop> {
+    let mut cases = input;
+    while !cases.is_empty() {
+        cases = move_case(rt, cases)?;
+    }
+    Ok(())
+}
+
+// Moves the sheet of the first of the cases and answers those after it.
+fn move_case<'a>(rt: &impl Print, cases: &'a [u8]) -> Result<&'a [u8], Stop>
+    ensures { IfOk result (λ rest. length rest.now < length cases.now) }
 {
-    if cases.len() - at < HEADER {
-        return malformed(rt, cases);
-    }
-    let start = at + HEADER;
-    let words = decimal::number(cases, at + 5);
-    let room = decimal::number(cases, at + 11);
-    let size = decimal::number(cases, at + 17);
-    if cases.len() - start < size {
-        return malformed(rt, cases);
-    }
-    let end = start + size;
-    if move_sheet(rt, cases[at], &cases[start..end], words, room) {
-        return end + 1;
-    }
-    cases.len()
+    let Some((header, rest)) = cases.split_first_chunk::<HEADER>() else {
+        return Err(Stop::Malformed);
+    };
+    let words = number(&header[5..10]) as usize;
+    let room = number(&header[11..16]) as usize;
+    let size = number(&header[17..22]) as usize;
+    let Some((sheet, rest)) = rest.split_at_checked(size) else {
+        return Err(Stop::Malformed);
+    };
+    move_sheet(rt, header[0], sheet, words, room)?;
+    // Behind the line feed, which the last case may lack.
+    Ok(rest.get(1..).unwrap_or(rest))
 }
 
-fn malformed(rt: &impl Print, cases: &[u8]) -> usize
-    ensures { result ≡ length cases.now }
-{
-    console::write(rt, b"malformed\n");
-    cases.len()
-}
-
-// Whether there was so much to lend, and all was printed.
-fn move_sheet(rt: &impl Print, way: u8, sheet: &[u8], words: usize, room: usize) -> bool {
+// Moves a sheet with so much lent.
+fn move_sheet(
+    rt: &impl Print,
+    way: u8,
+    sheet: &[u8],
+    words: usize,
+    room: usize,
+) -> Result<(), Stop> {
     let mut work = [0u32; WORDS];
     let mut output = [0u8; OUTPUT];
-    if WORDS < words {
-        return false;
-    }
-    if OUTPUT < room {
-        return false;
+    if WORDS < words || OUTPUT < room {
+        return Err(Stop::TooMuch);
     }
     move_lent(rt, way, sheet, &mut work[..words], &mut output[..room])
 }
 
-fn move_lent(rt: &impl Print, way: u8, sheet: &[u8], work: &mut [u32], output: &mut [u8]) -> bool {
-    rubbish::fill_words(work);
-    rubbish::fill_bytes(output);
+fn move_lent(
+    rt: &impl Print,
+    way: u8,
+    sheet: &[u8],
+    work: &mut [u32],
+    output: &mut [u8],
+) -> Result<(), Stop> {
+    work.fill(rubbish::WORD);
+    output.fill(rubbish::BYTE);
     let moved = moved(way, sheet, work, output);
-    if !print_move(rt, moved, output) {
-        return false;
-    }
+    print_move(rt, &moved, output)?;
     print_kept(rt, is_kept(moved, work, output))
 }
 
-fn moved(way: u8, sheet: &[u8], work: &mut [u32], output: &mut [u8]) -> Move {
+fn moved(way: u8, sheet: &[u8], work: &mut [u32], output: &mut [u8]) -> Result<usize, Refusal> {
     match way {
         b'u' => vodlasim::move_up(sheet, work, output),
         b'd' => vodlasim::move_down(sheet, work, output),
@@ -102,66 +96,40 @@ fn moved(way: u8, sheet: &[u8], work: &mut [u32], output: &mut [u8]) -> Move {
     }
 }
 
-fn is_kept(moved: Move, work: &[u32], output: &[u8]) -> bool {
+fn is_kept(moved: Result<usize, Refusal>, work: &[u32], output: &[u8]) -> bool {
     if !rubbish::is_zero(work) {
         return false;
     }
-    rubbish::is_kept(output, written(moved))
+    rubbish::is_kept(output, moved.unwrap_or(0))
 }
 
-fn written(moved: Move) -> usize {
+// ---- what is printed
+
+fn print_move(rt: &impl Print, moved: &Result<usize, Refusal>, output: &[u8]) -> Result<(), Stop> {
     match moved {
-        Move::Refused {
-            number: _,
-            place: _,
-        } => 0,
-        Move::Moved { written } => written,
+        Err(refusal) => print_refusal(rt, *refusal),
+        Ok(written) => print_moved(rt, *written, output),
     }
 }
 
-// ---- what is printed; each function tells whether all of it went out
-
-fn print_move(rt: &impl Print, moved: Move, output: &[u8]) -> bool {
-    match moved {
-        Move::Refused { number, place } => print_refusal(rt, number, place),
-        Move::Moved { written } => print_moved(rt, written, output),
-    }
-}
-
-fn print_refusal(rt: &impl Print, number: u32, place: usize) -> bool {
-    if !print_field(rt, b"refused=", number as u64) {
-        return false;
-    }
-    print_field(rt, b"at=", place as u64)
+fn print_refusal(rt: &impl Print, refusal: Refusal) -> Result<(), Stop> {
+    print_field(rt, b"refused=", u64::from(refusal.number()))?;
+    print_field(rt, b"at=", refusal.place() as u64)?;
+    Ok(())
 }
 
 // A sheet that is said to be longer than the output is not printed.
-fn print_moved(rt: &impl Print, written: usize, output: &[u8]) -> bool {
-    if !print_field(rt, b"moved=", written as u64) {
-        return false;
-    }
-    if output.len() < written {
-        return false;
-    }
-    let sent = console::write(rt, &output[..written]);
-    sent.whole
-}
-
-fn print_kept(rt: &impl Print, kept: bool) -> bool {
-    let sent = if kept {
-        console::write(rt, b"kept\n")
-    } else {
-        console::write(rt, b"lost\n")
+fn print_moved(rt: &impl Print, written: usize, output: &[u8]) -> Result<(), Stop> {
+    print_field(rt, b"moved=", written as u64)?;
+    let Some(sheet) = output.get(..written) else {
+        return Err(Stop::TooMuch);
     };
-    sent.whole
+    console::write(rt, sheet)?;
+    Ok(())
 }
 
-// A line: a key of at most eight bytes, twenty digits at most, a line feed.
-fn print_field(rt: &impl Print, key: &[u8], n: u64) -> bool
-    requires { length key.now ≤ 8 }
-{
-    let mut line = [0u8; 29];
-    let count = put::field(&mut line, 0, key, n);
-    let sent = console::write(rt, &line[..count]);
-    sent.whole
+fn print_kept(rt: &impl Print, kept: bool) -> Result<(), Stop> {
+    let line: &[u8] = if kept { b"kept\n" } else { b"lost\n" };
+    console::write(rt, line)?;
+    Ok(())
 }

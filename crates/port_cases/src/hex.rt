@@ -1,14 +1,14 @@
 // Bytes and hexadecimal digits.
-ghost use Rattle.std.specs.Prelude.{◌+◌, ◌<◌, length};
+ghost use Rattle.std.specs.Prelude.{◌<◌};
 
-// The byte of two digits at a place.
-pub(crate) fn byte(s: &[u8], at: usize) -> u8
-    requires { at + 1 < length s.now }
-{
-    value(s[at]) * 16 + value(s[at + 1])
+const DIGITS: [u8; 16] = *b"0123456789abcdef";
+
+// The byte of two digits.
+pub(crate) fn byte(high: u8, low: u8) -> u8 {
+    value(high) * 16 + value(low)
 }
 
-// The value of a digit, and 0 of any other byte.
+// The value of a digit, and 0 of any other byte. (`char::to_digit` takes capital letters, too.)
 fn value(digit: u8) -> u8
     ensures { result < 16 }
 {
@@ -20,14 +20,9 @@ fn value(digit: u8) -> u8
 }
 
 // The two digits of a byte.
-pub(crate) fn high(b: u8) -> u8 {
-    digit(b / 16)
-}
-
-pub(crate) fn low(b: u8) -> u8 {
-    digit(b % 16)
-}
-
-fn digit(n: u8) -> u8 {
-    if n < 10 { b'0' + n } else { b'a' + n % 16 - 10 }
+pub(crate) fn digits(byte: u8) -> [u8; 2] {
+    [
+        DIGITS[usize::from(byte / 16)],
+        DIGITS[usize::from(byte % 16)],
+    ]
 }

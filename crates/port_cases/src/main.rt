@@ -11,100 +11,82 @@
 
 mod hex;
 
-ghost use Rattle.std.specs.Prelude.{◌≡◌, ◌≤◌, ◌<◌, length};
+ghost use Rattle.std.specs.Prelude.{◌≤◌, ◌<◌, length, IfOk};
 
-use plotter::{Port, Stepped};
-use std::io::Read;
+use case_file::Stop;
+use console::Lost;
+use plotter::{Event, Port, Stepped};
 
 // The bytes of a case's first line.
 const HEADER: usize = 17;
 
+// The bytes of the longest input.
+const INPUT: usize = 32768;
+
 fn main(rt: HostRuntime) {
-    let mut cases = [0u8; 32768];
-    play_input(&mut rt.stdin(), &rt, &mut cases);
-}
-
-fn play_input(input: &mut impl Read, rt: &impl Print, cases: &mut [u8]) {
-    let n = console::read(input, cases);
-    play_cases(rt, &cases[..n]);
-}
-
-fn play_cases(rt: &impl Print, cases: &[u8]) {
-    let mut at = 0;
-    while at < cases.len() {
-        at = play_case(rt, cases, at);
+    let mut cases = [0u8; INPUT];
+    let n = console::read(&mut rt.stdin(), &mut cases);
+    if let Err(stop) = play_cases(&rt, &cases[..n]) {
+        let _ = console::write(&rt, stop.message());
     }
 }
 
-// Plays the case at a place and answers the place after it: the end of the input where no whole case stands there, or a byte is lost.
-fn play_case(rt: &impl Print, cases: &[u8], at: usize) -> usize
-    requires { at < length cases.now }
-    ensures { at < result }
+fn play_cases(rt: &impl Print, input: &[u8]) -> Result<(), Stop> {
+    let mut cases = input;
+    while !cases.is_empty() {
+        cases = play_case(rt, cases)?;
+    }
+    Ok(())
+}
+
+// Plays the first of the cases and answers those after it.
+fn play_case<'a>(rt: &impl Print, cases: &'a [u8]) -> Result<&'a [u8], Stop>
+    ensures { IfOk result (λ rest. length rest.now < length cases.now) }
 {
-    if cases.len() - at < HEADER {
-        return malformed(rt, cases);
-    }
-    let listing = at + HEADER;
-    let size = wide(hex::byte(cases, at + 12)) * 256 + wide(hex::byte(cases, at + 14));
-    if cases.len() - listing <= size {
-        return malformed(rt, cases);
-    }
-    let port = Port {
-        status: hex::byte(cases, at),
-        control: hex::byte(cases, at + 3),
-        data: hex::byte(cases, at + 6),
-        sum: hex::byte(cases, at + 9),
+    let Some((header, rest)) = cases.split_first_chunk::<HEADER>() else {
+        return Err(Stop::Malformed);
     };
-    play_script(rt, cases, listing, listing + size, port)
+    let size = u16::from_be_bytes([
+        hex::byte(header[12], header[13]),
+        hex::byte(header[14], header[15]),
+    ]);
+    let Some((listing, rest)) = rest.split_at_checked(usize::from(size)) else {
+        return Err(Stop::Malformed);
+    };
+    let Some((_, script)) = rest.split_first() else {
+        return Err(Stop::Malformed);
+    };
+    let port = Port {
+        status: hex::byte(header[0], header[1]),
+        control: hex::byte(header[3], header[4]),
+        data: hex::byte(header[6], header[7]),
+        sum: hex::byte(header[9], header[10]),
+    };
+    play_script(rt, script, port, listing)
 }
 
-fn wide(b: u8) -> usize
-    ensures { result ≡ b }
-{
-    b as usize
-}
-
-fn malformed(rt: &impl Print, cases: &[u8]) -> usize
-    ensures { result ≡ length cases.now }
-{
-    console::write(rt, b"malformed\n");
-    cases.len()
-}
-
-// Plays the letters behind a listing, which stands between two places, to the end of their line, and answers the place after it.
-fn play_script(rt: &impl Print, cases: &[u8], listing: usize, end: usize, port: Port) -> usize
-    requires { (listing ≤ end) × (end < length cases.now) }
-    ensures { end < result }
+// Plays the letters up to the end of their line and answers what stands behind it.
+fn play_script<'a>(
+    rt: &impl Print,
+    script: &'a [u8],
+    port: Port,
+    listing: &[u8],
+) -> Result<&'a [u8], Stop>
+    ensures { IfOk result (λ rest. length rest.now ≤ length script.now) }
 {
     let mut now = Stepped { port, sent: 0 };
     let mut unsent = listing;
-    let mut letter = b'=';
-    let mut at = end + 1;
-    while print_registers(rt, letter, now) {
-        if cases.len() <= at {
-            return at;
-        }
-        letter = cases[at];
-        at += 1;
+    print_registers(rt, b'=', now)?;
+    for (i, &letter) in script.iter().enumerate() {
         if letter == b'\n' {
-            return after_script(rt, cases, at, end - unsent);
+            print_left(rt, unsent.len())?;
+            return Ok(&script[i + 1..]);
         }
-        now = action(letter, now.port, &cases[unsent..end]);
-        unsent += now.sent;
+        now = action(letter, now.port, unsent);
+        unsent = &unsent[now.sent..];
+        print_registers(rt, letter, now)?;
     }
-    cases.len()
-}
-
-// Prints what is left of a listing: the place after its script, or the end of the input where a byte is lost.
-fn after_script(rt: &impl Print, cases: &[u8], at: usize, left: usize) -> usize
-    requires { at ≤ length cases.now }
-    ensures { at ≤ result }
-{
-    if print_left(rt, left) {
-        at
-    } else {
-        cases.len()
-    }
+    Ok(&[])
 }
 
 // What a letter's action leaves.
@@ -114,64 +96,40 @@ fn action(letter: u8, port: Port, unsent: &[u8]) -> Stepped
     if letter == b's' {
         return plotter::step(port, unsent);
     }
-    Stepped {
-        port: event(letter, port),
-        sent: 0,
-    }
+    let port = match event(letter) {
+        Some(event) => plotter::occur(port, event),
+        None => port,
+    };
+    Stepped { port, sent: 0 }
 }
 
-fn event(letter: u8, port: Port) -> Port {
+fn event(letter: u8) -> Option<Event> {
     match letter {
-        b'r' => plotter::ready_again(port),
-        b'o' => plotter::out_of_paper(port),
-        b'i' => plotter::paper_in(port),
-        b'+' => plotter::interrupts_on(port),
-        b'-' => plotter::interrupts_off(port),
-        _ => port,
+        b'r' => Some(Event::ReadyAgain),
+        b'o' => Some(Event::OutOfPaper),
+        b'i' => Some(Event::PaperIn),
+        b'+' => Some(Event::InterruptsOn),
+        b'-' => Some(Event::InterruptsOff),
+        _ => None,
     }
 }
 
-// ---- what is printed; each function tells whether all of it went out
+// ---- what is printed; a line goes out in one write, and a letter that is no character as it is
 
-fn print_registers(rt: &impl Print, letter: u8, now: Stepped) -> bool {
-    let port = now.port;
+fn print_registers(rt: &impl Print, letter: u8, now: Stepped) -> Result<usize, Lost> {
+    let [s1, s0] = hex::digits(now.port.status);
+    let [c1, c0] = hex::digits(now.port.control);
+    let [d1, d0] = hex::digits(now.port.data);
+    let [m1, m0] = hex::digits(now.port.sum);
+    let sent = if now.sent == 0 { b'0' } else { b'1' };
     let line = [
-        letter,
-        b' ',
-        hex::high(port.status),
-        hex::low(port.status),
-        b' ',
-        hex::high(port.control),
-        hex::low(port.control),
-        b' ',
-        hex::high(port.data),
-        hex::low(port.data),
-        b' ',
-        hex::high(port.sum),
-        hex::low(port.sum),
-        b' ',
-        hex::low((now.sent % 16) as u8),
-        b'\n',
+        letter, b' ', s1, s0, b' ', c1, c0, b' ', d1, d0, b' ', m1, m0, b' ', sent, b'\n',
     ];
-    let sent = console::write(rt, &line);
-    sent.whole
+    console::write(rt, &line)
 }
 
-fn print_left(rt: &impl Print, n: usize) -> bool {
-    let high = (n / 256 % 256) as u8;
-    let low = (n % 256) as u8;
-    let line = [
-        b'l',
-        b'e',
-        b'f',
-        b't',
-        b' ',
-        hex::high(high),
-        hex::low(high),
-        hex::high(low),
-        hex::low(low),
-        b'\n',
-    ];
-    let sent = console::write(rt, &line);
-    sent.whole
+fn print_left(rt: &impl Print, n: usize) -> Result<usize, Lost> {
+    let [h1, h0] = hex::digits((n / 256 % 256) as u8);
+    let [l1, l0] = hex::digits((n % 256) as u8);
+    console::write(rt, &[b'l', b'e', b'f', b't', b' ', h1, h0, l1, l0, b'\n'])
 }

@@ -1,45 +1,24 @@
 // For the test programs: what stands in lent memory before a case, and what must stand there after it.
 #![tactic(auto)]
 
-const WORD: u32 = 0xDEADBEEF;
+ghost use Rattle.std.specs.Prelude.{◌≡◌, ◌==◌, drop};
+ghost use Rattle.std.specs.List.{list_all};
 
-const BYTE: u8 = 0xA5;
+// The rubbish: what the words and the bytes that are lent are filled with.
+pub const WORD: u32 = 0xDEADBEEF;
 
-pub fn fill_words(words: &mut [u32]) {
-    let mut i = 0;
-    while i < words.len() {
-        words[i] = WORD;
-        i += 1;
-    }
-}
+pub const BYTE: u8 = 0xA5;
 
-pub fn fill_bytes(bytes: &mut [u8]) {
-    let mut i = 0;
-    while i < bytes.len() {
-        bytes[i] = BYTE;
-        i += 1;
-    }
-}
-
-pub fn is_zero(words: &[u32]) -> bool {
-    let mut i = 0;
-    while i < words.len() {
-        if words[i] != 0 {
-            return false;
-        }
-        i += 1;
-    }
-    true
+// Whether all the words are zero.
+pub fn is_zero(words: &[u32]) -> bool
+    ensures { result ≡ list_all (λ word. word == 0) words.now }
+{
+    words.iter().all(|&word| word == 0)
 }
 
 // Whether the bytes from a place on still hold the rubbish.
-pub fn is_kept(bytes: &[u8], from: usize) -> bool {
-    let mut i = from;
-    while i < bytes.len() {
-        if bytes[i] != BYTE {
-            return false;
-        }
-        i += 1;
-    }
-    true
+pub fn is_kept(bytes: &[u8], from: usize) -> bool
+    ensures { result ≡ list_all (λ byte. byte == BYTE) (drop from bytes.now) }
+{
+    bytes.iter().skip(from).all(|&byte| byte == BYTE)
 }

@@ -1,10 +1,6 @@
--- `move_cases::move_cases` is safe and ends: each turn moves on in the input.
-use Prim.Native.Nat.{◌-◌}
+-- `move_cases::move_cases` is safe and ends: each turn leaves fewer bytes of cases.
 use lib.ListN.{length}
 use Rattle.move_cases.proofs.move_cases.Given as goal
 
-abbrev pub invariant-loop-at : goal.invariant-loop-at
-invariant-loop-at g l = Unit {0}
-
-abbrev pub decreases-loop-at : goal.decreases-loop-at
-decreases-loop-at g l = length l.cases - l.at
+abbrev pub decreases-loop-cases : goal.decreases-loop-cases
+decreases-loop-cases g l = length l.cases

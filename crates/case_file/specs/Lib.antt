@@ -1,0 +1,3 @@
+-- What the contracts of the test programs' shared parts cite.
+pub mod Stop
+pub mod Number
