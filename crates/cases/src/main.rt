@@ -111,16 +111,16 @@ fn run_sheet(
     work.fill(rubbish::WORD);
     output.fill(rubbish::BYTE);
     let outcome = vodlasim::run(sheet, setting, work, output);
-    let listing = page::written(&outcome);
-    let closing = page::closing(&outcome, lines);
+    let listing = page::written(outcome);
+    let closing = page::closing(outcome, lines);
     console::write_page(rt, &output[..listing], &lines[..closing])?;
-    if !is_clean(&outcome, work, output) {
+    if !is_clean(outcome, work, output) {
         console::write(rt, b"dirty\n")?;
     }
     Ok(())
 }
 
-fn is_clean(outcome: &Result<Ran, Refusal>, work: &[u32], output: &[u8]) -> bool {
+fn is_clean(outcome: Result<Ran, Refusal>, work: &[u32], output: &[u8]) -> bool {
     if !rubbish::is_zero(work) {
         return false;
     }

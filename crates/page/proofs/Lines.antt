@@ -7,6 +7,7 @@ use mathlib.Core.List.{◌++◌}
 use lib.ListN.{length, drop}
 use lib.Seq.{sets-eq}
 use Rattle.std.specs.Prelude.{Ok, Err}
+use Rattle.specification.specs.declared.refusals.Refusal.{Refusal}
 use Rattle.specification.specs.declared.Tallies.{Tallies}
 use Rattle.specification.specs.declared.End.{End}
 use Rattle.specification.specs.declared.End.TheVariants.{Done, Spent, Path, Output}
@@ -62,8 +63,8 @@ closed o {u} {v} {b} e s size l =
       count = count;
     }
 
-pub lined-refused : {o : Outcome} {x : ℕ × ℕ} {u v : Writer} → o ≡ Err x →
-    Lined closing_most u v (refusal_lines x.0 x.1) → Lined closing_most u v (closing o)
+pub lined-refused : {o : Outcome} {x : Refusal} {u v : Writer} → o ≡ Err x →
+    Lined closing_most u v (refusal_lines x.number x.place) → Lined closing_most u v (closing o)
 unfolding closing
 lined-refused e l = rw e l
 

@@ -59,7 +59,7 @@ fn tally_lines(lines: &mut Writer, t: Tallies)
 
 fn refusal_lines(lines: &mut Writer, refusal: Refusal)
     requires { lines.old.at ≡ 0 }
-    ensures { Lined closing_most lines.old lines.new (refusal_lines refusal.0 refusal.1) }
+    ensures { Lined closing_most lines.old lines.new (refusal_lines refusal.number refusal.place) }
 {
     let number = refusal.number();
     let place = refusal.place();
@@ -67,12 +67,12 @@ fn refusal_lines(lines: &mut Writer, refusal: Refusal)
     lines.field(b"at=", place as u64);
 }
 
-fn closing_lines(lines: &mut Writer, outcome: &Result<Ran, Refusal>)
+fn closing_lines(lines: &mut Writer, outcome: Result<Ran, Refusal>)
     requires { lines.old.at ≡ 0 }
-    ensures { Lined closing_most lines.old lines.new (closing outcome.now) }
+    ensures { Lined closing_most lines.old lines.new (closing outcome) }
 {
     match outcome {
-        Err(refusal) => refusal_lines(lines, *refusal),
+        Err(refusal) => refusal_lines(lines, refusal),
         Ok(ran) => {
             end_line(lines, ran.end);
             tally_lines(lines, ran.tallies);
@@ -81,8 +81,8 @@ fn closing_lines(lines: &mut Writer, outcome: &Result<Ran, Refusal>)
 }
 
 // How the run ended and the four tallies, or the refusal, from the start of the memory. Gives their length.
-pub fn closing(outcome: &Result<Ran, Refusal>, lines: &mut [u8; CLOSING]) -> usize
-    ensures { Closed outcome.now lines.old lines.new result }
+pub fn closing(outcome: Result<Ran, Refusal>, lines: &mut [u8; CLOSING]) -> usize
+    ensures { Closed outcome lines.old lines.new result }
 {
     let mut written = Writer::new(lines);
     closing_lines(&mut written, outcome);
@@ -92,8 +92,8 @@ pub fn closing(outcome: &Result<Ran, Refusal>, lines: &mut [u8; CLOSING]) -> usi
 // ---- the page
 
 // The bytes written of the output.
-pub fn written(outcome: &Result<Ran, Refusal>) -> usize
-    ensures { result ≡ written_of outcome.now }
+pub fn written(outcome: Result<Ran, Refusal>) -> usize
+    ensures { result ≡ written_of outcome }
 {
     match outcome {
         Ok(ran) => ran.written,
@@ -117,7 +117,7 @@ pub fn run_box(
     };
     let outcome = vodlasim::run(sheet, setting, work, output);
     Page {
-        listing: written(&outcome),
-        closing: closing(&outcome, lines),
+        listing: written(outcome),
+        closing: closing(outcome, lines),
     }
 }

@@ -7,6 +7,7 @@ use Rattle.std.specs.Prelude.{Err}
 use mathlib.Core.Bool.{Bool}
 use mathlib.Core.List.{List, [], ◌++◌}
 use lib.ListN.{length, replicate, length-append}
+use Rattle.specification.specs.declared.refusals.Refusal.{Refusal}
 use Rattle.specification.specs.Bytes.{Bytes, bytes, feed}
 use Rattle.specification.specs.Parser.{Reader, Read, refused, found, give, and_then, ◌>>=◌, ◌>>◌, mark, key, finish}
 use Rattle.specification.specs.Lines.{Declared}
@@ -77,7 +78,7 @@ procedures-sheet : (refusing : Bool) (k : ℕ) (D : Declared) (is : List Item) (
 procedures-sheet refusing k D is r = then_same (λ Ps r₁. formula-sheet refusing (with_procedures Ps D) is r₁) (procedure_lines refusing k D r)
 
 module _ (s : Bytes) (n : ℕ) (p : Progress) (w : Words) (h : Ranged s n p w) (w₁ : Words) where
-  pub given-refused : (e : ℕ × ℕ) → GivenDone h.declared s p.reached.at w w₁ (Err e) → Stopped p.limits.strict s e
+  pub given-refused : (e : Refusal) → GivenDone h.declared s p.reached.at w w₁ (Err e) → Stopped p.limits.strict s e
   unfolding from_given
   given-refused e x = h.rest ∙ rw x.0
 
@@ -142,7 +143,7 @@ module _ (s : Bytes) (n : ℕ) (p : Progress) (w : Words) (h : Filled 0 s n p w)
   unfolding procedure_lines
   formula-next = h.rest
 
-  pub formula-refused : (e : ℕ × ℕ) → LineRead here h.declared w w₁ (Err e) → Stopped d.strict s e
+  pub formula-refused : (e : Refusal) → LineRead here h.declared w w₁ (Err e) → Stopped d.strict s e
   formula-refused e y = formula-next ∙ ap on_formula y.0
 
   pub formula-found : (t e m : ℕ) → Laid here h.declared w w₁ t →

@@ -8,6 +8,7 @@ use lib.ListN.{length, get_or, set, replicate, length-set, length-replicate}
 use lib.Seq.{get_or-set_same, get_or-set_other, ext_get_or}
 use lib.Dec.{ltb}
 use borrow.Author.Tests.{ltb-true, ltb-false}
+use Rattle.specification.specs.declared.refusals.Refusal.{Refusal}
 use Rattle.specification.specs.Bytes.{Bytes}
 use Rattle.specification.specs.Parser.{found}
 use Rattle.specification.specs.Sheet.{read_with}
@@ -61,7 +62,7 @@ cleared w w₁ e = let l : length w₁ ≡ length w = ap length e ∙ length-rep
 -- the words are w after all lines, over n words, and w₁ at the end
 module _ (strict : Bool) (s : Bytes) (n : ℕ) (w : Words) (w₁ : Words) where
   -- refused, and all words cleared
-  pub refused-whole : (e : ℕ × ℕ) → Stopped strict s e → w₁ ≡ replicate n 0 → Leaves strict s n (Err e) w₁
+  pub refused-whole : (e : Refusal) → Stopped strict s e → w₁ ≡ replicate n 0 → Leaves strict s n (Err e) w₁
   unfolding read_with
   refused-whole e x z = (sym (ap reading_of x), z ∙ sym (ap (words_of n) x))
 

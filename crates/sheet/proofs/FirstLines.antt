@@ -7,6 +7,7 @@ use mathlib.Core.Bool.{Bool}
 use mathlib.Core.List.{List, []}
 use lib.ListN.{length, get_or, replicate, length-replicate}
 use lib.Dec.{ltb}
+use Rattle.specification.specs.declared.refusals.Refusal.{Refusal}
 use Rattle.specification.specs.Bytes.{Bytes, bytes, pick, feed}
 use Rattle.specification.specs.Parser.{Reader, Read, refused, found, and_then}
 use Rattle.specification.specs.Lines.{line, Range, Declared, first_ranged, ranges_line}
@@ -46,7 +47,7 @@ module _ (s : Bytes) (p : Progress) where
   here = line_at s p.reached.at
 
   module _ (h : Headed 0 s p) where
-    pub edition-refused : (e : ℕ × ℕ) → refused e.0 e.1 ≡ number_to (bytes "edition=") 1 3 feed here → Stopped d.strict s e
+    pub edition-refused : (e : Refusal) → refused e.number e.place ≡ number_to (bytes "edition=") 1 3 feed here → Stopped d.strict s e
     unfolding line
     edition-refused e q = h.rest ∙ on_refused _ q
 
@@ -62,7 +63,7 @@ module _ (s : Bytes) (p : Progress) where
     }
 
   module _ (h : Headed 1 s p) where
-    pub scalars-refused : (e : ℕ × ℕ) → refused e.0 e.1 ≡ number_to (bytes "scalars=") 0 max_scalars feed here → Stopped d.strict s e
+    pub scalars-refused : (e : Refusal) → refused e.number e.place ≡ number_to (bytes "scalars=") 0 max_scalars feed here → Stopped d.strict s e
     unfolding line
     scalars-refused e q = h.rest ∙ on_refused _ q
 
@@ -78,7 +79,7 @@ module _ (s : Bytes) (p : Progress) where
     }
 
   module _ (h : Headed 2 s p) where
-    pub locals-refused : (e : ℕ × ℕ) → refused e.0 e.1 ≡ number_to (bytes "locals=") 0 max_locals feed here → Stopped d.strict s e
+    pub locals-refused : (e : Refusal) → refused e.number e.place ≡ number_to (bytes "locals=") 0 max_locals feed here → Stopped d.strict s e
     unfolding line
     locals-refused e q = h.rest ∙ on_refused _ q
 
@@ -99,7 +100,7 @@ module _ (s : Bytes) (n : ℕ) (p : Progress) (w : Words) (h : Headed 3 s p) (ze
   abbrev on_arrays : Read (List ℕ) → Read Sheet
   on_arrays x = and_then (from_ranges p.limits) x
 
-  pub arrays-refused : (e : ℕ × ℕ) → ArraysDone s p.reached.at p.limits.scalars w w₁ (Err e) → Stopped p.limits.strict s e
+  pub arrays-refused : (e : Refusal) → ArraysDone s p.reached.at p.limits.scalars w w₁ (Err e) → Stopped p.limits.strict s e
   arrays-refused e x = h.rest ∙ ap on_arrays x.0
 
   pub arrays-found : {a : Arrays} {c : ℕ} → ArraysFound s p.reached.at p.limits.scalars w (table_of w₁ a) c →
@@ -143,7 +144,7 @@ module _ (s : Bytes) (n : ℕ) (d : Limits) (at : ℕ) (w : Words) (h : Arrayed 
   next-ranges : sheet d.strict (line_at s 0) ≡ on_ranges (ranges_line d.edition (d.scalars + d.arrays) (line_at s at))
   next-ranges = h.rest ∙ ap (λ k. on_ranges (ranges_line d.edition (d.scalars + k) (line_at s at))) (h.counts []).arrays
 
-  pub ranges-refused : (e : ℕ × ℕ) → RangesDone d.edition d.scalars d.arrays s at w w₁ (Err e) → Stopped d.strict s e
+  pub ranges-refused : (e : Refusal) → RangesDone d.edition d.scalars d.arrays s at w w₁ (Err e) → Stopped d.strict s e
   ranges-refused e x = next-ranges ∙ ap on_ranges x.0
 
   module _ (c : ℕ) (f : RangesFound d.edition d.scalars d.arrays s at w w₁ c) where

@@ -4,6 +4,7 @@ use mathlib.Core.Path.{◌≡◌, refl}
 use Rattle.std.specs.Prelude.{Err}
 use mathlib.Core.Bool.{Bool}
 use lib.ListN.{replicate}
+use Rattle.specification.specs.declared.refusals.Refusal.{Refusal}
 use Rattle.specification.specs.Bytes.{Bytes, bytes, feed}
 use Rattle.specification.specs.Parser.{refused, found}
 use Rattle.specification.specs.Lines.{line}
@@ -21,10 +22,10 @@ module _ (s : Bytes) (edition : ℕ) (strict : Bool) (n : ℕ) where
   Answers r w = (r ≡ reading_of (read_only strict edition s)) × (w ≡ words_of n (read_only strict edition s))
 
   -- what the answer of the first line leads to
-  pub only-refused : (e : ℕ × ℕ) → refused e.0 e.1 ≡ number_to (bytes "edition=") edition edition feed (line_at s 0) → (w : Words) → w ≡ replicate n 0 →
+  pub only-refused : (e : Refusal) → refused e.number e.place ≡ number_to (bytes "edition=") edition edition feed (line_at s 0) → (w : Words) → w ≡ replicate n 0 →
       Answers (Err e) w
   unfolding read_only line
-  only-refused e q w z = let f : read_only strict edition s ≡ refused e.0 e.1 = on_refused _ q in rw f (refl, z)
+  only-refused e q w z = let f : read_only strict edition s ≡ refused e.number e.place = on_refused _ q in rw f (refl, z)
 
   pub only-found : {m q : ℕ} → found m (line_at s q) ≡ number_to (bytes "edition=") edition edition feed (line_at s 0) → {r : Answer Reading} {w : Words} →
       r ≡ reading_of (read_with strict s) → w ≡ words_of n (read_with strict s) → Answers r w

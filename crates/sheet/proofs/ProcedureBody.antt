@@ -6,6 +6,7 @@ use mathlib.Core.Path.{◌≡◌, refl, sym, ap, ◌∙◌}
 use Rattle.std.specs.Prelude.{Err}
 use mathlib.Core.List.{List, [], ◌∷◌, ◌++◌}
 use lib.ListN.{length, get_or, set, replicate, length-append, length-set}
+use Rattle.specification.specs.declared.refusals.Refusal.{Refusal}
 use Rattle.specification.specs.Bytes.{Bytes}
 use Rattle.specification.specs.Parser.{and_then}
 use Rattle.specification.specs.Lines.{Range, Declared, first_of, length_of, procedure_of}
@@ -123,7 +124,7 @@ module _ (s : Bytes) (n : ℕ) (p : Progress) (m from : ℕ) (w : Words) (h : Be
   abbrev own : Declared
   own = with_parameters m before.declared
 
-  pub body_refused : (w₁ : Words) (e : ℕ × ℕ) → Closes here own w w₁ (Err e) → Stopped d.strict s e
+  pub body_refused : (w₁ : Words) (e : Refusal) → Closes here own w w₁ (Err e) → Stopped d.strict s e
   body_refused w₁ e y =
       h.rest ∙ ap (and_then (λ F. from_procedures (refuses_in d) (pred (left_lines d)) (one_more before.declared m F) before.items)) y.0
 

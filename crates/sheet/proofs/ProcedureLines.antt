@@ -7,6 +7,7 @@ use mathlib.Core.List.{List, [], ◌∷◌, ◌++◌}
 use lib.ListN.{length, drop}
 use lib.Dec.{eqb, ltb}
 use borrow.Author.Tests.{ltb-true, ltb-false}
+use Rattle.specification.specs.declared.refusals.Refusal.{Refusal}
 use Rattle.specification.specs.Bytes.{Bytes, bytes, pick, Class, feed, colon, begins}
 use Rattle.specification.specs.Parser.{Reader, Read, refused, found, Parser, give, and_then, ◌>>=◌, ◌>>◌, mark, key}
 use Rattle.specification.specs.Lines.{count, Declared}
@@ -184,7 +185,7 @@ module _ (s : Bytes) (n : ℕ) (p : Progress) (w : Words) (h : (follows s p ≡ 
       ap (and_then on)
       (number-alike x.tokens h.1.locals (bytes "proc=") 0 8 colon (line_at s x.at) ∙ ap (later_read x.tokens h.1.locals) (sym told))
 
-  pub head-refused : (e : ℕ × ℕ) → refused e.0 e.1 ≡ number_to (bytes "proc=") 0 8 colon (line_at s x.at) → Stopped d.strict s e
+  pub head-refused : (e : Refusal) → refused e.number e.place ≡ number_to (bytes "proc=") 0 8 colon (line_at s x.at) → Stopped d.strict s e
   head-refused e told = headed told
 
   pub head-found : {m from : ℕ} → found m (line_at s from) ≡ number_to (bytes "proc=") 0 8 colon (line_at s x.at) → from ≤ length s → Begun s n p m from w

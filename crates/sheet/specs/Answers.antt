@@ -1,5 +1,6 @@
 -- The answers of the code that reads the lines, put into the specification's words. Assumes nothing.
 use Rattle.std.specs.Prelude.{ℕ, ℤ, Result, Ok, Err}
+use Rattle.specification.specs.declared.refusals.Refusal.{Refusal}
 use Rattle.specification.specs.Bytes.{Bytes, Class}
 use Rattle.specification.specs.Parser.{Read, refused, found, Parser, give, ◌>>=◌, ◌>>◌, mark, key}
 use Rattle.specification.specs.Lines.{count}
@@ -11,12 +12,12 @@ use Rattle.sheet.specs.Reader.{line_at}
 
 -- what the code answers: a value, or a refusal as its number and place
 abbrev pub Answer : Type 0 → Type 0
-Answer A = Result A (ℕ × ℕ)
+Answer A = Result A Refusal
 
 -- by what the value is read as
 abbrev pub reading : {A B : Type 0} → (A → Read B) → Answer A → Read B
 reading f (Ok a) = f a
-reading f (Err e) = refused e.0 e.1
+reading f (Err e) = refused e.number e.place
 
 -- the place after what was read, which is told beside
 abbrev pub place_read : {A : Type 0} → A → Bytes → Answer ℕ → Read A

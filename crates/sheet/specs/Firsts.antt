@@ -50,5 +50,5 @@ pub record ArraysFound (s : Bytes) (at scalars : ℕ) (w : Words) (t : Table) (e
 
 -- the line leaves the words as w'
 abbrev pub ArraysDone : Bytes → ℕ → ℕ → Words → Words → Answer (Arrays × ℕ) → Type 0
-ArraysDone s at scalars w w' (Err e) = (arrays_line scalars (line_at s at) ≡ refused e.0 e.1) × (length w' ≡ length w)
+ArraysDone s at scalars w w' (Err e) = (arrays_line scalars (line_at s at) ≡ refused e.number e.place) × (length w' ≡ length w)
 ArraysDone s at scalars w w' (Ok x) = ArraysFound s at scalars w (table_of w' x.0) x.1

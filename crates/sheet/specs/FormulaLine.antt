@@ -135,7 +135,7 @@ pub record Through (b : Begin) (w w' : Words) (n e m : ℕ) : Type 0 where
   pub all : (D : Declared) → Known b.limits w D → whole b D ≡ found tokens (reader_at b.bytes e n locals)
 
 abbrev pub Scans : Begin → Words → Words → Answer Reached → Type 0
-Scans b w w' (Err e) = (length w' ≡ length w) × ((D : Declared) → Known b.limits w D → whole b D ≡ refused e.0 e.1)
+Scans b w w' (Err e) = (length w' ≡ length w) × ((D : Declared) → Known b.limits w D → whole b D ≡ refused e.number e.place)
 Scans b w w' (Ok x) = Through b w w' x.tokens x.at x.bound
 
 -- ---- the line
@@ -157,7 +157,7 @@ Within s (Err e) = Unit {0}
 Within s (Ok x) = (x.tokens ≤ max_tokens) × (x.at ≤ length s)
 
 abbrev pub Closes : Begin → Declared → Words → Words → Answer Reached → Type 0
-Closes b D w w' (Err e) = (line_formula (refusing_at b) D (at_begin b) ≡ refused e.0 e.1) × (length w' ≡ length w)
+Closes b D w w' (Err e) = (line_formula (refusing_at b) D (at_begin b) ≡ refused e.number e.place) × (length w' ≡ length w)
 Closes b D w w' (Ok x) = Closed b D w w' x.tokens x.at x.bound
 
 -- the formula's line was read, and the table has n tokens: those before it, and its own
@@ -172,5 +172,5 @@ pub record Laid (b : Begin) (D : Declared) (w w' : Words) (n : ℕ) : Type 0 whe
       Beside (laid_ends 0 (tokens_in w 0 b.tokens ++ formula_tokens formula) (laid_tokens b.tokens (formula_tokens formula) w)) w'
 
 abbrev pub LineRead : Begin → Declared → Words → Words → Answer ℕ → Type 0
-LineRead b D w w' (Err e) = (formula_rest (refusing_at b) D (at_begin b) ≡ refused e.0 e.1) × (length w' ≡ length w)
+LineRead b D w w' (Err e) = (formula_rest (refusing_at b) D (at_begin b) ≡ refused e.number e.place) × (length w' ≡ length w)
 LineRead b D w w' (Ok n) = Laid b D w w' n

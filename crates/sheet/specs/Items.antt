@@ -111,5 +111,5 @@ pub record GivenFound (D : Declared) (s : Bytes) (at : ℕ) (w w' : Words) (e : 
   pub laid : w' ≡ laid_given items w
 
 abbrev pub GivenDone : Declared → Bytes → ℕ → Words → Words → Answer ℕ → Type 0
-GivenDone D s at w w' (Err e) = (given_line D (line_at s at) ≡ refused e.0 e.1) × (length w' ≡ length w)
+GivenDone D s at w w' (Err e) = (given_line D (line_at s at) ≡ refused e.number e.place) × (length w' ≡ length w)
 GivenDone D s at w w' (Ok e) = GivenFound D s at w w' e

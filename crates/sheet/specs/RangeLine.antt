@@ -56,5 +56,5 @@ pub record RangesFound (edition scalars arrays : ℕ) (s : Bytes) (at : ℕ) (w 
   pub laid : (D : Declared) → Declares D scalars arrays w → w' ≡ laid_ranges D 0 ranges w
 
 abbrev pub RangesDone : ℕ → ℕ → ℕ → Bytes → ℕ → Words → Words → Answer ℕ → Type 0
-RangesDone edition scalars arrays s at w w' (Err e) = (ranges_line edition (scalars + arrays) (line_at s at) ≡ refused e.0 e.1) × (length w' ≡ length w)
+RangesDone edition scalars arrays s at w w' (Err e) = (ranges_line edition (scalars + arrays) (line_at s at) ≡ refused e.number e.place) × (length w' ≡ length w)
 RangesDone edition scalars arrays s at w w' (Ok e) = RangesFound edition scalars arrays s at w w' e

@@ -1,6 +1,8 @@
 -- The lines in order: what was read after some of them, and what the reader's answer says of a sheet. The lines of arrays and of ranges are one
 -- stage together, and those of procedures. Assumes nothing.
 use Rattle.std.specs.Prelude.{ℕ, suc, pred, ◌-◌, ◌≤◌, ◌<◌, Bool, ◌&&◌, ◌≡◌, List, [], length, get_or, replicate, drop, ltb, Ok, Err}
+use Rattle.specification.specs.declared.refusals.Refusal.{Refusal}
+use Rattle.specification.specs.Refusals.{refusal_with}
 use Rattle.specification.specs.Bytes.{Bytes, bytes, begins}
 use Rattle.specification.specs.Parser.{Reader, Read, refused, found}
 use Rattle.specification.specs.Lines.{Range, Declared}
@@ -24,7 +26,7 @@ use Rattle.sheet.specs.Rest.{from_procedures, from_body, from_given, from_ranges
 
 -- a refusal's number and place, or how many scalars, arrays and tokens there are, and the formula's first token
 abbrev pub reading_of : Read Sheet → Answer Reading
-reading_of (refused k p) = Err (k, p)
+reading_of (refused k p) = Err (refusal_with k p)
 reading_of (found s r) = Ok (record {
   scalars = s.declared.scalars;
   arrays = length s.declared.arrays;
@@ -55,8 +57,8 @@ abbrev pub unread : Bool → Progress
 unread strict = standing (limits strict 0 0 0 0 0 0) 0
 
 -- the sheet is refused, with this number and place
-abbrev pub Stopped : Bool → Bytes → ℕ × ℕ → Type 0
-Stopped strict s e = sheet strict (line_at s 0) ≡ refused e.0 e.1
+abbrev pub Stopped : Bool → Bytes → Refusal → Type 0
+Stopped strict s e = sheet strict (line_at s 0) ≡ refused e.number e.place
 
 -- ---- what was read, over n words that were zero
 

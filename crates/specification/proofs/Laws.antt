@@ -87,6 +87,7 @@ pub mod Parts
 -- of what is printed and reported
 pub mod Printed
 pub mod Report
+pub mod Reasons
 -- the third demand
 pub mod Agreement
 pub mod InRanges

@@ -4,6 +4,8 @@
 use Rattle.std.specs.Prelude as std
 use Rattle.std.specs.Prelude.{ℕ, ◌+◌, Bool, true, false, ◌&&◌, List, [], ◌∷◌, ◌++◌, length, drop, replicate, leb, Ok, Err}
 use Rattle.std.proofs.Math.Option.{Option, none, some as just}
+use Rattle.specification.specs.declared.refusals.Refusal.{Refusal}
+use Rattle.specification.specs.Refusals.{refusal_with}
 use Rattle.specification.specs.Bytes.{Bytes, bytes, pick}
 use Rattle.specification.specs.Number.{least, greatest}
 use Rattle.specification.specs.Parser.{Read, refused, found, and_then}
@@ -164,10 +166,10 @@ written (moved t) = t
 
 -- how many bytes were written, or a refusal's number and place
 abbrev pub Move : Type 0
-Move = std.Result ℕ (ℕ × ℕ)
+Move = std.Result ℕ Refusal
 
 abbrev pub outcome : Result → Move
-outcome (refusal n p) = Err (n, p)
+outcome (refusal n p) = Err (refusal_with n p)
 outcome (moved t) = Ok (length t)
 
 -- the moved sheet, and beyond it what was held; all of that where the sheet is refused

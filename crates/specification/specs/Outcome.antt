@@ -7,6 +7,8 @@ use Rattle.specification.specs.declared.Tallies.{Tallies}
 use Rattle.specification.specs.declared.End.{End}
 use Rattle.specification.specs.declared.End.TheVariants.{Done, Spent, Path, Output}
 use Rattle.specification.specs.declared.Ran.{Ran}
+use Rattle.specification.specs.declared.refusals.Refusal.{Refusal}
+use Rattle.specification.specs.Refusals.{refusal_with}
 use Rattle.specification.specs.Bytes.{Bytes, pick, between}
 use Rattle.specification.specs.Parser.{Read, refused, found}
 use Rattle.specification.specs.Given.{Item}
@@ -84,13 +86,13 @@ written (ran e t w) = w
 
 -- how the run ended and how many bytes it wrote, or a refusal's number and place
 abbrev pub Outcome : Type 0
-Outcome = std.Result Ran (ℕ × ℕ)
+Outcome = std.Result Ran Refusal
 
 abbrev pub ended : End → Tallies → ℕ → Ran
 ended e t n = record { end = e; tallies = t; written = n }
 
 abbrev pub outcome : Result → Outcome
-outcome (refusal n p) = Err (n, p)
+outcome (refusal n p) = Err (refusal_with n p)
 outcome (ran e t w) = Ok (ended e t (length w))
 
 -- the output begins with whole blocks, and beyond them holds what it held

@@ -34,7 +34,7 @@ refusal_lines number place = field_text (bytes "refused=") number ++ field_text 
 
 -- the lines after the listing
 unfoldable pub closing : Outcome → Bytes
-closing (Err r) = refusal_lines r.0 r.1
+closing (Err r) = refusal_lines r.number r.place
 closing (Ok x) = end_line x.end ++ tally_lines x.tallies
 
 -- the listing and then these lines

@@ -3,6 +3,7 @@
 use Rattle.std.specs.Prelude.{ℕ, List, [], ◌∷◌, eqb, Ok, Err}
 use Rattle.specification.specs.declared.End.{End}
 use Rattle.specification.specs.declared.End.TheVariants.{Done, Spent, Path, Output}
+use Rattle.specification.specs.declared.refusals.Refusal.{Refusal}
 use Rattle.specification.specs.Bytes.{pick}
 use Rattle.specification.specs.Outcome.{Outcome}
 use Rattle.specification.specs.Moves.{Move}
@@ -18,8 +19,8 @@ abbrev pub end_from : ℕ → End
 end_from n = pick (eqb n (end_number Done)) Done (pick (eqb n (end_number Spent)) Spent (pick (eqb n (end_number Path)) Path Output))
 
 -- of a refusal: its number, its place, and six zeros
-abbrev pub refusal_report : ℕ × ℕ → List ℕ
-refusal_report r = r.0 ∷ r.1 ∷ 0 ∷ 0 ∷ 0 ∷ 0 ∷ 0 ∷ 0 ∷ []
+abbrev pub refusal_report : Refusal → List ℕ
+refusal_report r = r.number ∷ r.place ∷ 0 ∷ 0 ∷ 0 ∷ 0 ∷ 0 ∷ 0 ∷ []
 
 -- refused number or 0, place, end, nodes, answers, errors, fails, bytes written; of a refused run the last six are zero
 abbrev pub report_of : Outcome → List ℕ

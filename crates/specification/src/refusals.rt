@@ -1,8 +1,6 @@
-// Refusals: why a sheet is refused, and where. Clauses see a refusal as its number and byte place.
+// Refusals: why a sheet is refused, and where.
 ghost use Rattle.std.specs.Prelude.{◌≡◌};
-ghost use Rattle.specification.specs.Refusals.{reason_number};
-
-use std::marker::Model;
+ghost use Rattle.specification.specs.Refusals.{reason_number, refusal_with};
 
 // The reasons, with their numbers (docs/NOTATION.md, "Refused sheets").
 #[derive(Clone, Copy, Debug, PartialEq, Eq)]
@@ -51,40 +49,32 @@ impl From<Reason> for u32 {
     }
 }
 
-#[derive(Clone, Copy, Debug)]
+// The number of the reason, and the byte place. (The number and no `Reason`: clauses see it as the documents have it, a report can be told again, and
+// without a model of its own a `Result` that holds it is copied as any plain value.)
+#[derive(Clone, Copy, Debug, PartialEq, Eq)]
 pub struct Refusal {
-    reason: Reason,
-    place: usize,
-}
-
-impl Model for Refusal {
-    ghost use Rattle.std.specs.Prelude.{ℕ};
-    ghost use Rattle.specification.specs.Refusals.{reason_number, reason_of, refusal_back};
-
-    ghost Value = { ℕ × ℕ };
-
-    ghost view = { λ r. (reason_number r.reason, r.place) };
-
-    ghost inverse = { λ v. record { reason = reason_of v.0; place = v.1 } };
-
-    ghost inverse_ok = { λ a h. refusal_back a };
+    pub number: u32,
+    pub place: usize,
 }
 
 impl Refusal {
     pub fn new(reason: Reason, place: usize) -> Refusal
-        ensures { result ≡ (reason_number reason, place) }
+        ensures { result ≡ refusal_with (reason_number reason) place }
     {
-        Refusal { reason, place }
+        Refusal {
+            number: reason.into(),
+            place,
+        }
     }
 
     pub fn number(self) -> u32
-        ensures { result ≡ self.0 }
+        ensures { result ≡ self.number }
     {
-        u32::from(self.reason)
+        self.number
     }
 
     pub fn place(self) -> usize
-        ensures { result ≡ self.1 }
+        ensures { result ≡ self.place }
     {
         self.place
     }

@@ -9,6 +9,7 @@ use lib.ListN.{length, replicate}
 use lib.Dec.{leb}
 use borrow.Author.Tests.{leb-true}
 use Rattle.std.specs.Prelude.{Ok, Err}
+use Rattle.specification.specs.Refusals.{refusal_with}
 use Rattle.specification.specs.Bytes.{Bytes, bytes, between}
 use Rattle.specification.specs.Parser.{Reader, Read, refused, found}
 use Rattle.specification.specs.Sheet.{Sheet, read_with}
@@ -150,13 +151,13 @@ module _ (way : Way) (sheet : Bytes) (w : List ℕ) (o : Bytes) where
   gives-here x e = way_parts way sheet (length w) (length o) ∙ ap (after_reading (sheet_result way)) e
 
   -- a sheet that is not admitted
-  pub refused-answers : (w' : List ℕ) (n p : ℕ) → Err (n, p) ≡ reading_of admits-here → w' ≡ words_of (length w) admits-here →
-      Moved (way_of way) sheet (lent w w') (lent o o) (Err (n, p))
+  pub refused-answers : (w' : List ℕ) (n p : ℕ) → Err (refusal_with n p) ≡ reading_of admits-here → w' ≡ words_of (length w) admits-here →
+      Moved (way_of way) sheet (lent w w') (lent o o) (Err (refusal_with n p))
   unfolding words_after output_after
   refused-answers w' n p e h = go admits-here refl e h
     where
-      go : (x : Read Sheet) → admits-here ≡ x → Err (n, p) ≡ reading_of x → w' ≡ words_of (length w) x →
-          Moved (way_of way) sheet (lent w w') (lent o o) (Err (n, p))
+      go : (x : Read Sheet) → admits-here ≡ x → Err (refusal_with n p) ≡ reading_of x → w' ≡ words_of (length w) x →
+          Moved (way_of way) sheet (lent w w') (lent o o) (Err (refusal_with n p))
       go (refused m q) f e h =
           let (a, b) = same-refusal e in
           let g : way_of way sheet (length w) (length o) ≡ refusal n p = gives-here (refused m q) f ∙ rw (a, b) refl in

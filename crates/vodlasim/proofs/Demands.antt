@@ -5,6 +5,7 @@ use mathlib.Core.List.{◌++◌}
 use lib.ListN.{length, take, drop}
 use lib.Seq.{take_at, drop_at}
 use Rattle.std.specs.Prelude.{Ok, Err}
+use Rattle.specification.specs.Refusals.{refusal_with}
 use Rattle.specification.specs.declared.Setting.{Setting}
 use Rattle.specification.specs.declared.Tallies.{Tallies}
 use Rattle.specification.specs.declared.End.{End}
@@ -31,7 +32,7 @@ ran-of (ran e' t' w) e t n h =
     let q : t' ≡ t = ap (λ x. x.tallies) same in
     (w, ap (λ x. ran x t' w) p ∙ ap (λ x. ran e x w) q, ap (λ x. x.written) same)
 
-pub refused-of : (x : Result) (k p : ℕ) → outcome x ≡ Err (k, p) → x ≡ refusal k p
+pub refused-of : (x : Result) (k p : ℕ) → outcome x ≡ Err (refusal_with k p) → x ≡ refusal k p
 refused-of (refusal k' p') k p h =
     let (a, b) = same-refusal h in
     rw (a, b) refl
@@ -49,7 +50,7 @@ module _ (sheet : Bytes) (S : Setting) (work output : Lent) (r : Outcome) (a : A
       let (w, is, count) = ran-of result e t n (sym a.result ∙ h) in
       (w, is, count, a.output ∙ ap (λ x. written x ++ drop (length (written x)) output.before) is ∙ ap (λ k. w ++ drop k output.before) count)
 
-  refused_as : (k p : ℕ) → r ≡ Err (k, p) → result ≡ refusal k p
+  refused_as : (k p : ℕ) → r ≡ Err (refusal_with k p) → result ≡ refusal k p
   refused_as k p h = refused-of result k p (sym a.result ∙ h)
 
   pub memory : Memory sheet S work output r

@@ -7,6 +7,7 @@ use mathlib.Core.Logic.{inl, inr, ⊎_elim}
 use lib.ListN.{length, take, drop}
 use lib.Seq.{take-append_seam, drop-append_seam}
 use Rattle.std.specs.Prelude.{Ok, Err}
+use Rattle.specification.specs.Refusals.{refusal_with}
 use Rattle.specification.specs.declared.Setting.{Setting}
 use Rattle.specification.specs.Bytes.{Bytes}
 use Rattle.specification.specs.Parser.{Read, refused, found}
@@ -51,7 +52,7 @@ shown (moved t) o o' n e f =
       rest = rw (sym l, f) (drop-append_seam t (drop (length t) o));
     }
 
-refused-is : (x : Result) (n p : ℕ) → Err (n, p) ≡ outcome x → x ≡ refusal n p
+refused-is : (x : Result) (n p : ℕ) → Err (refusal_with n p) ≡ outcome x → x ≡ refusal n p
 refused-is (refusal m q) n p e = let (a, b) = same-refusal e in rw (a, b) refl
 refused-is (moved t) n p e = contradiction cc
 
@@ -137,7 +138,7 @@ pub pass-refuses : PassRefuses
 pass-refuses sheet w o w' o' r r' h k lw lo n p =
     let law = laws.refuses-as-back sheet (length w.before) (length o.before) n p in
     let back : gives k ≡ move_down sheet (length w.before) (length o.before) = rw (lw, lo) in
-    let told : (m q : ℕ) → move_down sheet (length w.before) (length o.before) ≡ refusal m q → r' ≡ Err (m, q) =
+    let told : (m q : ℕ) → move_down sheet (length w.before) (length o.before) ≡ refusal m q → r' ≡ Err (refusal_with m q) =
     λ m q e. k.result ∙ ap outcome (back ∙ e) in (
       λ e. ⊎_elim (λ x. inl (told n p x)) (λ x. inr (x.0, told 17 x.0 x.1)) (law.0 (refused-is (gives h) n p (sym e ∙ h.result))),
       λ e. ⊎_elim (λ x. inl x) (λ x. inr (h.result ∙ ap outcome x)) (law.1 (sym back ∙ refused-is (gives k) n p (sym e ∙ k.result))),

@@ -8,6 +8,8 @@ use lib.ListN.{length, replicate}
 use lib.Dec.{leb}
 use borrow.Author.Tests.{leb-true}
 use Rattle.std.specs.Prelude.{Result, Ok, Err}
+use Rattle.specification.specs.declared.refusals.Refusal.{Refusal}
+use Rattle.specification.specs.Refusals.{refusal_with}
 use Rattle.specification.specs.declared.Setting.{Setting}
 use Rattle.specification.specs.declared.Ran.{Ran}
 use Rattle.specification.specs.Bytes.{Bytes, pick, between}
@@ -29,8 +31,8 @@ use Rattle.vodlasim.specs.Lent.{lent}
 use Rattle.vodlasim.specs.Answered.{Answered}
 
 -- a refusal that is returned tells its number and place
-pub same-refusal : {T : Type 0} {n p m q : ℕ} → ◌≡◌ {A = Result T (ℕ × ℕ)} (Err (n, p)) (Err (m, q)) → (n ≡ m) × (p ≡ q)
-same-refusal {n = n} {p} {m} {q} e = let r : ◌≡◌ {A = ℕ × ℕ} (n, p) (m, q) = cc in (ap (λ r. r.0) r, ap (λ r. r.1) r)
+pub same-refusal : {T : Type 0} {n p m q : ℕ} → ◌≡◌ {A = Result T Refusal} (Err (refusal_with n p)) (Err (refusal_with m q)) → (n ≡ m) × (p ≡ q)
+same-refusal {n = n} {p} {m} {q} e = let r : ◌≡◌ {A = Refusal} (refusal_with n p) (refusal_with m q) = cc in (ap (λ r. r.number) r, ap (λ r. r.place) r)
 
 -- ---- the setting's tests
 
@@ -117,18 +119,18 @@ module _ (b : Bytes) (S : Setting) (n : ℕ) (limit : S.path ≤ longest_path) (
 -- ---- the four ways of the call
 
 module _ (b : Bytes) (S : Setting) (w w' : List ℕ) (o : Bytes) where
-  pub refused-answers : (k p : ℕ) → call b S (length w) (length o) ≡ refusal k p → w' ≡ replicate (length w) 0 → Answered b S (lent w w') (lent o o) (Err (k, p))
+  pub refused-answers : (k p : ℕ) → call b S (length w) (length o) ≡ refusal k p → w' ≡ replicate (length w) 0 → Answered b S (lent w w') (lent o o) (Err (refusal_with k p))
   unfolding output_after words_after
   refused-answers k p c z = record { result = sym (ap outcome c); output = sym (ap (λ x. output_after x o) c); work = z }
 
   module _ (e : enough_memory S (length w) ≡ true) (l : leb (length b) 4096 ≡ true) where
-    unread-of : (x : Read Sheet) (k p : ℕ) → Err (k, p) ≡ reading_of x → x ≡ refused k p
+    unread-of : (x : Read Sheet) (k p : ℕ) → Err (refusal_with k p) ≡ reading_of x → x ≡ refused k p
     unread-of (refused k' p') k p h =
         let (a, b) = same-refusal h in
         rw (a, b) refl
     unread-of (found s r) k p h = contradiction cc
 
-    pub unread-answers : (k p : ℕ) → Err (k, p) ≡ reading_of (read b) → w' ≡ words_of (length w) (read b) → Answered b S (lent w w') (lent o o) (Err (k, p))
+    pub unread-answers : (k p : ℕ) → Err (refusal_with k p) ≡ reading_of (read b) → w' ≡ words_of (length w) (read b) → Answered b S (lent w w') (lent o o) (Err (refusal_with k p))
     unread-answers k p t h =
         let is = unread-of (read b) k p t in
         refused-answers k p (reads b S (length w) (length o) e l ∙ ap (after_reading S (length o)) is) (h ∙ ap (words_of (length w)) is)

@@ -6,6 +6,7 @@
 -- function reaches no memory but its own locals and the slices it is lent, each index is proved to lie in its slice, and the sheet is
 -- lent for reading only. "The call does its own checking": `run` has no `requires`. Assumes nothing.
 use Rattle.std.specs.Prelude.{ℕ, ◌≤◌, ◌<◌, ◌≡◌, List, [], ◌∷◌, ◌++◌, length, take, drop, replicate, Ok, Err}
+use Rattle.specification.specs.Refusals.{refusal_with}
 use Rattle.specification.specs.declared.Setting.{Setting}
 use Rattle.specification.specs.declared.Tallies.{Tallies}
 use Rattle.specification.specs.declared.End.{End}
@@ -34,11 +35,11 @@ pub record Memory (sheet : Bytes) (S : Setting) (work output : Lent) (r : Outcom
   -- a sheet is refused with a number and a byte place exactly where document 01 refuses it with these
   pub refused :
       (number place : ℕ) →
-      (call sheet S (length work.before) (length output.before) ≡ refusal number place → r ≡ Err (number, place)) ×
-      (r ≡ Err (number, place) → call sheet S (length work.before) (length output.before) ≡ refusal number place)
+      (call sheet S (length work.before) (length output.before) ≡ refusal number place → r ≡ Err (refusal_with number place)) ×
+      (r ≡ Err (refusal_with number place) → call sheet S (length work.before) (length output.before) ≡ refusal number place)
   -- and the output is then untouched, all tallies and the bytes written are zero
   pub untouched :
-      (number place : ℕ) → r ≡ Err (number, place) →
+      (number place : ℕ) → r ≡ Err (refusal_with number place) →
       (output.after ≡ output.before) × (report_of r ≡ number ∷ place ∷ 0 ∷ 0 ∷ 0 ∷ 0 ∷ 0 ∷ 0 ∷ [])
 
 -- demand 2: the listing is the tree, read left to right; of every run, whatever was skipped and however it ended
@@ -69,4 +70,4 @@ pub record KeepsRanges (sheet output' : Bytes) (r : Outcome) : Type 0 where
 pub record CutShort (sheet : Bytes) (r : Outcome) : Type 0 where
   pub refused :
       (missing : Bytes) (s : Sheet) (reader : Reader) → 0 < length missing → read (sheet ++ missing) ≡ found s reader →
-      (number : ℕ) × (place : ℕ) × (r ≡ Err (number, place))
+      (number : ℕ) × (place : ℕ) × (r ≡ Err (refusal_with number place))

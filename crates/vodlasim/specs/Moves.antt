@@ -2,6 +2,7 @@
 -- Answered) alone. The theorems, of every sheet of whatever bytes, are in proofs/Moves.antt. That every call ends, touches nothing but the lent
 -- memory and does its own checking is as in Demands. Assumes nothing.
 use Rattle.std.specs.Prelude.{ℕ, ◌≤◌, ◌≡◌, Bool, true, false, ◌⊎◌, length, take, drop, replicate, Ok, Err}
+use Rattle.specification.specs.Refusals.{refusal_with}
 use Rattle.specification.specs.declared.Setting.{Setting}
 use Rattle.specification.specs.declared.Tallies.{Tallies}
 use Rattle.specification.specs.declared.End.{End}
@@ -28,10 +29,10 @@ pub record MoveMemory (way : Way) (sheet : Bytes) (work output : Lent) (r : Move
   -- a sheet is refused with a number and a byte place exactly where document 02 refuses it with these
   pub refused :
       (number place : ℕ) →
-      (way sheet (length work.before) (length output.before) ≡ refusal number place → r ≡ Err (number, place)) ×
-      (r ≡ Err (number, place) → way sheet (length work.before) (length output.before) ≡ refusal number place)
+      (way sheet (length work.before) (length output.before) ≡ refusal number place → r ≡ Err (refusal_with number place)) ×
+      (r ≡ Err (refusal_with number place) → way sheet (length work.before) (length output.before) ≡ refusal number place)
   -- and the output is then untouched
-  pub untouched : (number place : ℕ) → r ≡ Err (number, place) → output.after ≡ output.before
+  pub untouched : (number place : ℕ) → r ≡ Err (refusal_with number place) → output.after ≡ output.before
 
 -- a pass and a move back of one sheet, with as much memory lent: the pass refuses what the way back refuses, with the same number and place, but for
 -- 17, and for 15 and 16, which are of the way back only
@@ -39,8 +40,8 @@ abbrev pub PassRefuses : Type 0
 PassRefuses =
     (sheet : Bytes) (w o w' o' : Lent) (r r' : Move) → Moved tidy sheet w o r → Moved move_down sheet w' o' r' →
     length w'.before ≡ length w.before → length o'.before ≡ length o.before → (n p : ℕ) →
-    (r ≡ Err (n, p) → (r' ≡ Err (n, p)) ⊎ ((q : ℕ) × (r' ≡ Err (17, q)))) ×
-    (r' ≡ Err (n, p) → (between 15 17 n ≡ true) ⊎ (r ≡ Err (n, p)))
+    (r ≡ Err (refusal_with n p) → (r' ≡ Err (refusal_with n p)) ⊎ ((q : ℕ) × (r' ≡ Err (refusal_with 17 q)))) ×
+    (r' ≡ Err (refusal_with n p) → (between 15 17 n ≡ true) ⊎ (r ≡ Err (refusal_with n p)))
 
 -- what stands there is the same sheet, carried over
 pub record MovesSheet (strict : Bool) (edition : ℕ) (over : Sheet → Sheet) (sheet : Bytes) (output : Lent) (r : Move) : Type 0 where
@@ -78,7 +79,7 @@ LeftAlone =
 abbrev pub Runs : Way → Type 0
 Runs way =
     (sheet : Bytes) (work output : Lent) (r : Move) → Moved way sheet work output r → (n : ℕ) → r ≡ Ok n →
-    (S : Setting) (w o : Lent) (x : Outcome) → Answered (moved_sheet n output) S w o x → (number place : ℕ) → x ≡ Err (number, place) → number ≡ 1
+    (S : Setting) (w o : Lent) (x : Outcome) → Answered (moved_sheet n output) S w o x → (number place : ℕ) → x ≡ Err (refusal_with number place) → number ≡ 1
 
 -- a run of a sheet of this sort and a run of the moved sheet, with the same setting and as much memory: they end alike, with the same tallies,
 -- and write the same bytes
@@ -90,7 +91,7 @@ RunAlike Sort way =
 
 -- what a run tells by its answer and its output: a refusal, or the end, the tallies and the bytes written
 abbrev pub told : Outcome → Lent → run.Result
-told (Err r) output = run.refusal r.0 r.1
+told (Err r) output = run.refusal r.number r.place
 told (Ok x) output = run.ran x.end x.tallies (take x.written output.after)
 
 -- a run of what is written tells what the sheet told before empty ranges were refused, but for `at=` lines, given output enough for both

@@ -10,6 +10,7 @@ use lib.ListN.{length, take, drop, length-append, length-drop}
 use lib.Seq.{length-take-le, take-add, drop_at, sets-eq}
 use borrow.Author.Tests.{le-leb, lt-leb}
 use Rattle.std.specs.Prelude.{Ok, Err}
+use Rattle.specification.specs.Refusals.{refusal_with}
 use Rattle.specification.specs.Bytes.{Bytes, bytes}
 use Rattle.specification.specs.Moves.{Result, fitted, unless, longest_sheet, Move, output_after}
 use Rattle.tables.specs.Layout.{Words}
@@ -146,7 +147,7 @@ rounding-of s k x ek e = rw (← ek) e
 
 module _ (o : Bytes) where
   module _ (t : Bytes) (n : ℕ) (size : n ≡ length t) where
-    pub done-long : longest_sheet < n → Done (fitted t) (Err (2, longest_sheet)) o o
+    pub done-long : longest_sheet < n → Done (fitted t) (Err (refusal_with 2 longest_sheet)) o o
     unfolding fitted output_after
     done-long h = rw (lt-leb (length t) longest_sheet (omega arith)) (refl, refl)
 
@@ -159,7 +160,7 @@ module _ (o : Bytes) where
         )
 
   -- another refusal
-  pub done-some : (m p : ℕ) (x : Option ℕ) (r : Result) → just p ≡ x → Done (unless m x r) (Err (m, p)) o o
+  pub done-some : (m p : ℕ) (x : Option ℕ) (r : Result) → just p ≡ x → Done (unless m x r) (Err (refusal_with m p)) o o
   unfolding output_after
   done-some m p x r e = rw (← e) (refl, refl)
 

@@ -6,5 +6,5 @@ use Rattle.page.proofs.closing.Goals as goal
 
 pub returns : goal.returns
 returns c =
-    let p = closed c.args.outcome.now c.new-written.ensures.held c.new-written.ensures.start (omega arith) c.closing_lines.ensures in
+    let p = closed c.args.outcome c.new-written.ensures.held c.new-written.ensures.start (omega arith) c.closing_lines.ensures in
     search rules
