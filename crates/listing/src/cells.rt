@@ -18,6 +18,7 @@ enum Name {
 }
 
 // `v0`
+#[inline(always)]
 fn scalar_name(out: &mut Writer, n: u32)
     requires { Room out.old.at (label_text (cell_label (scalar n))) }
     ensures { Writes out.old out.new (label_text (cell_label (scalar n))) }
@@ -27,6 +28,7 @@ fn scalar_name(out: &mut Writer, n: u32)
 }
 
 // `a0.2`
+#[inline(always)]
 fn element_name(out: &mut Writer, a: u32, e: u32)
     requires { Room out.old.at (label_text (cell_label (element a e))) }
     ensures { Writes out.old out.new (label_text (cell_label (element a e))) }
@@ -37,6 +39,7 @@ fn element_name(out: &mut Writer, a: u32, e: u32)
     out.number(e as u64);
 }
 
+#[inline(always)]
 fn label(out: &mut Writer, name: Name)
     requires { Room out.old.at (label_text (cell_label (name_of name))) }
     ensures { Writes out.old out.new (label_text (cell_label (name_of name))) }
@@ -48,6 +51,7 @@ fn label(out: &mut Writer, name: Name)
 }
 
 // `v0=7` or `a0.2=-1`, if cell c has a value.
+#[inline(always)]
 fn cell(out: &mut Writer, w: &[u32], name: Name, c: u32)
     requires { (Sized w.now) × (c < max_cells) × (Room out.old.at (lines_text (line_at w.now (name_of name) c))) }
     ensures { Writes out.old out.new (lines_text (line_at w.now (name_of name) c)) }

@@ -83,10 +83,29 @@ put-digit at j n o h e =
     let s : j - at ≡ suc k = omega arith in
     rw (e, s) (sets-before o at (last_digits k (n / 10)) (48 + n % 10) (j - 1) (omega (arith, last-length k (n / 10))))
 
--- none are left
-pub put_none : (at j n : ℕ) (o : Bytes) → j ≤ at → sets o at (last_digits (j - at) n) ≡ o
+-- where more than one is left the number has one digit fewer without its last, and where one is left that is the number
+pub fewer-left : (k n : ℕ) → 1 < k → length (printℕ n) ≡ k → length (printℕ (n / 10)) ≡ k - 1
+fewer-left k n h e = go (ltb n 10) refl
+  where
+    go : (b : Bool) → ltb n 10 ≡ b → length (printℕ (n / 10)) ≡ k - 1
+    go true l = absurd (omega (arith, ap length (print-one n (ltb-true n 10 l))))
+    go false l = omega (arith, length_more n (ltb-false n 10 l))
+
+pub one-left : (n : ℕ) → length (printℕ n) ≡ 1 → n < 10
+one-left n e = go (ltb n 10) refl
+  where
+    go : (b : Bool) → ltb n 10 ≡ b → n < 10
+    go true l = ltb-true n 10 l
+    go false l = absurd (omega (arith, length_more n (ltb-false n 10 l), length_some (n / 10)))
+
+-- the first of them is put last
+pub put_first : (at j n : ℕ) (o : Bytes) {o' : Bytes} → at < j → j ≤ suc at → n < 10 → o' ≡ set o at (48 + n) →
+    o' ≡ sets o at (last_digits (j - at) n)
 unfolding last_digits
-put_none at j n o h = let z : j - at ≡ 0 = omega arith in rw z refl
+put_first at j n o h g l e =
+    let s : j - at ≡ 1 = omega arith in
+    let m : n % 10 ≡ n = omega arith in
+    rw (e, s, m) refl
 
 -- ---- the value of a word, with its sign
 
