@@ -15,7 +15,7 @@ pub extern "C" fn vodlasim_step(registers: &mut [u8; 4], unsent: &[u8]) -> usize
     stepped.sent
 }
 
-// The events, each `plotter`'s of the same name: a call for each, since the C interface has their names.
+// The events, each by `plotter::occur`: a call for each, since the C interface has their names.
 #[unsafe(no_mangle)]
 pub extern "C" fn vodlasim_ready_again(registers: &mut [u8; 4])
     ensures { registers.new ≡ bytes_of (occur Event.ReadyAgain (port_of registers.old)) }
