@@ -1,9 +1,9 @@
 -- The machine's 64 bits hold each operation on two values of 32 bits exactly, and what it reads back is the mathematical result.
 -- Assumes nothing.
-use Prim.Native.Nat.{ℕ, suc, ◌<◌, ◌≤◌}
+use Prim.Native.Nat.{ℕ, zero, suc, ◌<◌, ◌≤◌}
 use native.Mathlib.Omega.{arith}
 use native.Mathlib.Nat.{mul-le-mul}
-use mathlib.Core.Path.{◌≡◌, ◌∙◌, ap}
+use mathlib.Core.Path.{◌≡◌, refl, ◌∙◌, ap}
 use lib.Dec.{T}
 use lib.IntN.{ℤ, pos, negsuc, nat_abs, ◌+ℤ◌, ◌*ℤ◌}
 use lib.Signed.{quot_z, rem_z}
@@ -13,7 +13,7 @@ use mir.Syntax.{w64}
 use Rattle.specification.specs.Number.{in32}
 use Rattle.values.specs.Word.{signed, biased, Narrow}
 use Rattle.specification.proofs.Laws.Difference.{subℕ-ge, abs-product, abs-quotient, abs-remainder}
-use Rattle.values.proofs.Laws.Word.{narrow_signed, biased-word, in32-below}
+use Rattle.values.proofs.Laws.Word.{narrow_signed, signed-nonzero, biased-word, in32-below}
 
 -- ---- 64 bits are wide enough
 
@@ -55,6 +55,12 @@ module _ (x y : ℤ) (s : Narrow x) (t : Narrow y) (f : ℤ → ℤ → ℤ) (ex
   pub operation-read : machine (f (machine x) (machine y)) ≡ f x y
   operation-read = rw (narrow-read x s, narrow-read y t) (to_z-of_z w64 (f x y) (exact x y s t))
 
+-- the machine's divisor is not 0
+pub machine-nonzero : (y : ℤ) → Narrow y → (y ≡ pos zero → ⊥) → 0 < of_z w64 y
+machine-nonzero (pos zero) t n = absurd (n refl)
+machine-nonzero (pos (suc b)) t n = omega arith
+machine-nonzero (negsuc b) t n = omega arith
+
 -- two words, and their values as the machine has them
 pub record Operands (x y : ℕ) (a b : ℤ) : Type 0 where
   pub left_word : x < 4294967296
@@ -75,6 +81,9 @@ module _ {x y : ℕ} {a b : ℤ} (o : Operands x y a b) where
 
     pub result-read : machine (f (machine a) (machine b)) ≡ f (signed x) (signed y)
     result-read = rw (o.left, o.right) (operation-read (signed x) (signed y) left-narrow right-narrow f exact)
+
+  pub divisor-nonzero : (y ≡ 2147483648 → ⊥) → 0 < of_z w64 b
+  divisor-nonzero n = rw o.right (machine-nonzero (signed y) right-narrow (signed-nonzero y n))
 
 -- ---- a value's word
 

@@ -11,6 +11,7 @@ use Rattle.specification.specs.Number.{in32}
 use Rattle.specification.specs.Arithmetic.{eq_z, count}
 use Rattle.values.specs.Word.{signed, biased, Narrow}
 use Rattle.values.proofs.Laws.Test.{and_left, and_both, same-leb, true-leb, false-leb, same-eqb, false-eqb}
+use Rattle.specification.proofs.Laws.Contradiction.{contradiction}
 use Rattle.specification.proofs.Laws.Difference.{by_order, subℕ-ge, subℕ-lt, subℕ-same}
 
 -- what holds of the values of small and of large words holds of every word's
@@ -46,6 +47,13 @@ biased-word (negsuc n) t = omega arith
 
 pub narrow_signed : (w : ℕ) → w < 4294967296 → Narrow (signed w)
 narrow_signed w h = by_sign Narrow w (λ l. omega arith) (λ r. omega arith)
+
+-- the word of 0 is 2147483648, and no other
+pub signed-nonzero : (w : ℕ) → (w ≡ 2147483648 → ⊥) → signed w ≡ pos 0 → ⊥
+signed-nonzero w n = by_sign (λ z. z ≡ pos 0 → ⊥) w (λ l e. contradiction cc) (λ h e. n (omega (arith, zero_of (w - 2147483648) e)))
+  where
+    zero_of : (k : ℕ) → pos k ≡ pos 0 → k ≡ 0
+    zero_of k e = cc
 
 -- ---- comparisons
 
