@@ -1,6 +1,7 @@
 -- The demands (specs/Demands.antt) hold of every answered call. Assumes nothing.
 use Prim.Native.Nat.{ℕ, ◌≤◌}
 use mathlib.Core.Path.{◌≡◌, refl, sym, ◌∙◌, ap, subst}
+use mathlib.Core.Bool.{true}
 use mathlib.Core.List.{◌++◌}
 use lib.ListN.{length, take, drop}
 use lib.Seq.{take_at, drop_at}
@@ -16,12 +17,13 @@ use Rattle.specification.specs.Report.{report_of}
 use Rattle.specification.proofs.Laws.Contradiction.{contradiction}
 use Rattle.specification.proofs.Laws.Demand3.{Told, told}
 use Rattle.specification.proofs.Laws.CallRan.{call-refused}
+use Rattle.specification.proofs.Laws.Reasons.{call-reason}
 use Rattle.specification.proofs.Laws.CutShort.{shorter-refused}
 use Rattle.specification.proofs.Laws.Whole.{whole-blocks}
 use Rattle.vodlasim.specs.Lent.{Lent}
 use Rattle.vodlasim.specs.Answered.{Answered}
 use Rattle.vodlasim.proofs.Runs.{same-refusal}
-use Rattle.vodlasim.specs.Demands.{Memory, Lists, Agrees, KeepsRanges, CutShort}
+use Rattle.vodlasim.specs.Demands.{Memory, Reasoned, Lists, Agrees, KeepsRanges, CutShort}
 
 -- a result by its outcome
 pub ran-of : (x : Result) (e : End) (t : Tallies) (n : ℕ) → outcome x ≡ Ok (ended e t n) → (w : Bytes) × (x ≡ ran e t w) × (length w ≡ n)
@@ -66,6 +68,11 @@ module _ (sheet : Bytes) (S : Setting) (work output : Lent) (r : Outcome) (a : A
         );
     refused = λ k p. ((λ is. a.result ∙ ap outcome is), refused_as k p);
     untouched = λ k p h. (a.output ∙ ap (λ x. written x ++ drop (length (written x)) output.before) (refused_as k p h), ap report_of h);
+  }
+
+  pub reasoned : Reasoned r
+  reasoned = record {
+    refused = λ e h. call-reason true sheet S (length work.before) (length output.before) e.number e.place (refused_as e.number e.place h);
   }
 
   -- what a call that ran has told, over the bytes that stand in the output

@@ -22,11 +22,13 @@ use Rattle.specification.proofs.Laws.CallRan.{call-ran}
 use Rattle.specification.proofs.Laws.Admitted.{admitted-found}
 use Rattle.specification.proofs.Laws.Moves as laws
 use Rattle.specification.proofs.Laws.AsBefore as before
+use Rattle.specification.proofs.Laws.Reasons.{MoveReasoned, up-reason, down-reason, tidy-reason}
 use Rattle.vodlasim.specs.Lent.{Lent}
 use Rattle.vodlasim.specs.Answered.{Answered}
 use Rattle.vodlasim.specs.Moved.{Moved}
 use Rattle.vodlasim.proofs.Runs.{same-refusal}
 use Rattle.vodlasim.proofs.Demands.{ran-of, refused-of}
+use Rattle.vodlasim.specs.Demands.{Reasoned}
 use Rattle.vodlasim.specs.Moves.{moved_sheet, MoveMemory, PassRefuses, MovesSheet, BackAgain, Settled, LeftAlone, Runs, RunAlike, told, RunAsBefore, RunKept}
 
 -- ---- what a call shows of a move
@@ -62,6 +64,9 @@ module _ {way : Way} {sheet : Bytes} {work output : Lent} {r : Move} (h : Moved 
 
   shows : (n : ℕ) → r ≡ Ok n → Shown gives output.before output.after n
   shows n e = shown gives output.before output.after n (sym e ∙ h.result) h.output
+
+  reasoned-of : MoveReasoned gives → Reasoned r
+  reasoned-of law = record { refused = λ e k. law e.number e.place (refused-is gives e.number e.place (sym k ∙ h.result)) }
 
 -- ---- lent memory
 
@@ -120,6 +125,17 @@ module _ {sheet : Bytes} {work output : Lent} {r : Move} where
 
   pub tidy-memory : Moved tidy sheet work output r → MoveMemory tidy sheet work output r
   tidy-memory h = memory-of laws.tidy-moves tidy-roomy h
+
+  -- ---- a refusal's number
+
+  pub up-reasoned : Moved move_up sheet work output r → Reasoned r
+  up-reasoned h = reasoned-of h (up-reason sheet (length work.before) (length output.before))
+
+  pub down-reasoned : Moved move_down sheet work output r → Reasoned r
+  down-reasoned h = reasoned-of h (down-reason sheet (length work.before) (length output.before))
+
+  pub tidy-reasoned : Moved tidy sheet work output r → Reasoned r
+  tidy-reasoned h = reasoned-of h (tidy-reason sheet (length work.before) (length output.before))
 
   -- ---- the same sheet, carried over
 

@@ -1,12 +1,14 @@
--- The user's three demands over the call `run`, sentence by sentence, from its contract (Answered) alone. The theorems are in
--- proofs/Demands.antt.
+-- The user's three demands over the call `run`, sentence by sentence, from its contract (Answered) alone; and which numbers a refusal has
+-- (`Reasoned`, of moves too). The theorems are in proofs/Demands.antt, those of moves in proofs/Moves.antt.
 --
 -- Three sentences of the first demand stand in no record, since the toolchain proves them of every function. "Every run ends": a function
 -- is accepted only with a number that falls in each loop and at each recursive call. "Nothing outside the lent memory is read or written": a
 -- function reaches no memory but its own locals and the slices it is lent, each index is proved to lie in its slice, and the sheet is
 -- lent for reading only. "The call does its own checking": `run` has no `requires`. Assumes nothing.
-use Rattle.std.specs.Prelude.{ℕ, ◌≤◌, ◌<◌, ◌≡◌, List, [], ◌∷◌, ◌++◌, length, take, drop, replicate, Ok, Err}
-use Rattle.specification.specs.Refusals.{refusal_with}
+use Rattle.std.specs.Prelude.{ℕ, ◌≤◌, ◌<◌, ◌≡◌, List, [], ◌∷◌, ◌++◌, length, take, drop, replicate, Result, Ok, Err}
+use Rattle.specification.specs.declared.refusals.Reason.{Reason}
+use Rattle.specification.specs.declared.refusals.Refusal.{Refusal}
+use Rattle.specification.specs.Refusals.{reason_number, refusal_with}
 use Rattle.specification.specs.declared.Setting.{Setting}
 use Rattle.specification.specs.declared.Tallies.{Tallies}
 use Rattle.specification.specs.declared.End.{End}
@@ -41,6 +43,10 @@ pub record Memory (sheet : Bytes) (S : Setting) (work output : Lent) (r : Outcom
   pub untouched :
       (number place : ℕ) → r ≡ Err (refusal_with number place) →
       (output.after ≡ output.before) × (report_of r ≡ number ∷ place ∷ 0 ∷ 0 ∷ 0 ∷ 0 ∷ 0 ∷ 0 ∷ [])
+
+-- a refusal, of a run or of a move, has the number of a reason, so one from 1 to 17
+pub record Reasoned {A : Type 0} (r : Result A Refusal) : Type 0 where
+  pub refused : (e : Refusal) → r ≡ Err e → (reason : Reason) × (e.number ≡ reason_number reason)
 
 -- demand 2: the listing is the tree, read left to right; of every run, whatever was skipped and however it ended
 pub record Lists (sheet : Bytes) (S : Setting) (output : Lent) (r : Outcome) : Type 0 where

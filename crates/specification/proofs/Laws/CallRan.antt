@@ -20,7 +20,7 @@ refusal-not-ran : {A : Type 0} {n p : ℕ} {e : End} {t : Tallies} {w : Bytes} �
 refusal-not-ran h = contradiction cc
 
 -- a run is no refusal
-run-not-refusal : {A : Type 0} {n p : ℕ} (r : Run) → result_of r ≡ refusal n p → A
+pub run-not-refusal : {A : Type 0} {n p : ℕ} (r : Run) → result_of r ≡ refusal n p → A
 run-not-refusal (going t w) h = contradiction cc
 run-not-refusal (stopped e t w) h = contradiction cc
 

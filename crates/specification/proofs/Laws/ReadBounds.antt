@@ -14,8 +14,9 @@ use Rattle.specification.specs.Parser.{Reader, refused}
 use Rattle.specification.specs.Words.{Word}
 use Rattle.specification.specs.Formula.{Token, numbered, token, has}
 use Rattle.specification.specs.Sheet.{with_procedures, most_procedures, Sheet, refuses, sheet, opened, read_with, read}
+use Rattle.specification.specs.Moves.{read_only}
 use Rattle.specification.proofs.Laws.Parser.{refuses_with, and-true, Reading, refusal, holds, of-refused, bind-post, present-post, pick_post}
-use Rattle.specification.proofs.Laws.LineReaders.{Composed}
+use Rattle.specification.proofs.Laws.LineReaders.{Composed, line-by}
 use Rattle.specification.proofs.Laws.FormulaReaders.{Tokened, formula-by, procedures-by}
 use Rattle.specification.proofs.Laws.SheetLines.{sheet-by}
 use Rattle.specification.proofs.Laws.Bounds.{Inside, Refusal, SafeParser, refused-here, mark-safe, exactly-safe, taken-safe, finish-safe}
@@ -84,9 +85,21 @@ numbers n e = go (between 3 14 n) refl e
     go true k e = let t = and-true (leb 3 n) (leb n 14) k in (leb-true 3 n t.0, inl (leb-true n 14 t.1))
     go false k e = let h : n ≡ 17 = eqb-true n 17 e in (omega (arith, h), inr h)
 
-pub read-refused : (b : Bytes) (n p : ℕ) → read b ≡ refused n p → RefusedWell b n p
+refused-well : (b : Bytes) (n p : ℕ) → Refusal (length b) n p → RefusedWell b n p
+refused-well b n p h = let t = numbers n h.0 in record { least = t.0; greatest = t.1; place = h.1 }
+
+-- with empty ranges refused and without that
+pub read-with-refused : (strict : Bool) (b : Bytes) (n p : ℕ) → read_with strict b ≡ refused n p → RefusedWell b n p
 unfolding read_with
-read-refused b n p e =
-    let h = of-refused (sheet-safe (length b) true (opened b) (omega arith)) e in
-    let t = numbers n h.0 in
-    record { least = t.0; greatest = t.1; place = h.1 }
+read-with-refused strict b n p e = refused-well b n p (of-refused (sheet-safe (length b) strict (opened b) (omega arith)) e)
+
+pub read-refused : (b : Bytes) (n p : ℕ) → read b ≡ refused n p → RefusedWell b n p
+read-refused b n p e = read-with-refused true b n p e
+
+-- and where one edition alone is read
+pub only-refused : (strict : Bool) (edition : ℕ) (b : Bytes) (n p : ℕ) → read_only strict edition b ≡ refused n p → RefusedWell b n p
+unfolding read_only read_with
+only-refused strict edition b n p e =
+    let N = length b in
+    let first = line-by (safe-composed N) (bytes "edition=") edition edition (opened b) (omega arith) in
+    refused-well b n p (of-refused (bind-post first λ m r i. sheet-safe N strict (opened b) (omega arith)) e)
