@@ -1,5 +1,5 @@
 -- The reasons of refusals by their numbers, and a refusal by its number and byte place. Assumes nothing.
-use Rattle.std.specs.Prelude.{ℕ}
+use Rattle.std.specs.Prelude.{ℕ, ◌≡◌}
 use Rattle.specification.specs.declared.refusals.Reason.{Reason}
 use Rattle.specification.specs.declared.refusals.Reason.TheVariants as reason
 use Rattle.specification.specs.declared.refusals.Refusal.{Refusal}
@@ -22,6 +22,10 @@ reason_number reason.EmptyRange = 14
 reason_number reason.NarrowRange = 15
 reason_number reason.Rounding = 16
 reason_number reason.EmptyBounds = 17
+
+-- the number of a reason
+abbrev pub OfReason : ℕ → Type 0
+OfReason n = (r : Reason) × (n ≡ reason_number r)
 
 abbrev pub refusal_with : ℕ → ℕ → Refusal
 refusal_with number place = record { number = number; place = place }

@@ -7,7 +7,7 @@ use mathlib.Core.Logic.{inl, inr, ⊎_elim}
 use lib.ListN.{length, take, drop}
 use lib.Seq.{take-append_seam, drop-append_seam}
 use Rattle.std.specs.Prelude.{Ok, Err}
-use Rattle.specification.specs.Refusals.{refusal_with}
+use Rattle.specification.specs.Refusals.{OfReason, refusal_with}
 use Rattle.specification.specs.declared.Setting.{Setting}
 use Rattle.specification.specs.Bytes.{Bytes}
 use Rattle.specification.specs.Parser.{Read, refused, found}
@@ -22,7 +22,7 @@ use Rattle.specification.proofs.Laws.CallRan.{call-ran}
 use Rattle.specification.proofs.Laws.Admitted.{admitted-found}
 use Rattle.specification.proofs.Laws.Moves as laws
 use Rattle.specification.proofs.Laws.AsBefore as before
-use Rattle.specification.proofs.Laws.Reasons.{MoveReasoned, up-reason, down-reason, tidy-reason}
+use Rattle.specification.proofs.Laws.Reasons.{up-reason, down-reason, tidy-reason}
 use Rattle.vodlasim.specs.Lent.{Lent}
 use Rattle.vodlasim.specs.Answered.{Answered}
 use Rattle.vodlasim.specs.Moved.{Moved}
@@ -65,7 +65,7 @@ module _ {way : Way} {sheet : Bytes} {work output : Lent} {r : Move} (h : Moved 
   shows : (n : ℕ) → r ≡ Ok n → Shown gives output.before output.after n
   shows n e = shown gives output.before output.after n (sym e ∙ h.result) h.output
 
-  reasoned-of : MoveReasoned gives → Reasoned r
+  reasoned-of : ((n p : ℕ) → gives ≡ refusal n p → OfReason n) → Reasoned r
   reasoned-of law = record { refused = λ e k. law e.number e.place (refused-is gives e.number e.place (sym k ∙ h.result)) }
 
 -- ---- lent memory

@@ -6,9 +6,8 @@
 -- function reaches no memory but its own locals and the slices it is lent, each index is proved to lie in its slice, and the sheet is
 -- lent for reading only. "The call does its own checking": `run` has no `requires`. Assumes nothing.
 use Rattle.std.specs.Prelude.{ℕ, ◌≤◌, ◌<◌, ◌≡◌, List, [], ◌∷◌, ◌++◌, length, take, drop, replicate, Result, Ok, Err}
-use Rattle.specification.specs.declared.refusals.Reason.{Reason}
 use Rattle.specification.specs.declared.refusals.Refusal.{Refusal}
-use Rattle.specification.specs.Refusals.{reason_number, refusal_with}
+use Rattle.specification.specs.Refusals.{OfReason, refusal_with}
 use Rattle.specification.specs.declared.Setting.{Setting}
 use Rattle.specification.specs.declared.Tallies.{Tallies}
 use Rattle.specification.specs.declared.End.{End}
@@ -46,7 +45,7 @@ pub record Memory (sheet : Bytes) (S : Setting) (work output : Lent) (r : Outcom
 
 -- a refusal, of a run or of a move, has the number of a reason, so one from 1 to 17
 pub record Reasoned {A : Type 0} (r : Result A Refusal) : Type 0 where
-  pub refused : (e : Refusal) → r ≡ Err e → (reason : Reason) × (e.number ≡ reason_number reason)
+  pub refused : (e : Refusal) → r ≡ Err e → OfReason e.number
 
 -- demand 2: the listing is the tree, read left to right; of every run, whatever was skipped and however it ended
 pub record Lists (sheet : Bytes) (S : Setting) (output : Lent) (r : Outcome) : Type 0 where

@@ -12,8 +12,8 @@ use borrow.Author.Tests.{ltb-true, ltb-false}
 use Rattle.specification.specs.declared.refusals.Reason.{Reason}
 use Rattle.specification.specs.declared.refusals.Reason.TheVariants as reason
 use Rattle.specification.specs.declared.Setting.{Setting}
-use Rattle.specification.specs.Refusals.{reason_number}
-use Rattle.specification.specs.Bytes.{Bytes, pick}
+use Rattle.specification.specs.Refusals.{reason_number, OfReason}
+use Rattle.specification.specs.Bytes.{Bytes, pick, between}
 use Rattle.specification.specs.Parser.{Read, refused, found}
 use Rattle.specification.specs.Sheet.{Sheet, read_with}
 use Rattle.specification.specs.Outcome as run
@@ -22,6 +22,7 @@ use Rattle.specification.specs.Moves.{narrow_in, rounding_in, older, newer, Resu
 use Rattle.specification.proofs.Laws.Contradiction.{contradiction}
 use Rattle.specification.proofs.Laws.ReadBounds.{RefusedWell, read-with-refused, only-refused}
 use Rattle.specification.proofs.Laws.CallRan.{run-not-refusal}
+use Rattle.specification.proofs.Laws.Admitted.{from-refused}
 
 -- the reason that a number stands for
 abbrev pub reason_of : ℕ → Reason
@@ -71,10 +72,6 @@ reason-range reason.EmptyRange = (omega arith, omega arith)
 reason-range reason.NarrowRange = (omega arith, omega arith)
 reason-range reason.Rounding = (omega arith, omega arith)
 reason-range reason.EmptyBounds = (omega arith, omega arith)
-
--- the number of a reason
-abbrev pub OfReason : ℕ → Type 0
-OfReason n = (r : Reason) × (n ≡ reason_number r)
 
 module _ (n : ℕ) where
   -- this one's, or less
@@ -132,48 +129,46 @@ call-reason strict sheet S words size n p e = by_tests (enough_memory S words) (
     by_tests true false k = (reason.TooLong, cc)
     by_tests false b k = (reason.Memory, cc)
 
--- of a move, by what is made of the sheet that is read
-abbrev pub MoveReasoned : Result → Type 0
-MoveReasoned r = (n p : ℕ) → r ≡ refusal n p → OfReason n
+-- of a move: of the sheet, where it is not admitted, or of what is made of it
+module _ {n p : ℕ} where
+  pub fitted-reason : (t : Bytes) → fitted t ≡ refusal n p → OfReason n
+  unfolding fitted
+  fitted-reason t e = go (leb (length t) longest_sheet) e
+    where
+      go : (b : Bool) → pick b (moved t) (refusal 2 longest_sheet) ≡ refusal n p → OfReason n
+      go true k = contradiction cc
+      go false k = (reason.TooLong, cc)
 
-pub fitted-reason : (t : Bytes) → MoveReasoned (fitted t)
-unfolding fitted
-fitted-reason t n p e = go (leb (length t) longest_sheet) e
-  where
-    go : (b : Bool) → pick b (moved t) (refusal 2 longest_sheet) ≡ refusal n p → OfReason n
-    go true k = contradiction cc
-    go false k = (reason.TooLong, cc)
+  pub unless-reason : (r : Reason) (o : Option ℕ) (x : Result) → (x ≡ refusal n p → OfReason n) →
+      unless (reason_number r) o x ≡ refusal n p → OfReason n
+  unless-reason r none x h e = h e
+  unless-reason r (just q) x h e = (r, cc)
 
-pub unless-reason : (r : Reason) (o : Option ℕ) (x : Result) → MoveReasoned x → MoveReasoned (unless (reason_number r) o x)
-unless-reason r none x h n p e = h n p e
-unless-reason r (just q) x h n p e = (r, cc)
+module _ (sheet : Bytes) (words size n p : ℕ) where
+  admitted-reason : (strict : Bool) (edition : ℕ) → admitted strict edition sheet words size ≡ refused n p → OfReason n
+  unfolding admitted
+  admitted-reason strict edition e = by_tests (leb longest_sheet size && leb words_to_move words) (leb (length sheet) longest_sheet) e
+    where
+      by_tests : (a b : Bool) → pick a (pick b (read_only strict edition sheet) (refused 2 longest_sheet)) (refused 1 0) ≡ refused n p → OfReason n
+      by_tests true true k = only-reason strict edition sheet n p k
+      by_tests true false k = (reason.TooLong, cc)
+      by_tests false b k = (reason.Memory, cc)
 
-after-reason : (strict : Bool) (edition : ℕ) (move : Sheet → Result) → ((s : Sheet) → MoveReasoned (move s)) →
-    (sheet : Bytes) (words size : ℕ) → MoveReasoned (after_reading move (admitted strict edition sheet words size))
-unfolding admitted
-after-reason strict edition move h sheet words size n p e =
-    by_tests (leb longest_sheet size && leb words_to_move words) (leb (length sheet) longest_sheet) e
-  where
-    by_read : (x : Read Sheet) → read_only strict edition sheet ≡ x → after_reading move x ≡ refusal n p → OfReason n
-    by_read (refused m q) f k = let same : m ≡ n = cc in subst OfReason same (only-reason strict edition sheet m q f)
-    by_read (found s r) f k = h s n p k
+  move-reason : (strict : Bool) (edition : ℕ) (known : between 1 3 edition ≡ true) (move : Sheet → Result) →
+      ((s : Sheet) → move s ≡ refusal n p → OfReason n) → after_reading move (admitted strict edition sheet words size) ≡ refusal n p → OfReason n
+  move-reason strict edition known move made e =
+      from-refused strict edition sheet words size known move n p (admitted-reason strict edition) (λ h. made h.what h.is) e
 
-    by_tests : (a b : Bool) →
-        after_reading move (pick a (pick b (read_only strict edition sheet) (refused 2 longest_sheet)) (refused 1 0)) ≡ refusal n p → OfReason n
-    by_tests true true k = by_read (read_only strict edition sheet) refl k
-    by_tests true false k = (reason.TooLong, cc)
-    by_tests false b k = (reason.Memory, cc)
+  pub up-reason : move_up sheet words size ≡ refusal n p → OfReason n
+  unfolding move_up
+  up-reason e = move-reason false older refl _ (λ s. fitted-reason _) e
 
-pub up-reason : (sheet : Bytes) (words size : ℕ) → MoveReasoned (move_up sheet words size)
-unfolding move_up
-up-reason sheet words size = after-reason false older _ (λ s. fitted-reason _) sheet words size
+  pub tidy-reason : tidy sheet words size ≡ refusal n p → OfReason n
+  unfolding tidy
+  tidy-reason e = move-reason false newer refl _ (λ s. fitted-reason _) e
 
-pub tidy-reason : (sheet : Bytes) (words size : ℕ) → MoveReasoned (tidy sheet words size)
-unfolding tidy
-tidy-reason sheet words size = after-reason false newer _ (λ s. fitted-reason _) sheet words size
-
-pub down-reason : (sheet : Bytes) (words size : ℕ) → MoveReasoned (move_down sheet words size)
-unfolding move_down
-down-reason sheet words size =
-    after-reason true newer _
-    (λ s. unless-reason reason.NarrowRange (narrow_in s) _ (unless-reason reason.Rounding (rounding_in s) _ (fitted-reason _))) sheet words size
+  pub down-reason : move_down sheet words size ≡ refusal n p → OfReason n
+  unfolding move_down
+  down-reason e =
+      move-reason true newer refl _
+      (λ s. unless-reason reason.NarrowRange (narrow_in s) _ (unless-reason reason.Rounding (rounding_in s) _ (fitted-reason _))) e
